@@ -1,9 +1,9 @@
 -- Puts and cuts in lent bytes: `laidIn` and `cutIn`. What they change, what they keep, and how they follow each other. Assumes nothing.
 use Prim.Native.Nat.{ℕ, zero, suc, _+_, _-_, _*_, _/_, _^_, _≤_, _<_}
-use mathlib.Core.Path.{_≡_, refl, sym, ap, _∙_, subst}
+use mathlib.Core.Path.{_≡_, refl, sym, ap, ap₂, _∙_}
 use mathlib.Core.Bool.{Bool, true, false}
-use mathlib.Core.List.{List, [], _∷_, _++_}
-use native.Mathlib.Nat.{mod-eq-of-lt}
+use mathlib.Core.List.{List, [], _∷_, _++_, append-nil}
+use native.Mathlib.Nat.{mod-eq-of-lt, add-zero}
 use native.Mathlib.Omega.{arith}
 use lib.ListN.{length, take, drop}
 use lib.Seq.{take-take}
@@ -132,6 +132,15 @@ module _ (l : List ℕ) (p : ℕ) (room : p ≤ 8 * length l) where
   pub laidIn-cutIn : (b : List Bool) → 0 < length b → laidIn (cutIn l p) p b ≡ laidIn l p b
   unfolding laidIn
   laidIn-cutIn b h = ap (λ (z : List Bool). bytesOf (laid z p b)) bits-cutIn ∙ ap bytesOf (laid-cut (bitsOf l) p cut-inside b h)
+
+  -- cut there, and then a put, an empty one too: the bytes in use
+  pub cutIn-laidIn-used : (b : List Bool) → p + length b ≤ 8 * length l
+      → take (wholeBytes (p + length b)) (laidIn (cutIn l p) p b) ≡ bytesOf (padded (take p (bitsOf l) ++ b))
+  cutIn-laidIn-used [] h =
+      ap₂ (λ (n : ℕ) (z : List ℕ). take (wholeBytes n) z) (add-zero p) (laidIn-nothing (cutIn l p) p (cutIn-below l p))
+      ∙ cutIn-used ∙ ap (λ (z : List Bool). bytesOf (padded z)) (sym (append-nil (take p (bitsOf l))))
+  cutIn-laidIn-used (x ∷ b) h =
+      ap (take (wholeBytes (p + length (x ∷ b)))) (laidIn-cutIn (x ∷ b) (omega arith)) ∙ laidIn-used l p (x ∷ b) h (omega arith)
 
 -- the bits of the first q bytes, up to a place in them
 pub take-bits : (l : List ℕ) (q p : ℕ) → q ≤ length l → p ≤ 8 * q → take p (bitsOf (take q l)) ≡ take p (bitsOf l)
