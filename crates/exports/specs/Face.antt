@@ -1,0 +1,40 @@
+-- How a call crosses the C face. A bound is its kind and the bits of its f32. The answer is a number: 0, or that of a refusal. The values
+-- are words at the front of a lent row, and a row that does not hold them is a lent output that is too short, 4, in its place in 01's order.
+use mathlib.Core.Bool.{Bool, true, false, cond, not, _&&_, _||_}
+use mathlib.Core.List.{List, _++_}
+use Prim.Native.Nat.{ℕ, zero, suc}
+use lib.Dec.{eqb, leb}
+use lib.Ieee.{Float, nan, binary32, ofBits}
+use lib.ListN.{length, drop}
+use Rattle.models.specs.Answers.{Said, answered, refused}
+use Rattle.models.specs.declared.ErrorBound.{ErrorBound}
+use Rattle.models.specs.declared.ErrorBound.the-variants.{Lossless, Absolute, Relative}
+
+-- kinds 0, 1 and 2 in the order of 01; a higher one is no bound, and stands for one that is not allowed
+unfoldable pub boundOf : ℕ → ℕ → ErrorBound
+boundOf zero bits = Lossless
+boundOf (suc zero) bits = Absolute (ofBits binary32 bits)
+boundOf (suc (suc zero)) bits = Relative (ofBits binary32 bits)
+boundOf (suc (suc (suc kind))) bits = Absolute nan
+
+-- the causes that 01 judges before 4: 1, 2, 3 and 12
+abbrev pub beforeShort : ℕ → Bool
+beforeShort n = leb n 3 || eqb n 12
+
+-- the number that is answered, where a row of `room` words is lent for `need` of them
+unfoldable pub refusalNumber : ℕ → ℕ → ℕ → ℕ
+refusalNumber need room n = cond (beforeShort n || leb need room) n 4
+
+unfoldable pub numberOf : {A : Type 0} → ℕ → ℕ → Said A → ℕ
+numberOf need room (refused n) = refusalNumber need room n
+numberOf need room (answered x) = cond (leb need room) 0 4
+
+-- a truth as a word
+abbrev pub wordOf : Bool → ℕ
+wordOf false = 0
+wordOf true = 1
+
+-- the row afterwards: only an accepted call sets its front
+unfoldable pub rowAfter : {A : Type 0} → (A → List ℕ) → List ℕ → Said A → List ℕ
+rowAfter words row (refused n) = row
+rowAfter words row (answered x) = cond (leb (length (words x)) (length row)) (words x ++ drop (length (words x)) row) row

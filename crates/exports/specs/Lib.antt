@@ -1,0 +1,2 @@
+-- How the calls cross the C face.
+pub mod Face

@@ -1,0 +1,115 @@
+// The C face of the public calls, for the static library. Numbers cross as their bits, a NaN as the
+// one that 01 names. A call answers 0 or the number of its refusal; its values go into a lent row,
+// of which a refusal changes nothing.
+ghost use mathlib.Core.Path.{_≡_};
+ghost use mathlib.Core.List.{[], _∷_};
+ghost use lib.ListN.{length};
+ghost use lib.Ieee.{binary32, binary64, ofBits, toBits};
+ghost use Rattle.numbers.specs.Narrowed.{narrowed};
+ghost use Rattle.models.specs.Refusals.{number};
+ghost use Rattle.models.specs.Calls.{withinAnswer, deviationAnswer};
+ghost use Rattle.exports.specs.Face.{boundOf, refusalNumber, numberOf, rowAfter, wordOf};
+use models::{DeviationAnswer, ErrorBound, Refusal, WithinAnswer};
+
+// ---- numbers
+
+// The f64 pattern of an f32 pattern's value.
+#[no_mangle]
+pub extern "C" fn modelardb_widen(bits: u32) -> u64
+    ensures { λ r. ⌜ r ≡ toBits binary64 (ofBits binary32 bits) ⌝ }
+{
+    numbers::bits_of_f64(numbers::widen(numbers::value_of_f32(bits)))
+}
+
+// The f32 pattern of an f64 pattern's value, rounded to the nearest.
+#[no_mangle]
+pub extern "C" fn modelardb_narrow(bits: u64) -> u32
+    ensures { λ r. ⌜ r ≡ toBits binary32 (narrowed (ofBits binary64 bits)) ⌝ }
+{
+    numbers::bits_of_f32(numbers::narrow(numbers::value_of_f64(bits)))
+}
+
+// ---- bounds
+
+// Kind 0 is Lossless, 1 Absolute, 2 Relative. A higher one is no bound: what stands for it is not
+// allowed, so that the call behind refuses it with 1.
+fn bound_of(kind: u32, bits: u32) -> ErrorBound
+    ensures { λ r. ⌜ r ≡ boundOf kind bits ⌝ }
+{
+    match kind {
+        0 => ErrorBound::Lossless,
+        1 => ErrorBound::Absolute(numbers::value_of_f32(bits)),
+        2 => ErrorBound::Relative(numbers::value_of_f32(bits)),
+        _ => ErrorBound::Absolute(0.0 / 0.0),
+    }
+}
+
+fn word_of(is: bool) -> u32
+    ensures { λ r. ⌜ r ≡ wordOf is ⌝ }
+{
+    if is { 1 } else { 0 }
+}
+
+// What a refused call answers, where a row of `room` words is lent for `need` of them: 4 comes
+// before a cause that 01 judges after it.
+fn number_with(r: Refusal, need: usize, room: usize) -> u32
+    ensures { λ n. ⌜ n ≡ refusalNumber need room (number r) ⌝ }
+{
+    let n = models::number_of(r);
+    if n <= 3 {
+        return n;
+    }
+    if n == 12 {
+        return n;
+    }
+    if room < need { 4 } else { n }
+}
+
+// 1 into out[0] where the approximate value may stand for the real one, else 0.
+#[no_mangle]
+pub extern "C" fn modelardb_is_value_within_error_bound(
+    kind: u32,
+    bound: u32,
+    real_value: u32,
+    approximate_value: u32,
+    out: &mut [u32],
+) -> u32
+    ensures number { λ r. ⌜ r ≡ numberOf 1 (length (now (out .entry))) (withinAnswer (boundOf kind bound) «real_value» «approximate_value») ⌝ }
+    ensures row { λ r. ⌜ now (out .exit) ≡ rowAfter (λ is. wordOf is ∷ []) (now (out .entry)) (withinAnswer (boundOf kind bound) «real_value» «approximate_value») ⌝ }
+{
+    let b = bound_of(kind, bound);
+    match models::is_value_within_error_bound(b, real_value, approximate_value) {
+        WithinAnswer::Refused(r) => number_with(r, 1, out.len()),
+        WithinAnswer::Answered(is) => {
+            if out.len() < 1 {
+                return 4;
+            }
+            out[0] = word_of(is);
+            0
+        }
+    }
+}
+
+// The f64 pattern of how far a line may pass from the value into out[0].
+#[no_mangle]
+pub extern "C" fn modelardb_maximum_allowed_deviation(
+    kind: u32,
+    bound: u32,
+    value: u64,
+    out: &mut [u64],
+) -> u32
+    ensures number { λ r. ⌜ r ≡ numberOf 1 (length (now (out .entry))) (deviationAnswer (boundOf kind bound) (ofBits binary64 value)) ⌝ }
+    ensures row { λ r. ⌜ now (out .exit) ≡ rowAfter (λ x. toBits binary64 x ∷ []) (now (out .entry)) (deviationAnswer (boundOf kind bound) (ofBits binary64 value)) ⌝ }
+{
+    let b = bound_of(kind, bound);
+    match models::maximum_allowed_deviation(b, numbers::value_of_f64(value)) {
+        DeviationAnswer::Refused(r) => number_with(r, 1, out.len()),
+        DeviationAnswer::Answered(d) => {
+            if out.len() < 1 {
+                return 4;
+            }
+            out[0] = numbers::bits_of_f64(d);
+            0
+        }
+    }
+}

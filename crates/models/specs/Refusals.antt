@@ -1,0 +1,60 @@
+-- The number that 01, "Refusal numbers", gives to each cause.
+use mathlib.Core.Path.{_≡_, refl}
+use mathlib.Core.List.{List, [], _∷_}
+use Prim.Native.Nat.{ℕ, _-_}
+use lib.ListN.{getD}
+use Rattle.models.specs.Answers.{Injective, told-apart}
+use Rattle.models.specs.declared.Refusal.{Refusal}
+use Rattle.models.specs.declared.Refusal.the-variants.{BoundNotAllowed, StateNotAllowed, OverLimit, OutputTooShort, EndsEarly, NoWindow, WindowNotAllowed, Leftover, FormNotAllowed, TimesNotAllowed, NoModel, CountsDisagree}
+
+abbrev pub number : Refusal → ℕ
+number BoundNotAllowed = 1
+number StateNotAllowed = 2
+number OverLimit = 3
+number OutputTooShort = 4
+number EndsEarly = 5
+number NoWindow = 6
+number WindowNotAllowed = 7
+number Leftover = 8
+number FormNotAllowed = 9
+number TimesNotAllowed = 10
+number NoModel = 11
+number CountsDisagree = 12
+
+-- the cause that has a number
+abbrev causes : List Refusal
+causes =
+    BoundNotAllowed
+    ∷ StateNotAllowed
+    ∷ OverLimit
+    ∷ OutputTooShort
+    ∷ EndsEarly
+    ∷ NoWindow
+    ∷ WindowNotAllowed
+    ∷ Leftover
+    ∷ FormNotAllowed
+    ∷ TimesNotAllowed
+    ∷ NoModel
+    ∷ CountsDisagree
+    ∷ []
+
+abbrev pub numbered : ℕ → Refusal
+numbered n = getD causes (n - 1) CountsDisagree
+
+pub numbered-number : (r : Refusal) → numbered (number r) ≡ r
+numbered-number BoundNotAllowed = refl
+numbered-number StateNotAllowed = refl
+numbered-number OverLimit = refl
+numbered-number OutputTooShort = refl
+numbered-number EndsEarly = refl
+numbered-number NoWindow = refl
+numbered-number WindowNotAllowed = refl
+numbered-number Leftover = refl
+numbered-number FormNotAllowed = refl
+numbered-number TimesNotAllowed = refl
+numbered-number NoModel = refl
+numbered-number CountsDisagree = refl
+
+-- no two causes have the same number
+pub number-injective : Injective number
+number-injective = told-apart number numbered numbered-number

@@ -1,0 +1,69 @@
+-- Any stream in lent bytes that reading accepts, even one that this writer would not write: reopened at k of its n values it goes on from the first k.
+-- Assumes nothing.
+use mathlib.Core.Path.{_≡_, refl, sym, ap, _∙_, subst}
+use mathlib.Core.Bool.{Bool, true, false}
+use mathlib.Core.List.{List, [], _∷_, _++_}
+use Prim.Native.Nat.{ℕ, zero, suc, _+_, _*_, _^_, _≤_, _<_}
+use native.Mathlib.Omega.{arith}
+use lib.ListN.{length, take, drop, replicate, length-append}
+use lib.Seq.{length-take-le}
+use Rattle.bits.specs.Bits.{Below, bitsOf, bytesOf, wholeBytes, padding, padded, laidIn, cutIn}
+use Rattle.bits.proofs.Bytes.{length-bitsOf}
+use Rattle.bits.proofs.InBytes.{cutIn-laidIn-used, take-bits}
+use Rattle.stream.specs.Format.{gatherFrom, Stream, State, fresh, mostValues, usable}
+use Rattle.stream.specs.Write.{kept, Keeps, written, wrote}
+use Rattle.stream.specs.Read.{done, readAll, reopened, reopen}
+use Rattle.stream.proofs.Formats.{Good}
+use Rattle.stream.proofs.Writing.{fresh-small, place-after}
+use Rattle.stream.proofs.Reading.{Whole, WholeOf, whole}
+use Rattle.stream.proofs.Rule.{RuledIn, fresh-ruled, read-ruled, usable-if}
+use Rattle.stream.proofs.Gathered.{SeenIn, seen-read}
+use Rattle.stream.proofs.Reopen.{Opened, any-opened, goes-on}
+use Rattle.stream.proofs.Holds.{padded-back}
+
+-- what reopening answers where the first `used` bytes of buf hold a stream of n values that reads as vs
+pub record Resumed {A : Type 0} (rule : ℕ → ℕ → ℕ) (S : Stream A) (l n k used : ℕ) (buf vs : List ℕ) : Type 0 where
+  pub state : State A
+  pub opens : reopen S n k (fresh S l) (bitsOf (take used buf)) ≡ reopened state
+  -- it may be used, its place is within the stream, and its count is k
+  pub mayBeUsed : usable (S .form) (length buf) state ≡ true
+  pub placed : state .place ≤ 8 * used
+  pub counted : state .count ≡ k
+  -- it has gathered over the first k values
+  pub seen : state .seen ≡ gatherFrom (S .gather) (S .mode) 0 (S .gather .none) (take k vs)
+  -- cut, and ys written on: the bytes in use read as the first k values and then the newly kept ones
+  pub reads : (ys : List ℕ) → Below (S .form .width) ys → (wrote rule S state ys) .place ≤ 8 * length buf
+      → readAll S (k + length ys) (fresh S l)
+      (bitsOf (take (wholeBytes ((wrote rule S state ys) .place)) (laidIn (cutIn buf (state .place)) (state .place) (written rule S state ys))))
+      ≡ done (take k vs ++ kept rule S state ys) (wrote rule S state ys) (replicate (padding ((wrote rule S state ys) .place)) false)
+
+pub any-resumed : {A : Type 0} (rule : ℕ → ℕ → ℕ) (S : Stream A) → Good (S .form) → Keeps (S .form .width) rule → (l : ℕ) → l < 2 ^ S .form .width
+    → (n k used : ℕ) (buf : List ℕ) → k ≤ n → n ≤ mostValues → used ≤ length buf → (vs : List ℕ) (t : State A) (r : List Bool)
+    → readAll S n (fresh S l) (bitsOf (take used buf)) ≡ done vs t r → Resumed rule S l n k used buf vs
+any-resumed {A} rule S good K l hl n k used buf le most fits vs t r h =
+    let f : State A = fresh S l in
+    let hf : f .last < 2 ^ S .form .width = fresh-small S (S .form .width) l hl in
+    let bits : List Bool = bitsOf (take used buf) in
+    let o = any-opened S good l hl n k le bits vs t r h in
+    let m : State A = o .state in
+    let W : Whole S k f bits (take k vs) m (o .rest) = subst (WholeOf S k f bits) (o .reads) (whole S good k f bits hf) in
+    let c : m .count ≡ k = omega (arith, W .counted) in
+    let long : length bits ≡ 8 * used = length-bitsOf (take used buf) ∙ ap (λ (z : ℕ). 8 * z) (length-take-le used buf fits) in
+    let p : m .place ≤ 8 * used = omega (arith, W .placed, ap length (W .cut), length-append (W .front) (o .rest)) in
+    record {
+      state = m;
+      opens = o .opens;
+      mayBeUsed = usable-if (S .form) good (length buf) m (omega arith) (omega arith) (subst (RuledIn (S .form)) (o .reads) (read-ruled S good k f bits hf (fresh-ruled S l)));
+      placed = p;
+      counted = c;
+      seen = subst (SeenIn S f) (o .reads) (seen-read S k f bits);
+      reads = λ ys by room.
+          let new : List Bool = written rule S m ys in
+          let end : (wrote rule S m ys) .place ≡ m .place + length new = place-after S m (kept rule S m ys) in
+          let front : take (m .place) (bitsOf buf) ≡ take (m .place) bits = sym (take-bits buf used (m .place) fits p) in
+          ap (λ (z : ℕ). readAll S (k + length ys) f (bitsOf (take (wholeBytes z) (laidIn (cutIn buf (m .place)) (m .place) new)))) end
+          ∙ ap (λ (z : List ℕ). readAll S (k + length ys) f (bitsOf z)) (cutIn-laidIn-used buf (m .place) (omega arith) new (omega arith))
+          ∙ ap (readAll S (k + length ys) f) (padded-back (take (m .place) (bitsOf buf) ++ new))
+          ∙ ap (λ (z : List Bool). readAll S (k + length ys) f (padded (z ++ new))) front
+          ∙ goes-on S good l hl rule K k bits (take k vs) m (o .rest) (o .reads) ys by;
+    }
