@@ -362,3 +362,21 @@ fn the_reader_holds_its_place() {
     assert_eq!(wrong.next_value().unwrap_err().number, 2);
     assert_eq!(wrong.end().unwrap_err().number, 2);
 }
+
+#[test]
+fn the_most_values() {
+    let (times, values) = (Vec::from_iter(0..65_537), vec![ONE; 65_537]);
+    let most = &values[..65_536];
+    let model = choose_model(&times[..65_536], most, Lossless, 1).unwrap();
+    assert_eq!((model.id, model.length), (0, 65_536));
+    assert_eq!(choose_model(&times, &values, Lossless, 1), Err(3));
+    let mut buffer = vec![0; 16_384];
+    let fresh = MacaqueV::new(Lossless, Opening::On(ONE)).unwrap();
+    let full = fresh.compress_values(most, &mut buffer).unwrap();
+    assert_eq!((full.length, full.place), (65_536, 131_072));
+    assert_eq!(full.compress_values(&[ONE], &mut buffer), Err(3));
+    assert_eq!(full.compress_values(&[], &mut buffer), Ok(full));
+    let mut out = vec![0; 65_536];
+    let read = macaque_v::grid(&buffer, 65_536, Opening::On(ONE), &mut out);
+    assert_eq!((read, out), (Ok(()), most.to_vec()));
+}

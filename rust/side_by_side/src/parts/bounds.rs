@@ -15,7 +15,7 @@ pub fn within(context: &mut Context) {
             }
         }
     }
-    for _ in 0..context.rounds(10_000_000) {
+    for _ in 0..context.rounds(25_000_000) {
         let bound = context.inputs.any_bound();
         let real = context.inputs.value();
         let approximate = match context.inputs.below(3) {
@@ -62,7 +62,7 @@ pub fn deviation(context: &mut Context) {
             deviation_one(context, bound, u64::from(value) << 32 | u64::from(value));
         }
     }
-    for _ in 0..context.rounds(10_000_000) {
+    for _ in 0..context.rounds(25_000_000) {
         let bound = context.inputs.any_bound();
         let value = context.inputs.wide().to_bits();
         deviation_one(context, bound, value);

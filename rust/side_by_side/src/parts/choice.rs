@@ -8,12 +8,12 @@ use oracle::paper::types::{Extremes, Model, ModelBuilder, PMC_MEAN_ID, SWING_ID,
 use oracle::rust::Chosen;
 
 pub fn choice(context: &mut Context) {
-    for _ in 0..context.rounds(60_000) {
+    for _ in 0..context.rounds(150_000) {
         let count = 1 + context.inputs.below(40) as usize;
         let (times, values) = (context.inputs.times(count), context.inputs.values(count));
         over_list(context, &times, &values);
     }
-    for _ in 0..context.rounds(400_000) {
+    for _ in 0..context.rounds(1_000_000) {
         let (builder, next_time) = any_builder(context);
         let value = context.inputs.value();
         let (fits, next) = step(context, builder, next_time, value);

@@ -4,6 +4,7 @@ use crate::context::Context;
 use crate::inputs::DOZEN;
 use oracle::paper::macaque_v::{self, MacaqueV, Opening};
 use oracle::paper::models::ErrorBound::{self, Absolute, Lossless, Relative};
+use oracle::paper::models::is_value_within_error_bound;
 use oracle::paper::refusal;
 use oracle::paper::types::Extremes;
 use oracle::rust::Stream;
@@ -26,7 +27,7 @@ pub fn streams(context: &mut Context) {
             }
         }
     }
-    for _ in 0..context.rounds(3_000) {
+    for _ in 0..context.rounds(12_000) {
         let most = context.inputs.pick(&[8, 64, 1000]);
         let count = context.inputs.below(most + 1) as usize;
         let values = context.inputs.values(count);
@@ -136,7 +137,7 @@ fn without_leftover(bytes: &[u8], count: usize, opening: Opening) -> Option<Vec<
 }
 
 pub fn damaged(context: &mut Context) {
-    for _ in 0..context.rounds(1_200) {
+    for _ in 0..context.rounds(2_500) {
         let count = 1 + context.inputs.below(12) as usize;
         let values = context.inputs.values(count);
         let (bound, opening) = (context.inputs.bound(), context.inputs.opening());
@@ -154,7 +155,7 @@ pub fn damaged(context: &mut Context) {
             compare_reading(context, &bytes, other, opening);
         }
     }
-    for _ in 0..context.rounds(60_000) {
+    for _ in 0..context.rounds(150_000) {
         let length = context.inputs.below(12) as usize;
         let bytes: Vec<u8> = (0..length).map(|_| context.inputs.word() as u8).collect();
         let count = context.inputs.below(8) as usize;
@@ -166,7 +167,7 @@ pub fn damaged(context: &mut Context) {
 /// The paper with itself: written in two calls, or reopened at k and written on, a stream is that of
 /// one call, in a buffer that held other bytes.
 pub fn resumed(context: &mut Context) {
-    for _ in 0..context.rounds(2_000) {
+    for _ in 0..context.rounds(10_000) {
         let count = context.inputs.below(24) as usize;
         let values = context.inputs.values(count);
         let (bound, opening) = (context.inputs.bound(), context.inputs.opening());
@@ -191,5 +192,20 @@ pub fn resumed(context: &mut Context) {
             context.same("reopened", Ok(whole), after, input);
             context.same("reopened", &bytes[..], &buffer[..bytes.len()], input);
         }
+    }
+}
+
+/// The paper with itself: what stays within after more bits are cleared does so after fewer, so that
+/// counting up to the first failure finds the greatest s too.
+pub fn greatest(context: &mut Context) {
+    for _ in 0..context.rounds(2_000_000) {
+        let (bound, input) = (context.inputs.bound(), context.inputs.value());
+        let is_within =
+            |s: &u32| is_value_within_error_bound(bound, input, input >> s << s) == Ok(true);
+        let count = (0..=23).filter(is_within).count();
+        let unbroken = (0..=23).take_while(is_within).count();
+        context.same("counted up", count, unbroken, || {
+            format!("clearing {input:08X} within {:X?}", bound.row())
+        });
     }
 }

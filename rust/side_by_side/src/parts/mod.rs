@@ -25,6 +25,7 @@ pub const ALL: &[Part] = &[
     Part::new("MacaqueV", macaque_v::streams),
     Part::new("MacaqueV damaged", macaque_v::damaged),
     Part::new("MacaqueV resumed", macaque_v::resumed),
+    Part::new("MacaqueV's greatest s", macaque_v::greatest),
     Part::new("parameter bytes", parameters::parameters),
     Part::new("segments", segments::segments),
     Part::new("listed differences", differences::differences),

@@ -8,7 +8,7 @@ pub fn widen(context: &mut Context) {
     for pattern in special_f32() {
         widen_one(context, pattern);
     }
-    for _ in 0..context.rounds(12_000_000) {
+    for _ in 0..context.rounds(60_000_000) {
         let pattern = context.inputs.word() as u32;
         widen_one(context, pattern);
     }
@@ -50,7 +50,7 @@ pub fn narrow(context: &mut Context) {
             }
         }
     }
-    for _ in 0..context.rounds(6_000_000) {
+    for _ in 0..context.rounds(25_000_000) {
         let any = context.inputs.word();
         narrow_one(context, any);
         // An exponent at which f32 is normal, subnormal or about to overflow.

@@ -9,7 +9,7 @@ use oracle::paper::pmc_mean::{self, PMCMean};
 type Step = (bool, [u64; 6]);
 
 pub fn pmc_mean(context: &mut Context) {
-    for _ in 0..context.rounds(40_000) {
+    for _ in 0..context.rounds(120_000) {
         let count = context.inputs.below(40) as usize;
         let values = context.inputs.values(count);
         let mut state = PMCMean::new(context.inputs.bound()).expect("an allowed bound");
@@ -18,7 +18,7 @@ pub fn pmc_mean(context: &mut Context) {
         }
         of_state(context, state);
     }
-    for _ in 0..context.rounds(1_000_000) {
+    for _ in 0..context.rounds(3_000_000) {
         let (state, value) = (any_state(context), context.inputs.value());
         step(context, state, value);
         of_state(context, state);

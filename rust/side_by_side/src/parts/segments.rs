@@ -13,7 +13,7 @@ use oracle::paper::types::{
 use oracle::rust::{Calls, SegmentBytes};
 
 pub fn segments(context: &mut Context) {
-    for _ in 0..context.rounds(40_000) {
+    for _ in 0..context.rounds(80_000) {
         let most = context.inputs.pick(&[0, 1, 3, 20, 255]);
         let count = context.inputs.below(most + 1) as usize;
         let residuals = context.inputs.values(count);
@@ -30,8 +30,37 @@ pub fn segments(context: &mut Context) {
             values: &bytes.values,
             residuals: &bytes.residuals,
         };
-        compare_reading(context, segment, count);
+        compare_reading(context, segment);
+        damaged(context, segment);
     }
+}
+
+/// The same segment with a byte of its parameters, of its residuals or its count byte changed: what
+/// the paper still accepts must be read alike.
+fn damaged(context: &mut Context, segment: Segment) {
+    let (mut values, mut residuals) = (segment.values.to_vec(), segment.residuals.to_vec());
+    let word = context.inputs.word();
+    match context.inputs.below(3) {
+        0 => values
+            .iter_mut()
+            .take(1)
+            .for_each(|byte| *byte = word as u8 % 8),
+        1 => residuals
+            .iter_mut()
+            .take(2)
+            .for_each(|byte| *byte ^= 1 << (word % 8)),
+        _ => residuals
+            .iter_mut()
+            .rev()
+            .take(1)
+            .for_each(|byte| *byte ^= 1),
+    }
+    let segment = Segment {
+        values: &values,
+        residuals: &residuals,
+        ..segment
+    };
+    compare_reading(context, segment);
 }
 
 fn any_model(context: &mut Context) -> Model {
@@ -107,11 +136,12 @@ fn as_floats(extremes: Extremes) -> [u32; 2] {
     [float(extremes.min_value), float(extremes.max_value)]
 }
 
-fn compare_reading(context: &mut Context, segment: Segment, count: usize) {
+fn compare_reading(context: &mut Context, segment: Segment) {
     let mut out = vec![0; segment.timestamps.len()];
     let Ok(()) = segment.grid(&mut out) else {
-        return; // Listed: a line with an infinite end is drawn there.
+        return; // Refused here: accepted or a fault there, as listed.
     };
+    let count = usize::from(segment.residuals.last().copied().unwrap_or(0));
     let owned = segment.timestamps.len() - count;
     let ends = decoded(segment.model, segment.extremes, segment.values);
     let (first, last) = ends.expect("parameters of a grid");

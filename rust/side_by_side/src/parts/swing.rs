@@ -6,7 +6,7 @@ use oracle::paper::models::ErrorBound::Lossless;
 use oracle::paper::swing::{self, Line, Swing};
 
 pub fn swing(context: &mut Context) {
-    for _ in 0..context.rounds(40_000) {
+    for _ in 0..context.rounds(120_000) {
         let count = context.inputs.below(40) as usize;
         let (times, values) = (context.inputs.times(count), context.inputs.values(count));
         let mut state = Swing::new(context.inputs.bound()).expect("an allowed bound");
@@ -15,7 +15,7 @@ pub fn swing(context: &mut Context) {
         }
         of_state(context, state);
     }
-    for _ in 0..context.rounds(1_000_000) {
+    for _ in 0..context.rounds(3_000_000) {
         let (state, next_time) = any_state(context);
         let value = context.inputs.value();
         step(context, state, next_time, value);
@@ -83,7 +83,7 @@ pub fn lines(context: &mut Context) {
             one_line(context, first_value, last_value);
         }
     }
-    for _ in 0..context.rounds(20_000) {
+    for _ in 0..context.rounds(300_000) {
         let (first_value, last_value) = (context.inputs.value(), context.inputs.value());
         one_line(context, first_value, last_value);
     }
