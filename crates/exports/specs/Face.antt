@@ -1,10 +1,10 @@
 -- How a call crosses the C face. A bound is its kind and the bits of its f32. The answer is a number: 0, or that of a refusal. The values
 -- are words at the front of a lent row, and a row that does not hold them is a lent output that is too short, 4, in its place in 01's order.
-use mathlib.Core.Bool.{Bool, true, false, cond, not, _&&_, _||_}
+use mathlib.Core.Bool.{Bool, true, false, cond, _||_}
 use mathlib.Core.List.{List, _++_}
-use Prim.Native.Nat.{ℕ, zero, suc}
+use Prim.Native.Nat.{ℕ}
 use lib.Dec.{eqb, leb}
-use lib.Ieee.{Float, nan, binary32, ofBits}
+use lib.Ieee.{nan, binary32, ofBits}
 use lib.ListN.{length, drop}
 use Rattle.models.specs.Answers.{Said, answered, refused}
 use Rattle.models.specs.declared.ErrorBound.{ErrorBound}
@@ -12,10 +12,9 @@ use Rattle.models.specs.declared.ErrorBound.the-variants.{Lossless, Absolute, R
 
 -- kinds 0, 1 and 2 in the order of 01; a higher one is no bound, and stands for one that is not allowed
 unfoldable pub boundOf : ℕ → ℕ → ErrorBound
-boundOf zero bits = Lossless
-boundOf (suc zero) bits = Absolute (ofBits binary32 bits)
-boundOf (suc (suc zero)) bits = Relative (ofBits binary32 bits)
-boundOf (suc (suc (suc kind))) bits = Absolute nan
+boundOf kind bits =
+    cond (eqb kind 0) Lossless
+    (cond (eqb kind 1) (Absolute (ofBits binary32 bits)) (cond (eqb kind 2) (Relative (ofBits binary32 bits)) (Absolute nan)))
 
 -- the causes that 01 judges before 4: 1, 2, 3 and 12
 abbrev pub beforeShort : ℕ → Bool

@@ -9,7 +9,10 @@ ghost use Rattle.numbers.specs.Narrowed.{narrowed};
 ghost use Rattle.models.specs.Refusals.{number};
 ghost use Rattle.models.specs.Calls.{withinAnswer, deviationAnswer};
 ghost use Rattle.exports.specs.Face.{boundOf, refusalNumber, numberOf, rowAfter, wordOf};
-use models::{DeviationAnswer, ErrorBound, Refusal, WithinAnswer};
+use models::DeviationAnswer;
+use models::ErrorBound;
+use models::Refusal;
+use models::WithinAnswer;
 
 // ---- numbers
 
@@ -36,12 +39,17 @@ pub extern "C" fn modelardb_narrow(bits: u64) -> u32
 fn bound_of(kind: u32, bits: u32) -> ErrorBound
     ensures { λ r. ⌜ r ≡ boundOf kind bits ⌝ }
 {
-    match kind {
-        0 => ErrorBound::Lossless,
-        1 => ErrorBound::Absolute(numbers::value_of_f32(bits)),
-        2 => ErrorBound::Relative(numbers::value_of_f32(bits)),
-        _ => ErrorBound::Absolute(0.0 / 0.0),
+    if kind == 0 {
+        return ErrorBound::Lossless;
     }
+    let value = numbers::value_of_f32(bits);
+    if kind == 1 {
+        return ErrorBound::Absolute(value);
+    }
+    if kind == 2 {
+        return ErrorBound::Relative(value);
+    }
+    ErrorBound::Absolute(0.0 / 0.0)
 }
 
 fn word_of(is: bool) -> u32

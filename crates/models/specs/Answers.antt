@@ -8,27 +8,48 @@ pub data Said (A : Type 0) : Type 0 where
   answered : A → Said A
   refused : ℕ → Said A
 
--- what a call that is handed a state says, and the state that it hands back
-pub record Handed (A S : Type 0) : Type 0 where
-  pub said : Said A
+-- the same of a call that is handed a state, which a refusal hands back
+pub data SaidOn (S A : Type 0) : Type 0 where
+  answeredOn : A → SaidOn S A
+  refusedOn : ℕ → S → SaidOn S A
+
+-- what a step answers: whether the value fits, and the state that it hands back
+pub record Stepped (S : Type 0) : Type 0 where
+  pub fits : Bool
   pub state : S
 
--- ---- the causes of a call's refusal, in the order in which 01 gives them: the first that holds is the answer
+-- the state that a step hands back, also where it is refused
+abbrev pub stateAfter : {S : Type 0} → SaidOn S (Stepped S) → S
+stateAfter (answeredOn t) = t .state
+stateAfter (refusedOn n s) = s
+
+-- ---- the causes for which a call is refused, in 01's order: of those that hold the first is given
 
 infix 68 _when_
 pub data Cause : Type 0 where
   _when_ : ℕ → Bool → Cause
 
+-- `refuse n` for the first cause that holds, of number n, and `x` where none does
 unfoldable pub judge : {X : Type 0} → (ℕ → X) → List Cause → X → X
 judge refuse [] x = x
-judge refuse (n when b ∷ causes) x = cond b (refuse n) (judge refuse causes x)
+judge refuse (n when holds ∷ causes) x = cond holds (refuse n) (judge refuse causes x)
 
 abbrev pub judged : {A : Type 0} → List Cause → A → Said A
 judged causes a = judge refused causes (answered a)
 
--- a refused call hands back the state passed in
-abbrev pub judgedOn : {A S : Type 0} → S → List Cause → Handed A S → Handed A S
-judgedOn s causes x = judge (λ (n : ℕ). record { said = refused n; state = s }) causes x
+abbrev pub judgedOn : {S A : Type 0} → S → List Cause → A → SaidOn S A
+judgedOn {S} {A} s causes a = judge {X = SaidOn S A} (λ (n : ℕ). refusedOn n s) causes (answeredOn a)
+
+-- whether a call is refused, and by what: a call that answers no value says only this
+abbrev pub Done : Type 0
+Done = Unit {0}
+
+abbrev pub verdict : List Cause → Said Done
+verdict causes = judged causes tt
+
+-- lent memory: untouched by a refused call
+abbrev pub judgedMemory : {A : Type 0} → List A → List Cause → List A → List A
+judgedMemory {A} before causes after = judge {X = List A} (λ (n : ℕ). before) causes after
 
 -- ---- one result: where `says` takes no two results to the same answer, the contract `says r ≡ answer` allows one
 

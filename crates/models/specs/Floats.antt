@@ -3,7 +3,7 @@ use mathlib.Core.Bool.{Bool, true, false, cond, _&&_, _||_}
 use Prim.Native.Nat.{ℕ}
 use lib.IntN.{pos}
 use lib.Ieee as Ieee
-use lib.Ieee.{Float, nan, inf, fin, binary32, ofBits}
+use lib.Ieee.{Float, nan, inf, fin, binary32, ofBits, toBits}
 
 -- ---- 0, and 100 = 25 * 2 ^ 2
 abbrev pub zeroF : Float
@@ -11,6 +11,10 @@ zeroF = fin false 0 (pos 0)
 
 abbrev pub hundred : Float
 hundred = fin false 25 (pos 2)
+
+-- ---- a pattern as models' parameters, sums and grid values are answered: a NaN's is 7FC00000
+unfoldable pub plain : ℕ → ℕ
+plain bits = toBits binary32 (ofBits binary32 bits)
 
 -- ---- sizes
 unfoldable pub absF : Float → Float
