@@ -1,5 +1,5 @@
 //! Runs the proved library, document 01's plain program and the Rust on the same inputs.
-//! Usage: side_by_side [SEED] [SCALE], where SCALE is a factor, or `all` for the run over every f32.
+//! Usage: `side_by_side [SEED] [SCALE]`, where SCALE is a factor, or `all` for the run over every f32.
 
 mod context;
 mod inputs;

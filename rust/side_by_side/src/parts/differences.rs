@@ -29,8 +29,10 @@ pub fn differences(context: &mut Context) {
         residuals_of_a_line(context, rust);
         parameters(context, rust);
         choice(context, rust);
+        payloads(context, rust);
         writers(context, rust);
         accepted_there(context, rust);
+        choice_of_one(context, rust);
         accepted_streams(context, rust);
         faults_there(context, rust);
         wraps_there(context, rust);
@@ -210,6 +212,18 @@ fn choice(context: &mut Context, rust: &Calls) {
     );
 }
 
+/// 7: A NaN model is read with its payload there, and residuals open on that.
+fn payloads(context: &mut Context, rust: &Calls) {
+    let bytes = Written::new(0, (NAN_32, NAN_32), &[NAN_32 + 1]);
+    let segment = bytes.segment(&[0, 1]);
+    let mut out = [0; 2];
+    let paper = segment.grid(&mut out).map(|()| out.to_vec()).ok();
+    let theirs = (rust.segment_grid)(segment);
+    let listed = (vec![NAN_32, NAN_32 + 1], vec![NAN_32 + 1, NAN_32]);
+    let listed = (Some(listed.0), Some(listed.1));
+    context.listed(paper, theirs, listed, "7: PMC NaN, residual 7FC00001");
+}
+
 /// 8: Model 2 exists there; a second call of a writer starts from its opening value again, or stores
 /// a value in full while fewer than 8 bits are written.
 fn writers(context: &mut Context, rust: &Calls) {
@@ -277,6 +291,21 @@ fn accepted_there(context: &mut Context, rust: &Calls) {
     let theirs = theirs.map(|grid| grid.into_iter().map(canonical).collect());
     let listed = (Err(11), Ok(vec![NAN_32; 2]));
     context.listed(paper, theirs, listed, "9: a line from 1 to infinity");
+}
+
+/// 9: A choice where one of the two models has no value.
+fn choice_of_one(context: &mut Context, rust: &Calls) {
+    let mut builder = ModelBuilder::new(Lossless).expect("an allowed bound");
+    (_, builder.pmc_mean) = builder.pmc_mean.fit_value(ONE).expect("a first value");
+    let paper = builder.finish(1).map(|model| (model.id, model.last_value));
+    let theirs = (rust.choose)(builder, 1);
+    let theirs = Ok((theirs.id, theirs.last_value));
+    context.listed(
+        paper,
+        theirs,
+        (Err(11), Ok((0, ONE))),
+        "9: a choice with a fresh Swing",
+    );
 }
 
 /// 9 and 10: Streams that are accepted there in a release build and refused here.
