@@ -272,51 +272,44 @@ fn reopening_zeroes_the_cut_byte_alone() {
     assert_eq!(reopen(0, 2, 1, Lossless).0, Err(8));
 }
 
+/// A state after one value of one bit, with the window of the lowest bit.
+const WRITER: MacaqueV = MacaqueV {
+    error_bound: ErrorBound::Lossless,
+    with_first: false,
+    min_value: 0,
+    max_value: 0,
+    last_value: ONE,
+    window: Window {
+        leading: 31,
+        trailing: 0,
+    },
+    place: 1,
+    length: 1,
+};
+
+/// The place after one more value, and the two bytes.
+fn write_on(state: MacaqueV) -> (Result<usize, u32>, [u8; 2]) {
+    let mut buffer = [0xFF; 2];
+    let answer = state.compress_values(&[ONE ^ 1], &mut buffer);
+    (answer.map(|after| after.place), buffer)
+}
+
 #[test]
 fn writer_states() {
-    let state = MacaqueV {
-        error_bound: ErrorBound::Lossless,
-        with_first: false,
-        min_value: 0,
-        max_value: 0,
-        last_value: ONE,
-        window: Window {
-            leading: 31,
-            trailing: 0,
-        },
-        place: 1,
-        length: 1,
+    let placed = |place| MacaqueV { place, ..WRITER };
+    assert_eq!(write_on(WRITER), (Ok(3), [0xA0, 0xFF]));
+    assert_eq!(write_on(placed(15)), (Err(4), [0xFF; 2]));
+    assert_eq!(write_on(placed(17)).0, Err(2));
+    assert_eq!(write_on(placed(0)).0, Err(2));
+    let full = MacaqueV {
+        length: 65_536,
+        ..WRITER
     };
-    let write = |state: MacaqueV| {
-        let mut buffer = [0xFF; 2];
-        let answer = state.compress_values(&[ONE ^ 1], &mut buffer);
-        (answer.map(|after| after.place), buffer)
-    };
-    assert_eq!(write(state), (Ok(3), [0xA0, 0xFF]));
-    assert_eq!(write(MacaqueV { place: 15, ..state }), (Err(4), [0xFF; 2]));
-    assert_eq!(write(MacaqueV { place: 17, ..state }).0, Err(2));
-    assert_eq!(write(MacaqueV { place: 0, ..state }).0, Err(2));
-    assert_eq!(
-        write(MacaqueV {
-            length: 65_536,
-            ..state
-        })
-        .0,
-        Err(3)
-    );
-    let wide = Window {
-        leading: 31,
-        trailing: 1,
-    };
-    assert_eq!(
-        write(MacaqueV {
-            window: wide,
-            ..state
-        })
-        .0,
-        Err(2)
-    );
-    assert_eq!(state.compress_values(&[], &mut [0xFF]), Ok(state));
+    assert_eq!(write_on(full).0, Err(3));
+    let mut wide = WRITER;
+    wide.window.trailing = 1;
+    assert_eq!(write_on(wide).0, Err(2));
+    assert_eq!(WRITER.compress_values(&[], &mut [0xFF]), Ok(WRITER));
 }
 
 #[test]

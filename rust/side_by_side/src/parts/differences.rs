@@ -36,6 +36,7 @@ pub fn differences(context: &mut Context) {
         accepted_streams(context, rust);
         faults_there(context, rust);
         wraps_there(context, rust);
+        far_times(context, rust);
     }
 }
 
@@ -402,7 +403,11 @@ fn wraps_there(context: &mut Context, rust: &Calls) {
         (Err(11), Ok((0, NAN_32))),
         "10: a choice of nothing",
     );
+}
 
+/// 10: Times at the ends of i64: their difference faults there where overflow is checked, else it
+/// wraps.
+fn far_times(context: &mut Context, rust: &Calls) {
     let (_, first) = (rust.swing_step)(swing(Lossless), i64::MIN, ONE);
     let paper = swing(Lossless).fit_data_point(i64::MIN, ONE).map(|_| 0.0);
     let (_, second) = (rust.swing_step)(first, i64::MAX, TWO);
