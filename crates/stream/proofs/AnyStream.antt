@@ -11,8 +11,8 @@ use Rattle.bits.specs.Bits.{Below, bitsOf, bytesOf, wholeBytes, padding, padded
 use Rattle.bits.proofs.Bytes.{length-bitsOf}
 use Rattle.bits.proofs.InBytes.{cutIn-laidIn-used, take-bits}
 use Rattle.stream.specs.Format.{gatherFrom, Stream, State, fresh, mostValues, usable}
-use Rattle.stream.specs.Write.{kept, Keeps, written, wrote}
-use Rattle.stream.specs.Read.{done, readAll, reopened, reopen}
+use Rattle.stream.specs.Write.{kept, Keeps, written, wrote, wroteIn}
+use Rattle.stream.specs.Read.{done, readAll, reopened, reopen, bufferAfter}
 use Rattle.stream.proofs.Formats.{Good}
 use Rattle.stream.proofs.Writing.{fresh-small, place-after}
 use Rattle.stream.proofs.Reading.{Whole, WholeOf, whole}
@@ -34,7 +34,7 @@ pub record Resumed {A : Type 0} (rule : ℕ → ℕ → ℕ) (S : Stream A) (l n
   -- cut, and ys written on: the bytes in use read as the first k values and then the newly kept ones
   pub reads : (ys : List ℕ) → Below (S .form .width) ys → (wrote rule S state ys) .place ≤ 8 * length buf
       → readAll S (k + length ys) (fresh S l)
-      (bitsOf (take (wholeBytes ((wrote rule S state ys) .place)) (laidIn (cutIn buf (state .place)) (state .place) (written rule S state ys))))
+      (bitsOf (take (wholeBytes ((wrote rule S state ys) .place)) (wroteIn rule S state ys (bufferAfter (reopened state) buf))))
       ≡ done (take k vs ++ kept rule S state ys) (wrote rule S state ys) (replicate (padding ((wrote rule S state ys) .place)) false)
 
 pub any-resumed : {A : Type 0} (rule : ℕ → ℕ → ℕ) (S : Stream A) → Good (S .form) → Keeps (S .form .width) rule → (l : ℕ) → l < 2 ^ S .form .width
