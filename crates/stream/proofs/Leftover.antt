@@ -1,20 +1,19 @@
 -- The end of a stream in lent bytes, as code judges it: no leftover, or refusal 8. Assumes nothing.
-use mathlib.Core.Path.{_≡_, refl, sym, ap, ap₂, _∙_, subst}
-use mathlib.Core.Logic.{_⊎_, inl, inr, ⊎-elim}
+use mathlib.Core.Path.{_≡_, refl, sym, ap, _∙_}
+use mathlib.Core.Logic.{_⊎_, inl, inr}
 use mathlib.Core.Bool.{Bool, true, false, cond}
 use mathlib.Core.List.{List, [], _∷_}
 use mathlib.Core.Option.{Option, none, some}
-use Prim.Native.Nat.{ℕ, zero, suc, _+_, _*_, _%_, _^_, _≤_, _<_}
+use Prim.Native.Nat.{ℕ, suc, _+_, _*_, _%_, _≤_, _<_}
 use native.Mathlib.Nat.{mod-eq-of-lt}
 use native.Mathlib.Omega.{arith}
 use borrow.Author.Tests.{lt-ltb, le-ltb}
-use lib.Dec.{ltb}
 use lib.ListN.{length, take, drop, length-drop}
 use lib.Pow.{pow-pos}
 use Rattle.bits.specs.Bits.{value, fieldAt, bitsOf}
 use Rattle.bits.proofs.Bytes.{length-bitsOf}
 use Rattle.stream.specs.Format.{State}
-use Rattle.stream.specs.Read.{Reading, done, stopped, firstSet, orFurther, leftover, judged, ended}
+use Rattle.stream.specs.Read.{done, stopped, firstSet, orFurther, leftover, judged, ended}
 
 -- ---- a set bit
 

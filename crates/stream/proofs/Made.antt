@@ -2,8 +2,8 @@
 -- bytes and its state are those of one fresh run. What has it reads back as the kept values, and its state may be used. Assumes nothing.
 use mathlib.Core.Path.{_≡_, refl, sym, ap, _∙_, subst}
 use mathlib.Core.Bool.{Bool, true, false}
-use mathlib.Core.List.{List, [], _∷_, _++_}
-use Prim.Native.Nat.{ℕ, zero, suc, _+_, _*_, _^_, _≤_, _<_}
+use mathlib.Core.List.{List, [], _++_}
+use Prim.Native.Nat.{ℕ, _+_, _*_, _^_, _≤_, _<_}
 use native.Mathlib.Omega.{arith}
 use lib.ListN.{length, take, drop, replicate, take-append-drop}
 use Rattle.bits.specs.Bits.{Below, bitsOf, firstBytes, bytesOf, wholeBytes, padding, padded, laidIn, cutIn}
