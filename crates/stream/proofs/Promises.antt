@@ -18,6 +18,7 @@ use Rattle.stream.specs.Made.{Made}
 use Rattle.stream.specs.Cases.{cases, AllRight}
 use Rattle.stream.proofs.Formats.{Good, macaque-good, gorilla-good}
 use Rattle.stream.proofs.Writing.{place-after}
+use Rattle.stream.proofs.Rule.{wrote-usable}
 use Rattle.stream.proofs.Gathered.{seen-after}
 use Rattle.stream.proofs.Made as spine
 use Rattle.stream.proofs.AnyStream.{Resumed, any-resumed}
@@ -63,6 +64,12 @@ module _ {A : Type 0} (rule : ℕ → ℕ → ℕ) (S : Stream A) (l : ℕ) wher
       -- such a state may be used, so that a write is never refused for it
       pub its-state-may-be-used : length xs ≤ mostValues → usable (S .form) (length buf) s ≡ true
       its-state-may-be-used = spine.made-usable rule S l M good K hl bx
+
+-- an accepted write hands back a state that may be used, from any state that may, handed in or made
+pub a-write-hands-back-a-usable-state : {A : Type 0} (rule : ℕ → ℕ → ℕ) (S : Stream A) → Good (S .form) → Keeps (S .form .width) rule
+    → (bytes : ℕ) (s : State A) (xs : List ℕ) → usable (S .form) bytes s ≡ true → s .last < 2 ^ S .form .width → Below (S .form .width) xs
+    → s .count + length xs ≤ mostValues → (wrote rule S s xs) .place ≤ 8 * bytes → usable (S .form) bytes (wrote rule S s xs) ≡ true
+a-write-hands-back-a-usable-state = wrote-usable
 
 -- "Lossless keeps the input": a lossless stream reads back as the inputs
 pub lossless-reads-back : {A : Type 0} (S : Stream A) (l : ℕ) {xs buf : List ℕ} {s : State A} → Made lossless S l xs buf s
