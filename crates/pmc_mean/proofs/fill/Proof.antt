@@ -37,7 +37,9 @@ same-length : tie.Need-same-length Inv-loop μ-loop
 same-length c = search needs
 
 returns : tie.Need-returns Inv-loop μ-loop
-returns c = let i : c .before .loop .i ≡ c .before .before .args .count = omega arith in c .before .loop .inv .2 ∙ ap (λ (k : ℕ). filled (c .before .before .args .bits) k (c .before .before .args .out .now)) i
+returns c =
+    let i : c .before .loop .i ≡ c .before .before .args .count = omega arith in
+    c .before .loop .inv .2 ∙ ap (λ (k : ℕ). filled (c .before .before .args .bits) k (c .before .before .args .out .now)) i
 
 pub fill-spec : {M : Type 1} → statement M
 fill-spec =

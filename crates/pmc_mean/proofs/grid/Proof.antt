@@ -24,18 +24,28 @@ plain-requires : tie.Need-plain-requires
 plain-requires c κs = search needs
 
 fill-requires : tie.Need-fill-requires
-fill-requires c κs = let a = c .before .before .before .before .before .before .args in let none = none-holds (gridCauses (a .count) (length (now (a .out)))) _ (c .before .before .before .before .judge-grid .ensures) (c .before .before .enum-told .given .1) in ltb-false (length (now (a .out))) (a .count) (none .1 .0)
+fill-requires c κs =
+    let a = c .before .before .before .before .before .before .args in
+    let none = none-holds (gridCauses (a .count) (length (now (a .out)))) _ (c .before .before .before .before .judge-grid .ensures) (c .before .before .enum-told .given .1) in
+    ltb-false (length (now (a .out))) (a .count) (none .1 .0)
 
 returns : tie.Need-returns
 unfolding gridMemory
-returns c = let a = c .before .before .before .before .before .args in let causes = gridCauses (a .count) (length (now (a .out))) in (when-refused causes _ (c .before .before .before .judge-grid .ensures) refused _ _ (c .before .r .given .1), when-refused causes _ (c .before .before .before .judge-grid .ensures) (λ (n : ℕ). now (a .out)) _ _ (c .before .r .given .1))
+returns c =
+    let a = c .before .before .before .before .before .args in
+    let causes = gridCauses (a .count) (length (now (a .out))) in
+    (when-refused causes _ (c .before .before .before .judge-grid .ensures) refused _ _ (c .before .r .given .1), when-refused causes _ (c .before .before .before .judge-grid .ensures) (λ (n : ℕ). now (a .out)) _ _ (c .before .r .given .1))
 
 same-length : tie.Need-same-length
 same-length c = search needs
 
 returns-2 : tie.Need-returns-2
 unfolding gridMemory
-returns-2 c = let a = c .before .before .before .before .before .before .before .before .before .args in let causes = gridCauses (a .count) (length (now (a .out))) in let ok = c .before .before .before .before .before .enum-told .given .1 in (when-passed causes _ (c .before .before .before .before .before .before .before .judge-grid .ensures) refused _ ok, c .before .before .fill .ensures ∙ rw (c .before .before .before .before .plain .ensures) (when-passed causes _ (c .before .before .before .before .before .before .before .judge-grid .ensures) (λ (n : ℕ). now (a .out)) _ ok))
+returns-2 c =
+    let a = c .before .before .before .before .before .before .before .before .before .args in
+    let causes = gridCauses (a .count) (length (now (a .out))) in
+    let ok = c .before .before .before .before .before .enum-told .given .1 in
+    (when-passed causes _ (c .before .before .before .before .before .before .before .judge-grid .ensures) refused _ ok, c .before .before .fill .ensures ∙ rw (c .before .before .before .before .plain .ensures) (when-passed causes _ (c .before .before .before .before .before .before .before .judge-grid .ensures) (λ (n : ℕ). now (a .out)) _ ok))
 
 pub grid-spec : {M : Type 1} → statement M
 grid-spec =
