@@ -1,10 +1,10 @@
 -- What a verdict on a call's causes tells of all that the call judges by them: its answer, the state, lent memory. Assumes nothing.
 use mathlib.Core.Path.{_≡_, refl, sym, ap, _∙_}
-use mathlib.Core.Bool.{true, false}
+use mathlib.Core.Bool.{Bool, true, false, cond}
 use mathlib.Core.List.{List, [], _∷_}
 use Prim.Native.Nat.{ℕ}
 use native.Mathlib.Omega.{arith}
-use Rattle.models.specs.Answers.{Said, Done, answered, refused, Cause, _when_, judge, verdict}
+use Rattle.models.specs.Answers.{Said, Done, answered, refused, Cause, _when_, judge, verdict, Stepped, stateAfter, judgedOn}
 use Rattle.models.specs.Refusals.{number}
 use Rattle.models.specs.Calls.{saysVerdict}
 use Rattle.models.specs.declared.Refusal.{Refusal}
@@ -50,3 +50,16 @@ module _ (causes : List Cause) (v : Verdict) (says : saysVerdict v ≡ verdict c
 
   pub when-refused : {X : Type 0} (refuse : ℕ → X) (x : X) (r : Refusal) → v ≡ Refused r → refuse (number r) ≡ judge refuse causes x
   when-refused refuse x r e = turned-back refuse x causes (number r) (sym says ∙ ap saysVerdict e)
+
+-- ---- what a state has, and has after a step that nothing refuses, it has after the call
+module _ {S : Type 0} (P : S → Type 0) where
+  pub after-judging : (s : S) (causes : List Cause) (step : Stepped S) → P s → (NoneHolds causes → P (step .state)) → P (stateAfter (judgedOn s causes step))
+  unfolding judge
+  after-judging s [] step p k = k tt
+  after-judging s (n when true ∷ causes) step p k = p
+  after-judging s (n when false ∷ causes) step p k = after-judging s causes step p (λ h. k (refl, h))
+
+  -- a step that goes by a test
+  pub after-test : (test : Bool) (x y : Stepped S) → (test ≡ true → P (x .state)) → (test ≡ false → P (y .state)) → P (cond test x y .state)
+  after-test true x y p q = p refl
+  after-test false x y p q = q refl

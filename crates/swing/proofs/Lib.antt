@@ -2,3 +2,4 @@
 pub mod Exact
 pub mod Allowed
 pub mod Ordered
+pub mod Runs

@@ -46,21 +46,31 @@ enum-told : tie.Need-enum-told
 enum-told c = search needs
 
 line-through-requires : tie.Need-line-through-requires
-line-through-requires c κs = let none = clear c in let ok = and-left _ _ (not-false _ (none .1 .1 .0)) in (start-in-time _ _ ok, end-in-time _ _ ok)
+line-through-requires c κs =
+    let none = clear c in
+    let ok = and-left _ _ (not-false _ (none .1 .1 .0)) in
+    (start-in-time _ _ ok, end-in-time _ _ ok)
 
 draw-requires : tie.Need-draw-requires
-draw-requires c κs = let none = clear (c .before .before) in (and-right (inTime (c .before .before .before .before .before .before .point-of .result) (c .before .before .before .before .before .point-of2 .result)) _ (not-false _ (none .1 .1 .0)), ltb-false (length (now (c .before .before .before .before .before .before .before .before .args .out))) (length (now (c .before .before .before .before .before .before .before .before .args .timestamps))) (none .1 .0))
+draw-requires c κs =
+    let none = clear (c .before .before) in
+    (and-right (inTime (c .before .before .before .before .before .before .point-of .result) (c .before .before .before .before .before .point-of2 .result)) _ (not-false _ (none .1 .1 .0)), ltb-false (length (now (c .before .before .before .before .before .before .before .before .args .out))) (length (now (c .before .before .before .before .before .before .before .before .args .timestamps))) (none .1 .0))
 
 returns : tie.Need-returns
 unfolding gridMemory
-returns c = let causes = gridCauses (pointOf (c .before .before .before .before .before .before .before .args .start-time) (c .before .before .before .before .before .before .before .args .first-value)) (pointOf (c .before .before .before .before .before .before .before .args .end-time) (c .before .before .before .before .before .before .before .args .last-value)) (now (c .before .before .before .before .before .before .before .args .timestamps)) (length (now (c .before .before .before .before .before .before .before .args .out))) in (when-refused causes _ (says (c .before .before .before)) refused _ _ (c .before .r .given .1), when-refused causes _ (says (c .before .before .before)) (λ (n : ℕ). now (c .before .before .before .before .before .before .before .args .out)) _ _ (c .before .r .given .1))
+returns c =
+    let causes = gridCauses (pointOf (c .before .before .before .before .before .before .before .args .start-time) (c .before .before .before .before .before .before .before .args .first-value)) (pointOf (c .before .before .before .before .before .before .before .args .end-time) (c .before .before .before .before .before .before .before .args .last-value)) (now (c .before .before .before .before .before .before .before .args .timestamps)) (length (now (c .before .before .before .before .before .before .before .args .out))) in
+    (when-refused causes _ (says (c .before .before .before)) refused _ _ (c .before .r .given .1), when-refused causes _ (says (c .before .before .before)) (λ (n : ℕ). now (c .before .before .before .before .before .before .before .args .out)) _ _ (c .before .r .given .1))
 
 same-length : tie.Need-same-length
 same-length c = search needs
 
 returns-2 : tie.Need-returns-2
 unfolding gridMemory
-returns-2 c = let causes = gridCauses (pointOf (c .before .before .before .before .before .before .before .before .before .before .before .args .start-time) (c .before .before .before .before .before .before .before .before .before .before .before .args .first-value)) (pointOf (c .before .before .before .before .before .before .before .before .before .before .before .args .end-time) (c .before .before .before .before .before .before .before .before .before .before .before .args .last-value)) (now (c .before .before .before .before .before .before .before .before .before .before .before .args .timestamps)) (length (now (c .before .before .before .before .before .before .before .before .before .before .before .args .out))) in let v = says (c .before .before .before .before .before .before .before) in (when-passed causes _ v refused _ (c .before .before .before .before .before .enum-told .given .1), c .before .before .draw .ensures ∙ rw (c .before .before .before .before .line-through .ensures, start (c .before .before .before .before .before .before .before .before .before), end (c .before .before .before .before .before .before .before .before)) (when-passed causes _ v (λ (n : ℕ). now (c .before .before .before .before .before .before .before .before .before .before .before .args .out)) _ (c .before .before .before .before .before .enum-told .given .1)))
+returns-2 c =
+    let causes = gridCauses (pointOf (c .before .before .before .before .before .before .before .before .before .before .before .args .start-time) (c .before .before .before .before .before .before .before .before .before .before .before .args .first-value)) (pointOf (c .before .before .before .before .before .before .before .before .before .before .before .args .end-time) (c .before .before .before .before .before .before .before .before .before .before .before .args .last-value)) (now (c .before .before .before .before .before .before .before .before .before .before .before .args .timestamps)) (length (now (c .before .before .before .before .before .before .before .before .before .before .before .args .out))) in
+    let v = says (c .before .before .before .before .before .before .before) in
+    (when-passed causes _ v refused _ (c .before .before .before .before .before .enum-told .given .1), c .before .before .draw .ensures ∙ rw (c .before .before .before .before .line-through .ensures, start (c .before .before .before .before .before .before .before .before .before), end (c .before .before .before .before .before .before .before .before)) (when-passed causes _ v (λ (n : ℕ). now (c .before .before .before .before .before .before .before .before .before .before .before .args .out)) _ (c .before .before .before .before .before .enum-told .given .1)))
 
 pub grid-spec : {M : Type 1} → statement M
 grid-spec =

@@ -41,7 +41,9 @@ enum-told : tie.Need-enum-told
 enum-told c = search needs
 
 average-sum-requires : tie.Need-average-sum-requires
-average-sum-requires c κs = let none = clear c in (not-false _ (none .1 .0), ltb-false 65536 (c .before .before .before .before .before .args .count) (none .0))
+average-sum-requires c κs =
+    let none = clear c in
+    (not-false _ (none .1 .0), ltb-false 65536 (c .before .before .before .before .before .args .count) (none .0))
 
 returns : tie.Need-returns
 unfolding averageAnswer

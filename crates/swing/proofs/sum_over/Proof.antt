@@ -44,10 +44,15 @@ enum-told : tie.Need-enum-told
 enum-told c = search needs
 
 line-through-requires : tie.Need-line-through-requires
-line-through-requires c κs = let none = clear c in let ok = and-left _ _ (not-false _ (none .1 .0)) in (start-in-time _ _ ok, end-in-time _ _ ok)
+line-through-requires c κs =
+    let none = clear c in
+    let ok = and-left _ _ (not-false _ (none .1 .0)) in
+    (start-in-time _ _ ok, end-in-time _ _ ok)
 
 total-requires : tie.Need-total-requires
-total-requires c κs = let none = clear (c .before) in and-right (inTime (c .before .before .before .before .before .point-of .result) (c .before .before .before .before .point-of2 .result)) _ (not-false _ (none .1 .0))
+total-requires c κs =
+    let none = clear (c .before) in
+    and-right (inTime (c .before .before .before .before .before .point-of .result) (c .before .before .before .before .point-of2 .result)) _ (not-false _ (none .1 .0))
 
 answered-requires : tie.Need-answered-requires
 answered-requires c κs = search needs

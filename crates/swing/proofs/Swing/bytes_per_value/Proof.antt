@@ -25,18 +25,29 @@ enum-told : tie.Need-enum-told
 enum-told c = search needs
 
 add-cost : tie.Need-add-cost
-add-cost c = let none = clear c in let size = leb-true (c .before .before .before .args .m) 65535 (and-right (leb 1 (c .before .before .before .args .m)) _ (not-false _ (none .1 .1 .0))) in search needs
+add-cost c =
+    let none = clear c in
+    let size = leb-true (c .before .before .before .args .m) 65535 (and-right (leb 1 (c .before .before .before .args .m)) _ (not-false _ (none .1 .1 .0))) in
+    search needs
 
 cost-requires : tie.Need-cost-requires
-cost-requires c κs = let s = c .before .before .before .args .self in let none = clear c in let size = leb-true (c .before .before .before .args .m) 65535 (and-right (leb 1 (c .before .before .before .args .m)) _ (not-false _ (none .1 .1 .0))) in (omega arith, length-limit s (not-false _ (none .1 .0)))
+cost-requires c κs =
+    let s = c .before .before .before .args .self in
+    let none = clear c in
+    let size = leb-true (c .before .before .before .args .m) 65535 (and-right (leb 1 (c .before .before .before .args .m)) _ (not-false _ (none .1 .1 .0))) in
+    (omega arith, length-limit s (not-false _ (none .1 .0)))
 
 returns : tie.Need-returns
 unfolding costAnswer
-returns c = let s = c .before .before .before .before .args .self in when-refused (costCauses s (c .before .before .before .before .args .m)) _ (c .before .before .before .judge-cost .ensures) (λ (n : ℕ). refusedOn n s) _ _ (c .before .r .given .1)
+returns c =
+    let s = c .before .before .before .before .args .self in
+    when-refused (costCauses s (c .before .before .before .before .args .m)) _ (c .before .before .before .judge-cost .ensures) (λ (n : ℕ). refusedOn n s) _ _ (c .before .r .given .1)
 
 returns-2 : tie.Need-returns-2
 unfolding costAnswer
-returns-2 c = let s = c .before .before .before .before .args .self in rw (c .cost .ensures) (when-passed (costCauses s (c .before .before .before .before .args .m)) _ (c .before .before .before .judge-cost .ensures) (λ (n : ℕ). refusedOn n s) _ (c .before .enum-told .given .1))
+returns-2 c =
+    let s = c .before .before .before .before .args .self in
+    rw (c .cost .ensures) (when-passed (costCauses s (c .before .before .before .before .args .m)) _ (c .before .before .before .judge-cost .ensures) (λ (n : ℕ). refusedOn n s) _ (c .before .enum-told .given .1))
 
 pub bytes-per-value-spec : {M : Type 1} → statement M
 bytes-per-value-spec =

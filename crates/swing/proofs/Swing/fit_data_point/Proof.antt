@@ -37,15 +37,23 @@ enum-told : tie.Need-enum-told
 enum-told c = search needs
 
 tried-requires : tie.Need-tried-requires
-tried-requires c κs = let s = c .before .before .before .before .args .self in let none = clear c in let ok = not-false _ (none .1 .0) in (length-below s ok (eqb-false (s .length) 65536 (none .1 .1 .0)), (ok, follows-allowed s _ (not-false _ (none .1 .1 .1 .0))))
+tried-requires c κs =
+    let s = c .before .before .before .before .args .self in
+    let none = clear c in
+    let ok = not-false _ (none .1 .0) in
+    (length-below s ok (eqb-false (s .length) 65536 (none .1 .1 .0)), (ok, follows-allowed s _ (not-false _ (none .1 .1 .1 .0))))
 
 returns : tie.Need-returns
 unfolding fitAnswer
-returns c = let s = c .before .before .before .before .before .args .self in when-refused (fitCauses s (c .before .before .before .before .before .args .timestamp)) _ (says (c .before .before .before)) (λ (n : ℕ). refusedOn n s) _ _ (c .before .r .given .1)
+returns c =
+    let s = c .before .before .before .before .before .args .self in
+    when-refused (fitCauses s (c .before .before .before .before .before .args .timestamp)) _ (says (c .before .before .before)) (λ (n : ℕ). refusedOn n s) _ _ (c .before .r .given .1)
 
 returns-2 : tie.Need-returns-2
 unfolding fitAnswer
-returns-2 c = let s = c .before .before .before .before .before .args .self in c .tried .ensures ∙ rw (point (c .before .before .before .before)) (when-passed (fitCauses s (c .before .before .before .before .before .args .timestamp)) _ (says (c .before .before .before)) (λ (n : ℕ). refusedOn n s) _ (c .before .enum-told .given .1))
+returns-2 c =
+    let s = c .before .before .before .before .before .args .self in
+    c .tried .ensures ∙ rw (point (c .before .before .before .before)) (when-passed (fitCauses s (c .before .before .before .before .before .args .timestamp)) _ (says (c .before .before .before)) (λ (n : ℕ). refusedOn n s) _ (c .before .enum-told .given .1))
 
 pub fit-data-point-spec : {M : Type 1} → statement M
 fit-data-point-spec =

@@ -21,7 +21,9 @@ span-requires c κs = search needs
 
 returns : tie.Need-returns
 unfolding lastValue
-returns c = let s = c .before .before .before .before .before .before .before .before .args .self in rw (c .before .span .ensures, c .before .before .before .before .max-f64 .ensures, c .before .before .before .before .before .min-f64 .ensures, c .before .before .before .before .before .before .before .sums .ensures, toZ-ofZ w64 (s .«start_time») (time-fits _ (c .before .before .before .before .before .before .before .before .pre .0)), toZ-ofZ w64 (s .«end_time») (time-fits _ (c .before .before .before .before .before .before .before .before .pre .1)))
+returns c =
+    let s = c .before .before .before .before .before .before .before .before .args .self in
+    rw (c .before .span .ensures, c .before .before .before .before .max-f64 .ensures, c .before .before .before .before .before .min-f64 .ensures, c .before .before .before .before .before .before .before .sums .ensures, toZ-ofZ w64 (s .«start_time») (time-fits _ (c .before .before .before .before .before .before .before .before .pre .0)), toZ-ofZ w64 (s .«end_time») (time-fits _ (c .before .before .before .before .before .before .before .before .pre .1)))
 
 pub last-value-spec : {M : Type 1} → statement M
 last-value-spec =

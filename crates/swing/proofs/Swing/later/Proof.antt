@@ -24,11 +24,19 @@ swung-requires c κs = search needs
 
 returns : tie.Need-returns
 unfolding later laterAt
-returns c = let z = toZ-ofZ w64 (c .before .before .before .before .before .before .before .before .before .args .p .time) (time-fits _ (c .before .before .before .before .before .before .before .before .before .pre .1 .1)) in let high = rw (z, c .before .before .before .before .before .before .before .before .upper-line .ensures) at (c .before .before .before .before .before .before .value-at .ensures) in let low = rw (z, c .before .before .before .before .before .lower-line .ensures) at (c .before .before .before .value-at2 .ensures) in rw (← high, ← low, c .if1 .taken)
+returns c =
+    let z = toZ-ofZ w64 (c .before .before .before .before .before .before .before .before .before .args .p .time) (time-fits _ (c .before .before .before .before .before .before .before .before .before .pre .1 .1)) in
+    let high = rw (z, c .before .before .before .before .before .before .before .before .upper-line .ensures) at (c .before .before .before .before .before .before .value-at .ensures) in
+    let low = rw (z, c .before .before .before .before .before .lower-line .ensures) at (c .before .before .before .value-at2 .ensures) in
+    rw (← high, ← low, c .if1 .taken)
 
 returns-2 : tie.Need-returns-2
 unfolding later laterAt
-returns-2 c = let z = toZ-ofZ w64 (c .before .before .before .before .before .before .before .before .before .before .args .p .time) (time-fits _ (c .before .before .before .before .before .before .before .before .before .before .pre .1 .1)) in let high = rw (z, c .before .before .before .before .before .before .before .before .before .upper-line .ensures) at (c .before .before .before .before .before .before .before .value-at .ensures) in let low = rw (z, c .before .before .before .before .before .before .lower-line .ensures) at (c .before .before .before .before .value-at2 .ensures) in rw (← high, ← low, c .before .if1 .left, c .swung .ensures)
+returns-2 c =
+    let z = toZ-ofZ w64 (c .before .before .before .before .before .before .before .before .before .before .args .p .time) (time-fits _ (c .before .before .before .before .before .before .before .before .before .before .pre .1 .1)) in
+    let high = rw (z, c .before .before .before .before .before .before .before .before .before .upper-line .ensures) at (c .before .before .before .before .before .before .before .value-at .ensures) in
+    let low = rw (z, c .before .before .before .before .before .before .lower-line .ensures) at (c .before .before .before .before .value-at2 .ensures) in
+    rw (← high, ← low, c .before .if1 .left, c .swung .ensures)
 
 pub later-spec : {M : Type 1} → statement M
 later-spec =

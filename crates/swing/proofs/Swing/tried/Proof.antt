@@ -27,10 +27,14 @@ deviation-requires : tie.Need-deviation-requires
 deviation-requires c κs = search needs
 
 second-requires : tie.Need-second-requires
-second-requires c κs = let s = c .before .before .before .before .before .args .self in (c .before .before .before .before .before .pre .0, (start-allowed s (c .before .before .before .before .before .pre .1 .0) (c .before .before .before .before .if1 .left), c .before .before .before .before .before .pre .1 .1))
+second-requires c κs =
+    let s = c .before .before .before .before .before .args .self in
+    (c .before .before .before .before .before .pre .0, (start-allowed s (c .before .before .before .before .before .pre .1 .0) (c .before .before .before .before .if1 .left), c .before .before .before .before .before .pre .1 .1))
 
 later-requires : tie.Need-later-requires
-later-requires c κs = let s = c .before .before .before .before .before .args .self in (c .before .before .before .before .before .pre .0, (start-allowed s (c .before .before .before .before .before .pre .1 .0) (c .before .before .before .before .if1 .left), c .before .before .before .before .before .pre .1 .1))
+later-requires c κs =
+    let s = c .before .before .before .before .before .args .self in
+    (c .before .before .before .before .before .pre .0, (start-allowed s (c .before .before .before .before .before .pre .1 .0) (c .before .before .before .before .if1 .left), c .before .before .before .before .before .pre .1 .1))
 
 returns-3 : tie.Need-returns-3
 unfolding tried

@@ -15,10 +15,16 @@ line-through-requires : tie.Need-line-through-requires
 line-through-requires c κs = (start-in-time _ _ (c .pre .0), end-in-time _ _ (c .pre .0))
 
 value-at-requires : tie.Need-value-at-requires
-value-at-requires c κs = let a = c .before .before .args .a in let ok = start-in-time a _ (c .before .before .pre .0) in rw (toZ-ofZ w64 (a .time) (time-fits _ ok)) ok
+value-at-requires c κs =
+    let a = c .before .before .args .a in
+    let ok = start-in-time a _ (c .before .before .pre .0) in
+    rw (toZ-ofZ w64 (a .time) (time-fits _ ok)) ok
 
 value-at-requires-2 : tie.Need-value-at-requires-2
-value-at-requires-2 c κs = let b = c .before .before .before .before .args .b in let ok = end-in-time _ b (c .before .before .before .before .pre .0) in rw (toZ-ofZ w64 (b .time) (time-fits _ ok)) ok
+value-at-requires-2 c κs =
+    let b = c .before .before .before .before .args .b in
+    let ok = end-in-time _ b (c .before .before .before .before .pre .0) in
+    rw (toZ-ofZ w64 (b .time) (time-fits _ ok)) ok
 
 int-to-float-answered : tie.Need-int-to-float-answered
 unfolding Ieee.inFloat
@@ -29,7 +35,12 @@ answered-requires c κs = search needs
 
 returns : tie.Need-returns
 unfolding averageSum Ieee.ofBits
-returns c = let a = c .before .before .before .before .before .before .before .args .a in let b = c .before .before .before .before .before .before .before .args .b in let za = toZ-ofZ w64 (a .time) (time-fits _ (start-in-time a b (c .before .before .before .before .before .before .before .pre .0))) in let zb = toZ-ofZ w64 (b .time) (time-fits _ (end-in-time a b (c .before .before .before .before .before .before .before .pre .0))) in rw (c .answered .ensures, c .before .before .before .before .value-at .ensures, c .before .before .value-at2 .ensures, c .before .before .before .before .before .before .line-through .ensures, za, zb)
+returns c =
+    let a = c .before .before .before .before .before .before .before .args .a in
+    let b = c .before .before .before .before .before .before .before .args .b in
+    let za = toZ-ofZ w64 (a .time) (time-fits _ (start-in-time a b (c .before .before .before .before .before .before .before .pre .0))) in
+    let zb = toZ-ofZ w64 (b .time) (time-fits _ (end-in-time a b (c .before .before .before .before .before .before .before .pre .0))) in
+    rw (c .answered .ensures, c .before .before .before .before .value-at .ensures, c .before .before .value-at2 .ensures, c .before .before .before .before .before .before .line-through .ensures, za, zb)
 
 pub average-sum-spec : {M : Type 1} → statement M
 average-sum-spec =

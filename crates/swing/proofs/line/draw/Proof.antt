@@ -32,7 +32,11 @@ shared-slice-copy-out-t : tie.Need-shared-slice-copy-out-t Inv-loop μ-loop
 shared-slice-copy-out-t c = search needs
 
 value-at-requires : tie.Need-value-at-requires Inv-loop μ-loop
-value-at-requires c κs = let ts = now (c .before .before .before .before .args .ts) in let l = c .before .before .loop in let ok = in-order-at ts (l .i) (c .before .before .before .before .pre .0) (c .before .loop-test .taken) in rw (toZ-ofZ w64 (getD ts (l .i) (pos 0)) (time-fits _ ok)) ok
+value-at-requires c κs =
+    let ts = now (c .before .before .before .before .args .ts) in
+    let l = c .before .before .loop in
+    let ok = in-order-at ts (l .i) (c .before .before .before .before .pre .0) (c .before .loop-test .taken) in
+    rw (toZ-ofZ w64 (getD ts (l .i) (pos 0)) (time-fits _ ok)) ok
 
 answered-requires : tie.Need-answered-requires Inv-loop μ-loop
 answered-requires c κs = search needs
@@ -50,13 +54,21 @@ loop-less : tie.Need-loop-less Inv-loop μ-loop
 loop-less c = search needs
 
 loop-again : tie.Need-loop-again Inv-loop μ-loop
-loop-again c = let ts = now (c .before .before .before .before .before .before .args .ts) in let l = c .before .before .before .before .loop in let ok = in-order-at ts (l .i) (c .before .before .before .before .before .before .pre .0) (c .before .before .before .loop-test .taken) in let e = rw (toZ-ofZ w64 (getD ts (l .i) (pos 0)) (time-fits _ ok)) at (c .before .value-at .ensures) in (search needs, simp length-set (l .inv .1), rw (c .answered .ensures, e) (sym (sets-here (drawnAt (c .before .before .before .before .before .before .args .line)) (l .out) ts (l .i) (pos 0) (c .before .before .before .loop-test .taken)) ∙ l .inv .2))
+loop-again c =
+    let ts = now (c .before .before .before .before .before .before .args .ts) in
+    let l = c .before .before .before .before .loop in
+    let ok = in-order-at ts (l .i) (c .before .before .before .before .before .before .pre .0) (c .before .before .before .loop-test .taken) in
+    let e = rw (toZ-ofZ w64 (getD ts (l .i) (pos 0)) (time-fits _ ok)) at (c .before .value-at .ensures) in
+    (search needs, simp length-set (l .inv .1), rw (c .answered .ensures, e) (sym (sets-here (drawnAt (c .before .before .before .before .before .before .args .line)) (l .out) ts (l .i) (pos 0) (c .before .before .before .loop-test .taken)) ∙ l .inv .2))
 
 same-length : tie.Need-same-length Inv-loop μ-loop
 same-length c = search needs
 
 returns : tie.Need-returns Inv-loop μ-loop
-returns c = let l = c .before .loop in let ts = now (c .before .before .before .args .ts) in sym (sets-done (drawnAt (c .before .before .before .args .line)) (l .out) ts (l .i) (omega arith)) ∙ l .inv .2 ∙ sets-drawn (c .before .before .before .args .line) ts (now (c .before .before .before .args .out)) (c .before .before .before .pre .1)
+returns c =
+    let l = c .before .loop in
+    let ts = now (c .before .before .before .args .ts) in
+    sym (sets-done (drawnAt (c .before .before .before .args .line)) (l .out) ts (l .i) (omega arith)) ∙ l .inv .2 ∙ sets-drawn (c .before .before .before .args .line) ts (now (c .before .before .before .args .out)) (c .before .before .before .pre .1)
 
 pub draw-spec : {M : Type 1} → statement M
 draw-spec =

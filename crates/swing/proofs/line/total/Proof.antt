@@ -33,7 +33,11 @@ shared-slice-copy-out-t : tie.Need-shared-slice-copy-out-t Inv-loop μ-loop
 shared-slice-copy-out-t c = search needs
 
 value-at-requires : tie.Need-value-at-requires Inv-loop μ-loop
-value-at-requires c κs = let ts = now (c .before .before .before .args .ts) in let l = c .before .before .loop in let ok = in-order-at ts (l .i) (c .before .before .before .pre) (c .before .loop-test .taken) in rw (toZ-ofZ w64 (getD ts (l .i) (pos 0)) (time-fits _ ok)) ok
+value-at-requires c κs =
+    let ts = now (c .before .before .before .args .ts) in
+    let l = c .before .before .loop in
+    let ok = in-order-at ts (l .i) (c .before .before .before .pre) (c .before .loop-test .taken) in
+    rw (toZ-ofZ w64 (getD ts (l .i) (pos 0)) (time-fits _ ok)) ok
 
 add-i : tie.Need-add-i Inv-loop μ-loop
 add-i c = search needs
@@ -42,10 +46,17 @@ loop-less : tie.Need-loop-less Inv-loop μ-loop
 loop-less c = search needs
 
 loop-again : tie.Need-loop-again Inv-loop μ-loop
-loop-again c = let ts = now (c .before .before .before .before .args .ts) in let l = c .before .before .before .loop in let ok = in-order-at ts (l .i) (c .before .before .before .before .pre) (c .before .before .loop-test .taken) in let e = rw (toZ-ofZ w64 (getD ts (l .i) (pos 0)) (time-fits _ ok)) at (c .value-at .ensures) in (search needs, rw e (sym (sum-here (l .sum) (c .before .before .before .before .args .line) ts (l .i) (c .before .before .loop-test .taken)) ∙ l .inv .1))
+loop-again c =
+    let ts = now (c .before .before .before .before .args .ts) in
+    let l = c .before .before .before .loop in
+    let ok = in-order-at ts (l .i) (c .before .before .before .before .pre) (c .before .before .loop-test .taken) in
+    let e = rw (toZ-ofZ w64 (getD ts (l .i) (pos 0)) (time-fits _ ok)) at (c .value-at .ensures) in
+    (search needs, rw e (sym (sum-here (l .sum) (c .before .before .before .before .args .line) ts (l .i) (c .before .before .loop-test .taken)) ∙ l .inv .1))
 
 returns : tie.Need-returns Inv-loop μ-loop
-returns c = let l = c .before .loop in sym (sum-done (l .sum) (c .before .before .args .line) (now (c .before .before .args .ts)) (l .i) (omega arith)) ∙ l .inv .1
+returns c =
+    let l = c .before .loop in
+    sym (sum-done (l .sum) (c .before .before .args .line) (now (c .before .before .args .ts)) (l .i) (omega arith)) ∙ l .inv .1
 
 pub total-spec : {M : Type 1} → statement M
 total-spec =

@@ -34,13 +34,26 @@ allowed-requires : tie.Need-allowed-requires Inv-loop μ-loop
 allowed-requires c κs = search needs
 
 returns : tie.Need-returns Inv-loop μ-loop
-returns c = let ts = now (c .before .before .before .before .before .args .ts) in let l = c .before .before .before .before .loop in let h = c .before .before .before .loop-test .taken in let zt = toZ-ofZ w64 (getD ts (l .i) (pos 0)) (search needs) in let ok = rw zt at (c .before .allowed .ensures) in rw (l .inv .1, after-here (toZ w64 (l .last)) ts (l .i) h, ← ok, not-true (c .before .allowed .result) (c .if1 .taken))
+returns c =
+    let ts = now (c .before .before .before .before .before .args .ts) in
+    let l = c .before .before .before .before .loop in
+    let h = c .before .before .before .loop-test .taken in
+    let zt = toZ-ofZ w64 (getD ts (l .i) (pos 0)) (search needs) in
+    let ok = rw zt at (c .before .allowed .ensures) in
+    rw (l .inv .1, after-here (toZ w64 (l .last)) ts (l .i) h, ← ok, not-true (c .before .allowed .result) (c .if1 .taken))
 
 earlier-requires : tie.Need-earlier-requires Inv-loop μ-loop
 earlier-requires c κs = search needs
 
 returns-2 : tie.Need-returns-2 Inv-loop μ-loop
-returns-2 c = let ts = now (c .before .before .before .before .before .before .before .args .ts) in let l = c .before .before .before .before .before .before .loop in let h = c .before .before .before .before .before .loop-test .taken in let zt = toZ-ofZ w64 (getD ts (l .i) (pos 0)) (search needs) in let ok = rw zt at (c .before .before .before .allowed .ensures) in let up = rw zt at (c .before .earlier .ensures) in rw (l .inv .1, after-here (toZ w64 (l .last)) ts (l .i) h, ← ok, not-false (c .before .before .before .allowed .result) (c .before .before .if1 .left), ← up, not-true (c .before .earlier .result) (c .if2 .taken))
+returns-2 c =
+    let ts = now (c .before .before .before .before .before .before .before .args .ts) in
+    let l = c .before .before .before .before .before .before .loop in
+    let h = c .before .before .before .before .before .loop-test .taken in
+    let zt = toZ-ofZ w64 (getD ts (l .i) (pos 0)) (search needs) in
+    let ok = rw zt at (c .before .before .before .allowed .ensures) in
+    let up = rw zt at (c .before .earlier .ensures) in
+    rw (l .inv .1, after-here (toZ w64 (l .last)) ts (l .i) h, ← ok, not-false (c .before .before .before .allowed .result) (c .before .before .if1 .left), ← up, not-true (c .before .earlier .result) (c .if2 .taken))
 
 add-i : tie.Need-add-i Inv-loop μ-loop
 add-i c = search needs
@@ -49,11 +62,21 @@ loop-less : tie.Need-loop-less Inv-loop μ-loop
 loop-less c = search needs
 
 loop-again : tie.Need-loop-again Inv-loop μ-loop
-loop-again c = let ts = now (c .before .before .before .before .before .before .before .args .ts) in let l = c .before .before .before .before .before .before .loop in let h = c .before .before .before .before .before .loop-test .taken in let zt = toZ-ofZ w64 (getD ts (l .i) (pos 0)) (search needs) in let ok = rw zt at (c .before .before .before .allowed .ensures) in let up = rw zt at (c .before .earlier .ensures) in (search needs, rw (zt, l .inv .1, after-here (toZ w64 (l .last)) ts (l .i) h, ← ok, not-false (c .before .before .before .allowed .result) (c .before .before .if1 .left), ← up, not-false (c .before .earlier .result) (c .if2 .left)))
+loop-again c =
+    let ts = now (c .before .before .before .before .before .before .before .args .ts) in
+    let l = c .before .before .before .before .before .before .loop in
+    let h = c .before .before .before .before .before .loop-test .taken in
+    let zt = toZ-ofZ w64 (getD ts (l .i) (pos 0)) (search needs) in
+    let ok = rw zt at (c .before .before .before .allowed .ensures) in
+    let up = rw zt at (c .before .earlier .ensures) in
+    (search needs, rw (zt, l .inv .1, after-here (toZ w64 (l .last)) ts (l .i) h, ← ok, not-false (c .before .before .before .allowed .result) (c .before .before .if1 .left), ← up, not-false (c .before .earlier .result) (c .if2 .left)))
 
 returns-3 : tie.Need-returns-3 Inv-loop μ-loop
 unfolding after
-returns-3 c = let ts = now (c .before .before .args .ts) in let l = c .before .loop in rw (l .inv .1, drop-end ts (l .i) (omega arith))
+returns-3 c =
+    let ts = now (c .before .before .args .ts) in
+    let l = c .before .loop in
+    rw (l .inv .1, drop-end ts (l .i) (omega arith))
 
 pub in-order-spec : {M : Type 1} → statement M
 in-order-spec =
