@@ -59,11 +59,11 @@ answered-requires c κs = search needs
 
 returns : tie.Need-returns
 unfolding sumAnswer
-returns c = when-refused (sumCauses (pointOf (c .before .before .before .before .before .before .args .start-time) (c .before .before .before .before .before .before .args .first-value)) (pointOf (c .before .before .before .before .before .before .args .end-time) (c .before .before .before .before .before .before .args .last-value)) (now (c .before .before .before .before .before .before .args .timestamps))) _ (says (c .before .before .before)) refused _ _ (c .before .r .given .1)
+returns c = when-refused _ _ (says (c .before .before .before)) refused _ _ (c .before .r .given .1)
 
 returns-2 : tie.Need-returns-2
 unfolding sumAnswer
-returns-2 c = rw (c .answered .ensures, c .before .total .ensures, c .before .before .line-through .ensures, start (c .before .before .before .before .before .before .before), end (c .before .before .before .before .before .before)) (when-passed (sumCauses (pointOf (c .before .before .before .before .before .before .before .before .args .start-time) (c .before .before .before .before .before .before .before .before .args .first-value)) (pointOf (c .before .before .before .before .before .before .before .before .args .end-time) (c .before .before .before .before .before .before .before .before .args .last-value)) (now (c .before .before .before .before .before .before .before .before .args .timestamps))) _ (says (c .before .before .before .before .before)) refused _ (c .before .before .before .enum-told .given .1))
+returns-2 c = rw (c .answered .ensures, c .before .total .ensures, c .before .before .line-through .ensures, start (c .before .before .before .before .before .before .before), end (c .before .before .before .before .before .before)) (when-passed _ _ (says (c .before .before .before .before .before)) refused _ (c .before .before .before .enum-told .given .1))
 
 pub sum-over-spec : {M : Type 1} → statement M
 sum-over-spec =

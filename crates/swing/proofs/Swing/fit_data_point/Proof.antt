@@ -47,13 +47,13 @@ returns : tie.Need-returns
 unfolding fitAnswer
 returns c =
     let s = c .before .before .before .before .before .args .self in
-    when-refused (fitCauses s (c .before .before .before .before .before .args .timestamp)) _ (says (c .before .before .before)) (λ (n : ℕ). refusedOn n s) _ _ (c .before .r .given .1)
+    when-refused _ _ (says (c .before .before .before)) (λ (n : ℕ). refusedOn n s) _ _ (c .before .r .given .1)
 
 returns-2 : tie.Need-returns-2
 unfolding fitAnswer
 returns-2 c =
     let s = c .before .before .before .before .before .args .self in
-    c .tried .ensures ∙ rw (point (c .before .before .before .before)) (when-passed (fitCauses s (c .before .before .before .before .before .args .timestamp)) _ (says (c .before .before .before)) (λ (n : ℕ). refusedOn n s) _ (c .before .enum-told .given .1))
+    c .tried .ensures ∙ rw (point (c .before .before .before .before)) (when-passed _ _ (says (c .before .before .before)) (λ (n : ℕ). refusedOn n s) _ (c .before .enum-told .given .1))
 
 pub fit-data-point-spec : {M : Type 1} → statement M
 fit-data-point-spec =
