@@ -11,9 +11,10 @@ use Rattle.models.specs.Calls.{saysVerdict}
 use Rattle.models.specs.Answers.{refused, verdict}
 use Rattle.models.proofs.Judged.{NoneHolds, none-holds, when-passed, when-refused}
 use Rattle.models.proofs.Laws.{and-left, and-right}
-use Rattle.swing.specs.Line.{pointOf}
-use Rattle.swing.specs.Grid.{inTime, gridCauses, gridMemory}
-use Rattle.swing.proofs.Ordered.{start-in-time, end-in-time}
+use Rattle.lines.specs.Line.{pointOf}
+use Rattle.lines.specs.Values.{inTime}
+use Rattle.swing.specs.Grid.{gridCauses, gridMemory}
+use Rattle.lines.proofs.Ordered.{start-in-time, end-in-time}
 use Rattle.swing.proofs.grid.Statement.{statement}
 use Rattle.swing.proofs.grid.Tie as tie
 

@@ -7,7 +7,7 @@ use borrow.Author.Tests.{not-false, ltb-false}
 use Rattle.models.specs.Calls.{saysVerdict}
 use Rattle.models.specs.Answers.{refused, verdict}
 use Rattle.models.proofs.Judged.{NoneHolds, none-holds, when-passed, when-refused}
-use Rattle.swing.specs.Line.{pointOf}
+use Rattle.lines.specs.Line.{pointOf}
 use Rattle.swing.specs.Grid.{averageCauses, averageAnswer}
 use Rattle.swing.proofs.sum_by_average.Statement.{statement}
 use Rattle.swing.proofs.sum_by_average.Tie as tie

@@ -8,7 +8,7 @@ use borrow.Author.Tests.{eqb-false, not-false}
 use Rattle.models.specs.Calls.{saysVerdict}
 use Rattle.models.specs.Answers.{refusedOn, verdict}
 use Rattle.models.proofs.Judged.{NoneHolds, none-holds, when-passed, when-refused}
-use Rattle.swing.specs.Line.{pointOf}
+use Rattle.lines.specs.Line.{pointOf}
 use Rattle.swing.specs.Calls.{fitCauses, fitAnswer}
 use Rattle.swing.proofs.Allowed.{length-below, follows-allowed}
 use Rattle.swing.proofs.Swing.fit_data_point.Statement.{statement}
