@@ -11,7 +11,7 @@ use Rattle.models.specs.Refusals.{number, numbered-number, unsaid, unsaidOn}
 use Rattle.models.specs.Bound.{boundAllowed}
 use Rattle.models.specs.Limits.{mostValues, metadataAllowed, cost}
 use Rattle.models.specs.declared.ErrorBound.{ErrorBound}
-use Rattle.swing.specs.Line.{pointOf}
+use Rattle.lines.specs.Line.{pointOf}
 use Rattle.swing.specs.State.{fresh, usable, timeFollows}
 use Rattle.swing.specs.Step.{tried}
 use Rattle.swing.specs.Model.{Ends, endsOf}
