@@ -1,0 +1,2 @@
+-- The laws that the proofs of `macaque_v` share.
+pub mod Keeping

@@ -1,0 +1,2 @@
+-- What the contracts of `macaque_v` cite.
+pub mod Keep
