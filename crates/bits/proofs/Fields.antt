@@ -1,7 +1,7 @@
 -- The laws of fields: what was put into a field is its value, how fields join and split, and fields at a place of bits. Each once for every width.
 -- Assumes nothing.
 use Prim.Native.Nat.{ℕ, zero, suc, _+_, _-_, _*_, _/_, _%_, _^_, _≤_, _<_}
-use mathlib.Core.Path.{_≡_, refl, sym, ap, ap₂, _∙_, subst}
+use mathlib.Core.Path.{_≡_, refl, sym, ap, ap₂, _∙_}
 use mathlib.Core.Bool.{Bool, true, false, false≢true}
 use mathlib.Core.List.{List, [], _∷_, _++_}
 use native.Mathlib.Nat.{mod-one, mod-lt, zero-add, suc-add, add-suc, add-comm, add-assoc, add-zero, add-mul, mul-assoc, zero-div, zero-mul, zero-lt-suc, lt-of-lt-of-le, pow-succ', mul-add-mod-self-right}
@@ -11,7 +11,7 @@ use lib.ListN.{length, take, drop, replicate, length-append, length-drop, length
 use lib.Seq.{take-at, drop-at, take-add, drop-drop, take-append-le, drop-append-le, length-take-le}
 use lib.Arith.{digits-lt}
 use lib.Pow as Pow
-use lib.Pow.{pow-add, pow-mono, mod-pow-add, mod-mod-pow, shr-shr, shl-shr, shl-lt, high, low}
+use lib.Pow.{pow-pos, pow-add, pow-mono, mod-pow-add, mod-mod-pow, shr-shr, shl-lt, high, low}
 use Rattle.bits.specs.Bits.{bit, digit, field, value, fieldAt, starts}
 
 -- ---- one digit
@@ -70,15 +70,16 @@ unfolding field
 field-zero zero = refl
 field-zero (suc w) = rw (zero-div (2 ^ w), field-zero w)
 
+-- digits of two numbers, put together as one
+pub field-join : (a b h v : ℕ) → v < 2 ^ b → field (a + b) (h * 2 ^ b + v) ≡ field a h ++ field b v
+field-join a b h v hv = field-split a b (h * 2 ^ b + v) ∙ ap₂ (λ (x y : List Bool). x ++ y) (ap (field a) (high h b hv)) (field-low h b v)
+
 -- o digits of k, n of p, and m zeros, put together as one number
 pub field-made : (o n m k p : ℕ) → p < 2 ^ n → field (o + (n + m)) (k * 2 ^ (n + m) + p * 2 ^ m) ≡ field o k ++ (field n p ++ replicate m false)
 field-made o n m k p hp =
-    field-split o (n + m) (k * 2 ^ (n + m) + p * 2 ^ m)
-    ∙ ap₂ (λ (a b : List Bool). a ++ b)
-    (ap (field o) (high k (n + m) (shl-lt n m hp)))
-    (field-low k (n + m) (p * 2 ^ m)
-    ∙ field-split n m (p * 2 ^ m)
-    ∙ ap₂ (λ (a b : List Bool). a ++ b) (ap (field n) (shl-shr p m)) (ap (field m) (sym (add-zero (p * 2 ^ m))) ∙ field-low p m 0 ∙ field-zero m))
+    field-join o (n + m) k (p * 2 ^ m) (shl-lt n m hp)
+    ∙ ap (λ (z : List Bool). field o k ++ z)
+    (ap (field (n + m)) (sym (add-zero (p * 2 ^ m))) ∙ field-join n m p 0 (pow-pos m) ∙ ap (λ (z : List Bool). field n p ++ z) (field-zero m))
 
 -- ---- the value
 

@@ -1,7 +1,7 @@
 -- Puts and cuts in lent bytes: `laidIn` and `cutIn`. What they change, what they keep, and how they follow each other. Assumes nothing.
-use Prim.Native.Nat.{ℕ, zero, suc, _+_, _-_, _*_, _/_, _^_, _≤_, _<_}
-use mathlib.Core.Path.{_≡_, refl, sym, ap, ap₂, _∙_}
-use mathlib.Core.Bool.{Bool, true, false}
+use Prim.Native.Nat.{ℕ, _+_, _-_, _*_, _^_, _≤_, _<_}
+use mathlib.Core.Path.{_≡_, sym, ap, ap₂, _∙_}
+use mathlib.Core.Bool.{Bool}
 use mathlib.Core.List.{List, [], _∷_, _++_, append-nil}
 use native.Mathlib.Nat.{mod-eq-of-lt, add-zero}
 use native.Mathlib.Omega.{arith}
@@ -9,7 +9,7 @@ use lib.ListN.{length, take, drop}
 use lib.Seq.{take-take}
 use Rattle.bits.specs.Bits.{field, value, fieldAt, Below, bitsOf, bytesOf, wholeBytes, up, padded, laid, cutAt, laidIn, cutIn}
 use Rattle.bits.proofs.Fields.{length-field, value-field}
-use Rattle.bits.proofs.Bytes.{length-bitsOf, bits-take, bits-drop, length-bytesOf, bytes-below, bytes-bits, bits-bytes, bytes-take, bytes-drop}
+use Rattle.bits.proofs.Bytes.{length-bitsOf, bits-take, length-bytesOf, bytes-below, bytes-bits, bits-bytes, bytes-take, bytes-drop}
 use Rattle.bits.proofs.Writes.{laid-laid, laid-before, laid-after, length-laid, laid-read, laid-used, cut-whole, cut-before, cut-after, length-cut, cut-used, laid-cut}
 
 -- ---- a put

@@ -1,13 +1,13 @@
 -- What a write at a place leaves of bits: what it changes, what it keeps, and that a write behind a write is one write. Assumes nothing.
-use Prim.Native.Nat.{ℕ, zero, suc, _+_, _-_, _*_, _/_, _≤_, _<_}
-use mathlib.Core.Path.{_≡_, refl, sym, ap, ap₂, _∙_, subst}
-use mathlib.Core.Bool.{Bool, true, false}
+use Prim.Native.Nat.{ℕ, _+_, _-_, _≤_, _<_}
+use mathlib.Core.Path.{_≡_, refl, sym, ap, ap₂, _∙_}
+use mathlib.Core.Bool.{Bool, false}
 use mathlib.Core.List.{List, [], _∷_, _++_, append-assoc, append-nil}
 use native.Mathlib.Nat.{add-zero, add-assoc}
 use native.Mathlib.Omega.{arith}
 use lib.ListN.{length, take, drop, replicate, length-append, length-replicate, length-drop, take-append-drop}
 use lib.Seq.{take-at, drop-at, take-take, drop-drop, take-append-le, length-take-le}
-use Rattle.bits.specs.Bits.{wholeBytes, up, padding, padded, write, laid, cutAt}
+use Rattle.bits.specs.Bits.{up, padding, padded, write, laid, cutAt}
 
 -- ---- the bits b at the place p, and zeros up to e
 

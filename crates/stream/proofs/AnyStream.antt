@@ -1,24 +1,24 @@
 -- Any stream in lent bytes that reading accepts, even one that this writer would not write: reopened at k of its n values it goes on from the first k.
 -- Assumes nothing.
-use mathlib.Core.Path.{_≡_, refl, sym, ap, _∙_, subst}
+use mathlib.Core.Path.{_≡_, sym, ap, _∙_, subst}
 use mathlib.Core.Bool.{Bool, true, false}
-use mathlib.Core.List.{List, [], _∷_, _++_}
-use Prim.Native.Nat.{ℕ, zero, suc, _+_, _*_, _^_, _≤_, _<_}
+use mathlib.Core.List.{List, _++_}
+use Prim.Native.Nat.{ℕ, _+_, _*_, _^_, _≤_, _<_}
 use native.Mathlib.Omega.{arith}
-use lib.ListN.{length, take, drop, replicate, length-append}
+use lib.ListN.{length, take, replicate, length-append}
 use lib.Seq.{length-take-le}
-use Rattle.bits.specs.Bits.{Below, bitsOf, bytesOf, wholeBytes, padding, padded, laidIn, cutIn}
+use Rattle.bits.specs.Bits.{Below, bitsOf, wholeBytes, padding, padded, laidIn, cutIn}
 use Rattle.bits.proofs.Bytes.{length-bitsOf}
 use Rattle.bits.proofs.InBytes.{cutIn-laidIn-used, take-bits}
 use Rattle.stream.specs.Format.{gatherFrom, Stream, State, fresh, mostValues, usable}
-use Rattle.stream.specs.Write.{kept, Keeps, written, wrote}
-use Rattle.stream.specs.Read.{done, readAll, reopened, reopen}
+use Rattle.stream.specs.Write.{kept, Keeps, written, wrote, wroteIn}
+use Rattle.stream.specs.Read.{done, readAll, reopened, reopen, bufferAfter}
 use Rattle.stream.proofs.Formats.{Good}
 use Rattle.stream.proofs.Writing.{fresh-small, place-after}
 use Rattle.stream.proofs.Reading.{Whole, WholeOf, whole}
 use Rattle.stream.proofs.Rule.{RuledIn, fresh-ruled, read-ruled, usable-if}
 use Rattle.stream.proofs.Gathered.{SeenIn, seen-read}
-use Rattle.stream.proofs.Reopen.{Opened, any-opened, goes-on}
+use Rattle.stream.proofs.Reopen.{any-opened, goes-on}
 use Rattle.stream.proofs.Holds.{padded-back}
 
 -- what reopening answers where the first `used` bytes of buf hold a stream of n values that reads as vs
@@ -34,7 +34,7 @@ pub record Resumed {A : Type 0} (rule : ℕ → ℕ → ℕ) (S : Stream A) (l n
   -- cut, and ys written on: the bytes in use read as the first k values and then the newly kept ones
   pub reads : (ys : List ℕ) → Below (S .form .width) ys → (wrote rule S state ys) .place ≤ 8 * length buf
       → readAll S (k + length ys) (fresh S l)
-      (bitsOf (take (wholeBytes ((wrote rule S state ys) .place)) (laidIn (cutIn buf (state .place)) (state .place) (written rule S state ys))))
+      (bitsOf (take (wholeBytes ((wrote rule S state ys) .place)) (wroteIn rule S state ys (bufferAfter (reopened state) buf))))
       ≡ done (take k vs ++ kept rule S state ys) (wrote rule S state ys) (replicate (padding ((wrote rule S state ys) .place)) false)
 
 pub any-resumed : {A : Type 0} (rule : ℕ → ℕ → ℕ) (S : Stream A) → Good (S .form) → Keeps (S .form .width) rule → (l : ℕ) → l < 2 ^ S .form .width

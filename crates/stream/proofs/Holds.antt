@@ -1,15 +1,14 @@
 -- Lent bytes that hold bits from their start, the last byte filled up with zeros: what is put behind the bits, and what a cut leaves of them.
 -- Assumes nothing.
-use mathlib.Core.Path.{_≡_, refl, sym, ap, ap₂, _∙_}
-use mathlib.Core.Bool.{Bool, true, false}
+use mathlib.Core.Path.{_≡_, refl, sym, ap, _∙_}
+use mathlib.Core.Bool.{Bool}
 use mathlib.Core.List.{List, [], _∷_, _++_, append-nil}
-use Prim.Native.Nat.{ℕ, zero, suc, _+_, _*_, _/_, _≤_, _<_}
-use native.Mathlib.Nat.{add-zero}
+use Prim.Native.Nat.{ℕ, _+_, _*_, _≤_}
 use native.Mathlib.Omega.{arith}
-use lib.ListN.{length, take, drop, length-append, length-take}
+use lib.ListN.{length, take, length-append, length-take}
 use lib.Seq.{take-take, take-at}
-use Rattle.bits.specs.Bits.{bitsOf, bytesOf, wholeBytes, up, padded, laid, laidIn, cutIn}
-use Rattle.bits.proofs.Bytes.{length-bitsOf, length-bytesOf, bits-take, bytes-below, bytes-bits, bits-bytes, bytes-take, length-padded, take-padded}
+use Rattle.bits.specs.Bits.{bitsOf, bytesOf, wholeBytes, padded, laid, laidIn, cutIn}
+use Rattle.bits.proofs.Bytes.{length-bitsOf, length-bytesOf, bits-take, bits-bytes, bytes-take, length-padded, take-padded}
 use Rattle.bits.proofs.InBytes.{laidIn-used, cutIn-used, take-bits}
 
 abbrev pub Holds : List ℕ → List Bool → Type 0

@@ -2,14 +2,14 @@
 -- bytes and its state are those of one fresh run. What has it reads back as the kept values, and its state may be used. Assumes nothing.
 use mathlib.Core.Path.{_≡_, refl, sym, ap, _∙_, subst}
 use mathlib.Core.Bool.{Bool, true, false}
-use mathlib.Core.List.{List, [], _∷_, _++_}
-use Prim.Native.Nat.{ℕ, zero, suc, _+_, _*_, _^_, _≤_, _<_}
+use mathlib.Core.List.{List, [], _++_}
+use Prim.Native.Nat.{ℕ, _+_, _*_, _^_, _≤_, _<_}
 use native.Mathlib.Omega.{arith}
 use lib.ListN.{length, take, drop, replicate, take-append-drop}
 use Rattle.bits.specs.Bits.{Below, bitsOf, firstBytes, bytesOf, wholeBytes, padding, padded, laidIn, cutIn}
 use Rattle.stream.specs.Format.{Stream, State, fresh, mostValues, usable}
-use Rattle.stream.specs.Write.{lossless, keptFrom, kept, Keeps, encode, after, written, wrote, streamOf}
-use Rattle.stream.specs.Read.{done, readAll, reopened, reopen}
+use Rattle.stream.specs.Write.{lossless, keptFrom, kept, Keeps, encode, after, written, wrote, wroteIn, streamOf}
+use Rattle.stream.specs.Read.{done, readAll, Reopened, reopened, reopen, bufferAfter}
 use Rattle.stream.specs.Made.{Made}
 use Rattle.stream.proofs.Formats.{Good}
 use Rattle.stream.proofs.Writing.{fresh-small, place-after, count-after, length-kept, kept-below, written-append, wrote-append, kept-lossless, lossless-keeps}
@@ -38,7 +38,7 @@ module _ {A : Type 0} (rule : ℕ → ℕ → ℕ) (S : Stream A) (l : ℕ) wher
 
     -- any list that there is room for, the empty one too
     pub made-write : (ys : List ℕ) → (wrote rule S s ys) .place ≤ 8 * length buf
-        → Made rule S l (xs ++ ys) (laidIn buf (s .place) (written rule S s ys)) (wrote rule S s ys)
+        → Made rule S l (xs ++ ys) (wroteIn rule S s ys buf) (wrote rule S s ys)
     made-write ys room =
         let f : State A = fresh S l in
         let W : List Bool = written rule S f xs in
@@ -74,18 +74,21 @@ module _ {A : Type 0} (rule : ℕ → ℕ → ℕ) (S : Stream A) (l : ℕ) wher
       -- reopened at k: the state after the first k inputs, and the cut bytes are made of these
       pub made-reopen : (k : ℕ) → k ≤ length xs
           → (reopen S (length xs) k (fresh S l) (bitsOf (take (wholeBytes (s .place)) buf)) ≡ reopened (wrote rule S (fresh S l) (take k xs)))
-          × Made rule S l (take k xs) (cutIn buf ((wrote rule S (fresh S l) (take k xs)) .place)) (wrote rule S (fresh S l) (take k xs))
+          × Made rule S l (take k xs) (bufferAfter (reopen S (length xs) k (fresh S l) (bitsOf (take (wholeBytes (s .place)) buf))) buf) (wrote rule S (fresh S l) (take k xs))
       made-reopen k le =
           let f : State A = fresh S l in
           let m : State A = wrote rule S f (take k xs) in
           let E : List Bool = written rule S f (take k xs) in
           let D : List Bool = written rule S m (drop k xs) in
-          let parts : written rule S f xs ≡ E ++ D = ap (written rule S f) (sym (take-append-drop k xs)) ∙ written-append S rule f (take k xs) (drop k xs) in (
-            ap (reopen S (length xs) k f) whole ∙ fresh-reopen S good l hl rule K xs bx k le,
+          let parts : written rule S f xs ≡ E ++ D = ap (written rule S f) (sym (take-append-drop k xs)) ∙ written-append S rule f (take k xs) (drop k xs) in
+          let opens : reopen S (length xs) k f (bitsOf (take (wholeBytes (s .place)) buf)) ≡ reopened m =
+          ap (reopen S (length xs) k f) whole ∙ fresh-reopen S good l hl rule K xs bx k le in (
+            opens,
             record {
               state = refl;
               bytes =
-                  ap (λ (n : ℕ). take (wholeBytes n) (cutIn buf n)) (ends-at (take k xs) m refl)
+                  ap (λ (q : Reopened A). take (wholeBytes (m .place)) (bufferAfter q buf)) opens
+                  ∙ ap (λ (n : ℕ). take (wholeBytes n) (cutIn buf n)) (ends-at (take k xs) m refl)
                   ∙ holds-cut buf (written rule S f xs) holds E D parts;
             },
           )

@@ -1,0 +1,145 @@
+-- The promises of the stream, in one place and in bytes: start reading here. Each is proved in the module it cites, over any good format, any rule of
+-- what is kept and anything that a state gathers. MacaqueV is the format `macaque`. Assumes nothing.
+use mathlib.Core.Path.{_≡_, refl, sym, ap, ap₂, _∙_}
+use mathlib.Core.Bool.{Bool, true, false}
+use mathlib.Core.List.{List, [], _++_, append-nil}
+use Prim.Native.Nat.{ℕ, _+_, _*_, _^_, _≤_, _<_}
+use native.Mathlib.Nat.{add-zero}
+use native.Mathlib.Omega.{arith}
+use lib.ListN.{length, take, drop, replicate}
+use Rattle.bits.specs.Bits.{Below, bitsOf, wholeBytes, up, padding, padded, laidIn, cutIn}
+use Rattle.bits.proofs.Bytes.{length-bitsOf}
+use Rattle.bits.proofs.Writes.{laid-used, cut-used}
+use Rattle.bits.proofs.InBytes.{bits-laidIn, length-laidIn, laidIn-nothing, laidIn-before, laidIn-after, bits-cutIn, length-cutIn, cutIn-before, cutIn-after}
+use Rattle.stream.specs.Format.{macaque, gorilla, Gather, gatherFrom, withFirst, withoutFirst, Stream, macaqueOf, State, fresh, mostValues, usable}
+use Rattle.stream.specs.Write.{lossless, kept, Keeps, wrote, wroteIn}
+use Rattle.stream.specs.Read.{done, readAll, Reopened, reopened, reopen, bufferAfter}
+use Rattle.stream.specs.Made.{Made}
+use Rattle.stream.specs.Cases.{cases, AllRight}
+use Rattle.stream.proofs.Formats.{Good, macaque-good, gorilla-good}
+use Rattle.stream.proofs.Writing.{place-after}
+use Rattle.stream.proofs.Rule.{wrote-usable}
+use Rattle.stream.proofs.Gathered.{seen-after}
+use Rattle.stream.proofs.Made as spine
+use Rattle.stream.proofs.AnyStream.{Resumed, any-resumed}
+use Rattle.stream.proofs.Marked.{marked}
+
+-- ---- demand 2: what was written reads back. And demand 3: a stream that is stopped and resumed is the stream of one fresh run.
+
+module _ {A : Type 0} (rule : ℕ → ℕ → ℕ) (S : Stream A) (l : ℕ) where
+  -- a fresh writer has written nothing, whatever the buffer holds
+  pub a-fresh-writer : (buf : List ℕ) → Made rule S l [] buf (fresh S l)
+  a-fresh-writer = spine.made-fresh rule S l
+
+  module _ {xs buf : List ℕ} {s : State A} (M : Made rule S l xs buf s) where
+    -- a write that there is room for makes the stream of both lists; an empty one too
+    pub a-write-goes-on : (ys : List ℕ) → (wrote rule S s ys) .place ≤ 8 * length buf
+        → Made rule S l (xs ++ ys) (wroteIn rule S s ys buf) (wrote rule S s ys)
+    a-write-goes-on = spine.made-write rule S l M
+
+    module _ (good : Good (S .form)) (K : Keeps (S .form .width) rule) (hl : l < 2 ^ S .form .width) (bx : Below (S .form .width) xs) where
+      -- the bytes in use read back as exactly the kept values, and reading ends in the writer's own state
+      pub reads-back : readAll S (length xs) (fresh S l) (bitsOf (take (wholeBytes (s .place)) buf))
+          ≡ done (kept rule S (fresh S l) xs) s (replicate (padding (s .place)) false)
+      reads-back = spine.made-read rule S l M good K hl bx
+
+      -- reopening at any k from 0 to n answers the writer's state after the first k inputs, and leaves bytes made of these
+      pub reopening-goes-back : (k : ℕ) → k ≤ length xs
+          → (reopen S (length xs) k (fresh S l) (bitsOf (take (wholeBytes (s .place)) buf)) ≡ reopened (wrote rule S (fresh S l) (take k xs)))
+          × Made rule S l (take k xs) (bufferAfter (reopen S (length xs) k (fresh S l) (bitsOf (take (wholeBytes (s .place)) buf))) buf) (wrote rule S (fresh S l) (take k xs))
+      reopening-goes-back = spine.made-reopen rule S l M good K hl bx
+
+      -- so reopening at k and writing ys leaves the bytes and the state of one fresh run over the first k inputs and ys
+      pub resumed-as-one-run : (k : ℕ) → k ≤ length xs → (ys : List ℕ) → (wrote rule S (wrote rule S (fresh S l) (take k xs)) ys) .place ≤ 8 * length buf
+          → Made rule S l (take k xs ++ ys)
+          (wroteIn rule S (wrote rule S (fresh S l) (take k xs)) ys (bufferAfter (reopen S (length xs) k (fresh S l) (bitsOf (take (wholeBytes (s .place)) buf))) buf))
+          (wrote rule S (wrote rule S (fresh S l) (take k xs)) ys)
+      resumed-as-one-run k le ys room =
+          let m : State A = wrote rule S (fresh S l) (take k xs) in
+          let back = reopening-goes-back k le in
+          let within : m .place ≤ 8 * length buf = omega (arith, place-after S m (kept rule S m ys)) in
+          let long = ap (λ (q : Reopened A). length (bufferAfter q buf)) (back .0) ∙ length-cutIn buf (m .place) within in
+          spine.made-write rule S l (back .1) ys (omega (arith, long))
+
+      -- such a state may be used, so that a write is never refused for it
+      pub its-state-may-be-used : length xs ≤ mostValues → usable (S .form) (length buf) s ≡ true
+      its-state-may-be-used = spine.made-usable rule S l M good K hl bx
+
+-- an accepted write hands back a state that may be used, from any state that may, handed in or made
+pub a-write-hands-back-a-usable-state : {A : Type 0} (rule : ℕ → ℕ → ℕ) (S : Stream A) → Good (S .form) → Keeps (S .form .width) rule
+    → (bytes : ℕ) (s : State A) (xs : List ℕ) → usable (S .form) bytes s ≡ true → s .last < 2 ^ S .form .width → Below (S .form .width) xs
+    → s .count + length xs ≤ mostValues → (wrote rule S s xs) .place ≤ 8 * bytes → usable (S .form) bytes (wrote rule S s xs) ≡ true
+a-write-hands-back-a-usable-state = wrote-usable
+
+-- "Lossless keeps the input": a lossless stream reads back as the inputs
+pub lossless-reads-back : {A : Type 0} (S : Stream A) (l : ℕ) {xs buf : List ℕ} {s : State A} → Made lossless S l xs buf s
+    → Good (S .form) → l < 2 ^ S .form .width → Below (S .form .width) xs
+    → readAll S (length xs) (fresh S l) (bitsOf (take (wholeBytes (s .place)) buf)) ≡ done xs s (replicate (padding (s .place)) false)
+lossless-reads-back = spine.made-read-lossless
+
+-- "A fresh with-first state holds +0 as its last value", and without a first value it holds the opening value
+pub with-first-opens-on-zero : {A : Type 0} (G : Gather A) (l : ℕ) → (fresh (macaqueOf withFirst G) l) .last ≡ 0
+with-first-opens-on-zero G l = refl
+
+pub without-first-opens-on-the-value : {A : Type 0} (G : Gather A) (l : ℕ) → (fresh (macaqueOf withoutFirst G) l) .last ≡ l
+without-first-opens-on-the-value G l = refl
+
+-- "Minimum and maximum start fresh and take in each kept value from the left, the raw first one too, and never an input that was not kept"
+pub gathers-over-the-kept-values : {A : Type 0} (rule : ℕ → ℕ → ℕ) (S : Stream A) (s : State A) (xs : List ℕ)
+    → (wrote rule S s xs) .seen ≡ gatherFrom (S .gather) (S .mode) (s .count) (s .seen) (kept rule S s xs)
+gathers-over-the-kept-values rule S s xs = seen-after S s (kept rule S s xs)
+
+-- ---- "On any accepted stream, even one this writer would not write, reopening at k and writing reads back as the first k values and then the newly
+-- kept ones": `Resumed` names the state, that it may be used, where it stands, what it gathered, and the reading after any write
+
+pub any-stream-resumes : {A : Type 0} (rule : ℕ → ℕ → ℕ) (S : Stream A) → Good (S .form) → Keeps (S .form .width) rule → (l : ℕ) → l < 2 ^ S .form .width
+    → (n k used : ℕ) (buf : List ℕ) → k ≤ n → n ≤ mostValues → used ≤ length buf → (vs : List ℕ) (t : State A) (r : List Bool)
+    → readAll S n (fresh S l) (bitsOf (take used buf)) ≡ done vs t r → Resumed rule S l n k used buf vs
+any-stream-resumes = any-resumed
+
+-- ---- what the calls do to lent bytes
+
+-- the bits before p stay, `new` follows them, then zeros to the end of the byte, and the bytes behind stay
+pub record Rewritten (old now : List ℕ) (p : ℕ) (new : List Bool) : Type 0 where
+  pub long : length now ≡ length old
+  pub before : take p (bitsOf now) ≡ take p (bitsOf old)
+  pub filled : take (up (p + length new)) (bitsOf now) ≡ padded (take p (bitsOf old) ++ new)
+  pub behind : drop (wholeBytes (p + length new)) now ≡ drop (wholeBytes (p + length new)) old
+
+-- "An accepted write of one value or more keeps every bit before the place, and zeroes the rest of its last byte; later bytes stay."
+pub a-write-changes-only-its-bytes : (buf : List ℕ) (p : ℕ) (new : List Bool) → Below 8 buf → p + length new ≤ 8 * length buf → 0 < length new
+    → Rewritten buf (laidIn buf p new) p new
+a-write-changes-only-its-bytes buf p new small room some =
+    record {
+      long = length-laidIn buf p new room;
+      before = laidIn-before buf p new room p (omega arith);
+      filled = ap (take (up (p + length new))) (bits-laidIn buf p new room) ∙ laid-used (bitsOf buf) p new (omega (arith, length-bitsOf buf)) some;
+      behind = laidIn-after buf p new room (wholeBytes (p + length new)) (omega arith) (omega arith) small;
+    }
+
+-- "An empty write changes nothing."
+pub an-empty-write-changes-nothing : (buf : List ℕ) (p : ℕ) → Below 8 buf → laidIn buf p [] ≡ buf
+an-empty-write-changes-nothing = laidIn-nothing
+
+-- Reopening "zeroes the bits after the bit place of k in a byte that this cuts, and nothing else."
+pub reopening-changes-only-the-cut-bits : (buf : List ℕ) (p : ℕ) → Below 8 buf → p ≤ 8 * length buf → Rewritten buf (cutIn buf p) p []
+reopening-changes-only-the-cut-bits buf p small room =
+    record {
+      long = length-cutIn buf p room;
+      before = cutIn-before buf p room p (omega arith);
+      filled =
+          ap₂ (λ (n : ℕ) (z : List Bool). take (up n) z) (add-zero p) (bits-cutIn buf p room) ∙ cut-used (bitsOf buf) p (omega (arith, length-bitsOf buf))
+          ∙ ap padded (sym (append-nil (take p (bitsOf buf))));
+      behind = cutIn-after buf p room (wholeBytes (p + 0)) (omega arith) (omega arith) small;
+    }
+
+-- ---- the marked cases a to l, as one table, and the formats
+
+pub the-marked-cases : AllRight cases
+the-marked-cases = marked
+
+pub macaque-is-good : Good macaque
+macaque-is-good = macaque-good
+
+pub gorilla-is-good : Good gorilla
+gorilla-is-good = gorilla-good
