@@ -1,2 +1,3 @@
 -- The laws that the proofs of `macaque_v` share.
 pub mod Keeping
+pub mod Coding

@@ -1,2 +1,4 @@
 -- What the contracts of `macaque_v` cite.
 pub mod Keep
+pub mod State
+pub mod Code

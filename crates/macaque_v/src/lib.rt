@@ -1,3 +1,29 @@
 // MacaqueV: a stream of values, each coded by how it differs from the last one that was kept.
 
+pub mod code;
 pub mod keep;
+
+use models::ErrorBound;
+
+// How a stream opens: its first value is stored in full, or it goes on from a given value.
+pub enum Opening {
+    First,
+    On(u32),
+}
+
+// What the writer knows of the stream behind it.
+pub struct MacaqueV {
+    pub error_bound: ErrorBound,
+    // The least and the greatest value kept.
+    pub min_value: u32,
+    pub max_value: u32,
+    pub last_value: u32,
+    // The window that the last new one set.
+    pub last_leading_zero_bits: u32,
+    pub last_trailing_zero_bits: u32,
+    // Whether the first value is stored in full.
+    pub with_first: bool,
+    // How many bits are written, and how many values.
+    pub place: usize,
+    pub length: usize,
+}
