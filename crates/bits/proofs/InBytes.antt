@@ -56,7 +56,15 @@ module _ (l : List ℕ) (p : ℕ) (b : List Bool) (room : p + length b ≤ 8 * l
   pub laidIn-before : (q : ℕ) → q ≤ p → take q (bitsOf (laidIn l p b)) ≡ take q (bitsOf l)
   laidIn-before q h = ap (take q) bits-laidIn ∙ laid-before (bitsOf l) p b inside q h
 
-  -- and the bytes behind the last that is touched
+  -- so do the bytes before it, and those behind the last that is touched
+  pub laidIn-front : (q : ℕ) → 8 * q ≤ p → Below 8 l → take q (laidIn l p b) ≡ take q l
+  unfolding laidIn
+  laidIn-front q h small =
+      sym (bytes-take (length l) q (laid (bitsOf l) p b) laid-long (omega arith))
+      ∙ ap bytesOf (laid-before (bitsOf l) p b inside (8 * q) h)
+      ∙ bytes-take (length l) q (bitsOf l) (length-bitsOf l) (omega arith)
+      ∙ ap (take q) (bytes-bits l small)
+
   pub laidIn-after : (q : ℕ) → wholeBytes (p + length b) ≤ q → q ≤ length l → Below 8 l → drop q (laidIn l p b) ≡ drop q l
   unfolding laidIn
   laidIn-after q h le small =
@@ -113,6 +121,14 @@ module _ (l : List ℕ) (p : ℕ) (room : p ≤ 8 * length l) where
 
   pub cutIn-before : (q : ℕ) → q ≤ p → take q (bitsOf (cutIn l p)) ≡ take q (bitsOf l)
   cutIn-before q h = ap (take q) bits-cutIn ∙ cut-before (bitsOf l) p cut-inside q h
+
+  pub cutIn-front : (q : ℕ) → 8 * q ≤ p → Below 8 l → take q (cutIn l p) ≡ take q l
+  unfolding cutIn
+  cutIn-front q h small =
+      sym (bytes-take (length l) q (cutAt (bitsOf l) p) cut-long (omega arith))
+      ∙ ap bytesOf (cut-before (bitsOf l) p cut-inside (8 * q) h)
+      ∙ bytes-take (length l) q (bitsOf l) (length-bitsOf l) (omega arith)
+      ∙ ap (take q) (bytes-bits l small)
 
   pub cutIn-after : (q : ℕ) → wholeBytes p ≤ q → q ≤ length l → Below 8 l → drop q (cutIn l p) ≡ drop q l
   unfolding cutIn
