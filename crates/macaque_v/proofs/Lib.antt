@@ -1,3 +1,5 @@
 -- The laws that the proofs of `macaque_v` share.
 pub mod Keeping
 pub mod Coding
+pub mod Stepping
+pub mod Writing

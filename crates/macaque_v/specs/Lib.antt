@@ -2,3 +2,4 @@
 pub mod Keep
 pub mod State
 pub mod Code
+pub mod Write

@@ -2,6 +2,7 @@
 
 pub mod code;
 pub mod keep;
+mod write;
 
 use models::ErrorBound;
 
