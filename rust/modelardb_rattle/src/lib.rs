@@ -1,0 +1,28 @@
+//! ModelarDB's compression core, proved in Rattle, behind safe Rust: the Rust's own names over the
+//! proved static library. A call answers its values, or a [`Refusal`] that says what was wrong.
+//!
+//! Values are f32. Where a NaN's payload matters, a call on the value's bits stands beside the call
+//! on floats.
+//!
+//! ```
+//! use modelardb_rattle::{ErrorBound, Refusal, is_value_within_error_bound};
+//!
+//! let bound = ErrorBound::Absolute(0.5);
+//! assert_eq!(is_value_within_error_bound(bound, 20.0, 20.5), Ok(true));
+//! assert_eq!(is_value_within_error_bound(bound, 20.0, 20.6), Ok(false));
+//!
+//! let refused = is_value_within_error_bound(ErrorBound::Relative(101.0), 1.0, 1.0);
+//! assert_eq!(refused, Err(Refusal::BoundNotAllowed));
+//! ```
+
+mod ffi;
+pub mod models;
+pub mod numbers;
+mod refusal;
+
+pub use models::{
+    ErrorBound, is_value_within_error_bound, is_value_within_error_bound_bits,
+    maximum_allowed_deviation, maximum_allowed_deviation_bits,
+};
+pub use numbers::{narrow, narrow_bits, widen, widen_bits};
+pub use refusal::Refusal;

@@ -1,0 +1,109 @@
+//! Error bounds and the tests against them.
+
+use crate::Refusal;
+use crate::ffi;
+
+/// How far an approximation may be from the value that it stands for.
+#[derive(Clone, Copy, Debug, PartialEq)]
+pub enum ErrorBound {
+    /// Not at all.
+    Lossless,
+    /// By at most this much: finite and above 0.
+    Absolute(f32),
+    /// By at most this percentage of the value: above 0 and at most 100.
+    Relative(f32),
+}
+
+impl ErrorBound {
+    /// The bound's case as a number, and its bits.
+    fn words(self) -> (u32, u32) {
+        match self {
+            ErrorBound::Lossless => (0, 0),
+            ErrorBound::Absolute(bound) => (1, bound.to_bits()),
+            ErrorBound::Relative(bound) => (2, bound.to_bits()),
+        }
+    }
+}
+
+/// Whether `approximate_value` may stand for `real_value`.
+///
+/// ```
+/// use modelardb_rattle::{ErrorBound, is_value_within_error_bound};
+///
+/// let one_percent = ErrorBound::Relative(1.0);
+/// assert_eq!(is_value_within_error_bound(one_percent, 200.0, 201.0), Ok(true));
+/// assert_eq!(is_value_within_error_bound(one_percent, 200.0, 203.0), Ok(false));
+/// // A NaN may stand for a NaN, whatever the bound.
+/// assert_eq!(is_value_within_error_bound(ErrorBound::Lossless, f32::NAN, f32::NAN), Ok(true));
+/// ```
+pub fn is_value_within_error_bound(
+    error_bound: ErrorBound,
+    real_value: f32,
+    approximate_value: f32,
+) -> Result<bool, Refusal> {
+    let (real, approximate) = (real_value.to_bits(), approximate_value.to_bits());
+    is_value_within_error_bound_bits(error_bound, real, approximate)
+}
+
+/// [`is_value_within_error_bound`] on the values' bits.
+///
+/// ```
+/// use modelardb_rattle::{ErrorBound, is_value_within_error_bound_bits};
+///
+/// let answer = is_value_within_error_bound_bits(ErrorBound::Absolute(1.0), 0x3F80_0000, 0x4000_0000);
+/// assert_eq!(answer, Ok(true));
+/// ```
+pub fn is_value_within_error_bound_bits(
+    error_bound: ErrorBound,
+    real_value: u32,
+    approximate_value: u32,
+) -> Result<bool, Refusal> {
+    let (kind, bound) = error_bound.words();
+    let mut out = [0];
+    let number =
+        ffi::is_value_within_error_bound(kind, bound, real_value, approximate_value, &mut out);
+    Refusal::judge(number)?;
+    Ok(out[0] != 0)
+}
+
+/// How far a line may pass from `value`, in f64.
+///
+/// ```
+/// use modelardb_rattle::{ErrorBound, Refusal, maximum_allowed_deviation};
+///
+/// assert_eq!(maximum_allowed_deviation(ErrorBound::Lossless, 8.0), Ok(0.0));
+/// assert_eq!(maximum_allowed_deviation(ErrorBound::Relative(50.0), -8.0), Ok(4.0));
+/// let refused = maximum_allowed_deviation(ErrorBound::Absolute(0.0), 8.0);
+/// assert_eq!(refused, Err(Refusal::BoundNotAllowed));
+/// ```
+pub fn maximum_allowed_deviation(error_bound: ErrorBound, value: f64) -> Result<f64, Refusal> {
+    maximum_allowed_deviation_bits(error_bound, value.to_bits()).map(f64::from_bits)
+}
+
+/// [`maximum_allowed_deviation`] on the value's bits; a NaN is answered as 7FF8000000000000.
+pub fn maximum_allowed_deviation_bits(error_bound: ErrorBound, value: u64) -> Result<u64, Refusal> {
+    let (kind, bound) = error_bound.words();
+    let mut out = [0];
+    Refusal::judge(ffi::maximum_allowed_deviation(kind, bound, value, &mut out))?;
+    Ok(out[0])
+}
+
+#[cfg(test)]
+mod tests {
+    use super::*;
+
+    #[test]
+    fn words_that_stand_for_no_bound_are_refused() {
+        let mut out = [7];
+        let number = ffi::is_value_within_error_bound(3, 0, 0, 0, &mut out);
+        assert_eq!((number, out), (1, [7]));
+    }
+
+    #[test]
+    fn a_row_too_short_is_refused_after_the_bound() {
+        assert_eq!(ffi::is_value_within_error_bound(0, 0, 0, 0, &mut []), 4);
+        assert_eq!(ffi::is_value_within_error_bound(1, 0, 0, 0, &mut []), 1);
+        assert_eq!(ffi::maximum_allowed_deviation(0, 0, 0, &mut []), 4);
+        assert_eq!(ffi::maximum_allowed_deviation(3, 0, 0, &mut []), 1);
+    }
+}

@@ -1,0 +1,15 @@
+//! What the port is compared with, three ways: [`paper`] is document 01 as a plain program of our
+//! own; `published` is the Rust's own text and `filled` the same with 01's bodies, both built only
+//! where the text is at hand and reached through [`rust`].
+
+pub mod paper;
+pub mod rust;
+
+#[cfg(text_at_hand)]
+mod faults;
+#[cfg(text_at_hand)]
+mod filled;
+#[cfg(text_at_hand)]
+mod published;
+#[cfg(text_at_hand)]
+mod stand_in;

@@ -1,0 +1,195 @@
+//! Inputs: a small seeded generator, special floats, bounds, times and lists of values.
+
+use oracle::paper::macaque_v::Opening;
+use oracle::paper::models::ErrorBound::{self, Absolute, Lossless, Relative};
+
+/// Zeros, ones, ends of ranges, infinities and NaNs: the floats at which rules change.
+pub const SPECIAL: [u32; 36] = [
+    0x0000_0000, // +0
+    0x8000_0000, // -0
+    0x0000_0001, // the least subnormal
+    0x8000_0001,
+    0x007F_FFFF, // the greatest subnormal
+    0x0080_0000, // the least normal
+    0x8080_0000,
+    0x0080_0001,
+    0x0011_1BF2,
+    0x3380_0000, // 2^-24
+    0x3A83_126F, // 0.001
+    0x3DCC_CCCD, // 0.1
+    0x3F00_0000, // 0.5
+    0x3F7F_FFFF, // just under 1
+    0x3F80_0000, // 1
+    0xBF80_0000, // -1
+    0x3F80_0001, // just over 1
+    0x4000_0000, // 2
+    0x4049_0FDB,
+    0x40A0_0000, // 5
+    0x42C7_FFFF, // just under 100
+    0x42C8_0000, // 100
+    0x42C8_0001, // just over 100
+    0xC2C8_0000, // -100
+    0x4B80_0000, // 2^24
+    0x4B80_0001,
+    0x7F00_0000,
+    0x7F7F_FFFF, // the greatest
+    0xFF7F_FFFF,
+    0x7F80_0000, // +infinity
+    0xFF80_0000, // -infinity
+    0x7FC0_0000, // NaN
+    0x7FC0_0001,
+    0x7F80_0001,
+    0xFFC1_2345,
+    0xFFFF_FFFF,
+];
+
+/// A dozen of them, for short lists that are tried exhaustively.
+pub const DOZEN: [u32; 12] = [
+    0x0000_0000,
+    0x8000_0000,
+    0x0000_0001,
+    0x3F80_0000,
+    0x3F80_0001,
+    0x3FC0_0000,
+    0xC000_0000,
+    0x7F7F_FFFF,
+    0x7F80_0000,
+    0x7FC0_0000,
+    0x7FC1_2345,
+    0xFFFF_FFFF,
+];
+
+/// A generator of inputs (splitmix64).
+pub struct Inputs {
+    state: u64,
+}
+
+impl Inputs {
+    pub fn new(seed: u64) -> Self {
+        Self { state: seed }
+    }
+
+    pub fn word(&mut self) -> u64 {
+        self.state = self.state.wrapping_add(0x9E37_79B9_7F4A_7C15);
+        let mut word = self.state;
+        word = (word ^ (word >> 30)).wrapping_mul(0xBF58_476D_1CE4_E5B9);
+        word = (word ^ (word >> 27)).wrapping_mul(0x94D0_49BB_1331_11EB);
+        word ^ (word >> 31)
+    }
+
+    /// A number under `limit`.
+    pub fn below(&mut self, limit: u64) -> u64 {
+        self.word() % limit
+    }
+
+    pub fn flip(&mut self) -> bool {
+        self.below(2) == 0
+    }
+
+    pub fn pick<T: Copy>(&mut self, from: &[T]) -> T {
+        from[self.below(from.len() as u64) as usize]
+    }
+
+    /// A float from 0 up to 1.
+    fn unit(&mut self) -> f64 {
+        self.below(1 << 53) as f64 / (1u64 << 53) as f64
+    }
+
+    /// Any value: a special one, any bits, or an ordinary reading.
+    pub fn value(&mut self) -> u32 {
+        match self.below(4) {
+            0 => self.pick(&SPECIAL),
+            1 => self.word() as u32,
+            _ => self.reading(),
+        }
+    }
+
+    /// An ordinary reading, with two decimals.
+    pub fn reading(&mut self) -> u32 {
+        ((self.below(8000) as f32 - 4000.0) / 100.0).to_bits()
+    }
+
+    /// Any f64: any bits, or what a sum or a slope may hold.
+    pub fn wide(&mut self) -> f64 {
+        match self.below(4) {
+            0 => f64::from_bits(self.word()),
+            1 => f64::from(f32::from_bits(self.value())),
+            2 => (self.unit() - 0.5) * 1e-6,
+            _ => (self.unit() - 0.5) * 1e4,
+        }
+    }
+
+    /// An allowed bound.
+    pub fn bound(&mut self) -> ErrorBound {
+        let bound = match self.below(5) {
+            0 => Lossless,
+            1 => Absolute(self.pick(&[0.01, 0.1, 1.0, 100.0, 3e38, 1e-40])),
+            2 => Relative(self.pick(&[0.01, 0.07, 1.0, 5.0, 99.9, 100.0])),
+            3 => Absolute(f32::from_bits(self.word() as u32 & 0x7FFF_FFFF)),
+            _ => Relative((self.unit() * 100.0) as f32),
+        };
+        if bound.is_allowed() { bound } else { Lossless }
+    }
+
+    /// A bound, one in four not allowed or at an edge.
+    pub fn any_bound(&mut self) -> ErrorBound {
+        match self.below(8) {
+            0 => Absolute(f32::from_bits(self.value())),
+            1 => Relative(f32::from_bits(self.value())),
+            _ => self.bound(),
+        }
+    }
+
+    pub fn opening(&mut self) -> Opening {
+        match self.below(3) {
+            0 => Opening::WithFirst,
+            _ => Opening::On(self.value()),
+        }
+    }
+
+    /// Strictly increasing times within the limits, regular or not.
+    pub fn times(&mut self, count: usize) -> Vec<i64> {
+        let limit = 1i64 << 52;
+        let step = self.pick(&[1, 10, 1000, 60_000_000, 1 << 34]);
+        let regular = self.flip();
+        let room = limit as u64 - count as u64 * step - 1;
+        let mut time = match self.below(4) {
+            0 => 0,
+            1 => -limit,
+            2 => 1_700_000_000_000_000,
+            _ => self.below(room) as i64,
+        };
+        let mut times = vec![];
+        for _ in 0..count {
+            times.push(time);
+            time += if regular {
+                step as i64
+            } else {
+                1 + self.below(step) as i64
+            };
+        }
+        times
+    }
+
+    /// A list of values: constant, a line, steps or a walk with a little noise, or anything.
+    pub fn values(&mut self, count: usize) -> Vec<u32> {
+        let (kind, base) = (self.below(6), self.unit() * 100.0);
+        let (slope, noise) = (self.unit() - 0.5, self.pick(&[0.0, 0.001, 0.1, 2.0]));
+        let mut level = base;
+        let mut values = vec![];
+        for i in 0..count {
+            level += match kind {
+                1 => slope,
+                2 if i % 16 == 0 => 10.0 * slope,
+                3 => slope * (self.unit() - 0.5),
+                _ => 0.0,
+            };
+            values.push(match kind {
+                4 => self.value(),
+                5 if self.below(8) == 0 => self.value(),
+                _ => ((level + noise * (self.unit() - 0.5)) as f32).to_bits(),
+            });
+        }
+        values
+    }
+}

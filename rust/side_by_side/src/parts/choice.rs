@@ -1,0 +1,134 @@
+//! The choice between PMC-Mean and Swing, over lists and over any handed-in builder.
+
+use crate::context::Context;
+use crate::parts::{pmc_mean, swing};
+use oracle::paper::models::ErrorBound::Lossless;
+use oracle::paper::numbers::canonical;
+use oracle::paper::types::{Extremes, Model, ModelBuilder, PMC_MEAN_ID, SWING_ID, choose_model};
+use oracle::rust::Chosen;
+
+pub fn choice(context: &mut Context) {
+    for _ in 0..context.rounds(150_000) {
+        let count = 1 + context.inputs.below(40) as usize;
+        let (times, values) = (context.inputs.times(count), context.inputs.values(count));
+        over_list(context, &times, &values);
+    }
+    for _ in 0..context.rounds(1_000_000) {
+        let (builder, next_time) = any_builder(context);
+        let value = context.inputs.value();
+        let (fits, next) = step(context, builder, next_time, value);
+        let m = 1 + context.inputs.below(65_535) as u32;
+        choose(context, builder, m);
+        if fits {
+            choose(context, next, m);
+        }
+    }
+}
+
+fn over_list(context: &mut Context, times: &[i64], values: &[u32]) {
+    let (bound, m) = (context.inputs.bound(), 1 + context.inputs.below(200) as u32);
+    let mut builder = ModelBuilder::new(bound).expect("an allowed bound");
+    for (&time, &value) in times.iter().zip(values) {
+        let (fits, next) = step(context, builder, time, value);
+        builder = next;
+        if !fits {
+            break;
+        }
+    }
+    choose(context, builder, m);
+    let (whole, stepped) = (choose_model(times, values, bound, m), builder.finish(m));
+    context.same("paper, stepped", whole, stepped, || {
+        format!(
+            "choose_model {:X?} M {m} {times:?} {values:08X?}",
+            bound.row()
+        )
+    });
+}
+
+fn step(
+    context: &mut Context,
+    builder: ModelBuilder,
+    time: i64,
+    value: u32,
+) -> (bool, ModelBuilder) {
+    let answer = builder.try_to_update_models(time, value);
+    let (fits, next) = answer.expect("an allowed step");
+    for rust in context.rust {
+        let (their_fits, theirs) = (rust.builder_step)(builder, time, value);
+        // Listed: the published deviation, and which of two zeros is the minimum.
+        let is_listed = !rust.is_filled() && (builder.swing.error_bound != Lossless || zero(next));
+        let (ours, theirs) = ((fits, next.row()), (their_fits, theirs.row()));
+        context.same_or(is_listed, rust.name, ours, theirs, || {
+            format!("builder {:X?} with {value:08X} at {time}", builder.row())
+        });
+    }
+    (fits, next)
+}
+
+fn zero(builder: ModelBuilder) -> bool {
+    let pmc_mean = builder.pmc_mean;
+    pmc_mean.min_value == 0.0 || pmc_mean.max_value == 0.0 || builder.swing.first_value == 0.0
+}
+
+fn choose(context: &mut Context, builder: ModelBuilder, m: u32) {
+    let Ok(paper) = builder.finish(m) else {
+        return; // Listed: a state of length 0 is chosen from there.
+    };
+    for rust in context.rust {
+        let theirs = with_canonical_extremes((rust.choose)(builder, m));
+        // Listed: PMC is taken for a line that runs off to no finite value; which of two zeros is
+        // the minimum.
+        let runs_off = theirs.id == SWING_ID
+            && paper.id == PMC_MEAN_ID
+            && builder
+                .swing
+                .model()
+                .is_ok_and(|ends| is_finite(ends.0) && !is_finite(ends.1));
+        let is_listed = runs_off || (!rust.is_filled() && zero(builder));
+        context.same_or(is_listed, rust.name, as_chosen(paper), theirs, || {
+            format!("choice of {:X?}, M {m}", builder.row())
+        });
+    }
+}
+
+fn is_finite(bits: u32) -> bool {
+    f32::from_bits(bits).is_finite()
+}
+
+/// What the Rust's choice holds for a model: minimum, maximum, and a byte if it does not rise.
+fn as_chosen(model: Model) -> Chosen {
+    let (first, last) = (model.first_value, model.last_value);
+    let rises = f32::from_bits(first) < f32::from_bits(last);
+    let order_byte = model.id == SWING_ID && !rises;
+    Chosen {
+        id: model.id,
+        length: model.length,
+        last_value: last,
+        bytes_per_value: model.bytes_per_value,
+        extremes: Extremes::of_model(first, last),
+        values: if order_byte { vec![0] } else { vec![] },
+    }
+}
+
+fn with_canonical_extremes(chosen: Chosen) -> Chosen {
+    Chosen {
+        extremes: Extremes {
+            min_value: canonical(chosen.extremes.min_value),
+            max_value: canonical(chosen.extremes.max_value),
+        },
+        ..chosen
+    }
+}
+
+/// A builder of any two states, either of which may have failed.
+fn any_builder(context: &mut Context) -> (ModelBuilder, i64) {
+    let pmc_mean = pmc_mean::any_state(context);
+    let (swing, next_time) = swing::any_state(context);
+    let builder = ModelBuilder {
+        pmc_mean,
+        pmc_mean_could_fit_all: context.inputs.below(4) > 0,
+        swing,
+        swing_could_fit_all: context.inputs.below(4) > 0,
+    };
+    (builder, next_time)
+}

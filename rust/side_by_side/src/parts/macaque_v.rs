@@ -1,0 +1,211 @@
+//! MacaqueV: streams written, read, summed, damaged, stopped and resumed.
+
+use crate::context::Context;
+use crate::inputs::DOZEN;
+use oracle::paper::macaque_v::{self, MacaqueV, Opening};
+use oracle::paper::models::ErrorBound::{self, Absolute, Lossless, Relative};
+use oracle::paper::models::is_value_within_error_bound;
+use oracle::paper::refusal;
+use oracle::paper::types::Extremes;
+use oracle::rust::Stream;
+
+const BOUNDS: [ErrorBound; 6] = [
+    Lossless,
+    Absolute(0.5),
+    Absolute(1e-7),
+    Relative(0.07),
+    Relative(10.0),
+    Relative(100.0),
+];
+
+pub fn streams(context: &mut Context) {
+    let openings = [Opening::WithFirst, Opening::On(0), Opening::On(DOZEN[3])];
+    for list in short_lists(3) {
+        for bound in BOUNDS {
+            for opening in openings {
+                written_and_read(context, bound, opening, &list);
+            }
+        }
+    }
+    for _ in 0..context.rounds(12_000) {
+        let most = context.inputs.pick(&[8, 64, 1000]);
+        let count = context.inputs.below(most + 1) as usize;
+        let values = context.inputs.values(count);
+        let (bound, opening) = (context.inputs.bound(), context.inputs.opening());
+        written_and_read(context, bound, opening, &values);
+    }
+}
+
+/// All lists of the dozen special floats, up to a length.
+fn short_lists(most: usize) -> Vec<Vec<u32>> {
+    let mut lists = vec![vec![]];
+    let mut longest = lists.clone();
+    for _ in 0..most {
+        let longer = |list: &Vec<u32>| DOZEN.map(|value| [&list[..], &[value]].concat());
+        longest = longest.iter().flat_map(longer).collect();
+        lists.extend_from_slice(&longest);
+    }
+    lists
+}
+
+/// The paper's stream of a list, and the state that wrote it.
+fn written(bound: ErrorBound, opening: Opening, values: &[u32]) -> (Vec<u8>, MacaqueV) {
+    let mut buffer = vec![0xFF; 6 * values.len()];
+    let writer = MacaqueV::new(bound, opening).expect("an allowed bound");
+    let writer = writer.compress_values(values, &mut buffer);
+    let writer = writer.expect("room for 45 bits a value");
+    buffer.truncate(writer.place.div_ceil(8));
+    (buffer, writer)
+}
+
+fn written_and_read(context: &mut Context, bound: ErrorBound, opening: Opening, values: &[u32]) {
+    let (bytes, writer) = written(bound, opening, values);
+    let input = || format!("stream {:X?} {opening:X?} {values:08X?}", bound.row());
+    let paper = Stream {
+        bytes: bytes.clone(),
+        extremes: Extremes {
+            min_value: writer.min_value,
+            max_value: writer.max_value,
+        },
+    };
+    for rust in context.rust {
+        let theirs = (rust.write)(bound, &[(opening, values)]);
+        if rust.is_filled() {
+            context.same(rust.name, &paper, &theirs, input);
+        } else {
+            // Listed: rewriting by log2.
+            let is_listed = bound != Lossless;
+            context.same_or(is_listed, rust.name, &paper.bytes, &theirs.bytes, input);
+        }
+    }
+    if bound == Lossless {
+        let read = read(&bytes, values.len(), opening);
+        context.same("the inputs", read, Ok(values.to_vec()), input);
+    }
+    compare_reading(context, &bytes, values.len(), opening);
+}
+
+fn read(bytes: &[u8], count: usize, opening: Opening) -> Result<Vec<u32>, u32> {
+    let mut out = vec![0; count];
+    macaque_v::grid(bytes, count, opening, &mut out).map(|()| out)
+}
+
+/// Reads and sums a stream on all sides. What the paper refuses is listed: 5 faults there; 6 and 7
+/// fault or answer anything; 8 and a count of 0 are answered or fault.
+fn compare_reading(context: &mut Context, bytes: &[u8], count: usize, opening: Opening) {
+    let (paper, sum) = (
+        read(bytes, count, opening),
+        macaque_v::sum(bytes, count, opening),
+    );
+    let input = || format!("reading {bytes:02X?}, {count} values, {opening:X?}");
+    context.same("paper's sum", paper.clone().err(), sum.err(), input);
+    for rust in context.rust {
+        let theirs = (
+            (rust.read)(bytes, count, opening),
+            (rust.sum)(bytes, count, opening),
+        );
+        match paper {
+            _ if count == 0 => {}
+            Ok(ref values) => {
+                let ours = (Some(values.clone()), sum.ok());
+                context.same(rust.name, ours, theirs, input);
+            }
+            Err(refusal::ENDS_EARLY) => context.same(rust.name, (None, None), theirs, input),
+            Err(refusal::LEFTOVER) => {
+                context.same(
+                    rust.name,
+                    without_leftover(bytes, count, opening),
+                    theirs.0,
+                    input,
+                );
+            }
+            Err(_) => {}
+        }
+    }
+}
+
+/// The values that stand before a leftover.
+fn without_leftover(bytes: &[u8], count: usize, opening: Opening) -> Option<Vec<u32>> {
+    let mut reader = macaque_v::Reader::open(bytes, opening);
+    let mut values = vec![];
+    for _ in 0..count {
+        let (row, next) = reader.next_value().ok()?;
+        values.push(row.value);
+        reader = next;
+    }
+    Some(values)
+}
+
+pub fn damaged(context: &mut Context) {
+    for _ in 0..context.rounds(2_500) {
+        let count = 1 + context.inputs.below(12) as usize;
+        let values = context.inputs.values(count);
+        let (bound, opening) = (context.inputs.bound(), context.inputs.opening());
+        let (bytes, _) = written(bound, opening, &values);
+        for place in 0..8 * bytes.len() {
+            let mut flipped = bytes.clone();
+            flipped[place / 8] ^= 128 >> (place % 8);
+            compare_reading(context, &flipped, count, opening);
+        }
+        for dropped in 0..bytes.len() {
+            let rest = [&bytes[..dropped], &bytes[dropped + 1..]].concat();
+            compare_reading(context, &rest, count, opening);
+        }
+        for other in [count - 1, count + 1, count + 8] {
+            compare_reading(context, &bytes, other, opening);
+        }
+    }
+    for _ in 0..context.rounds(150_000) {
+        let length = context.inputs.below(12) as usize;
+        let bytes: Vec<u8> = (0..length).map(|_| context.inputs.word() as u8).collect();
+        let count = context.inputs.below(8) as usize;
+        let opening = context.inputs.opening();
+        compare_reading(context, &bytes, count, opening);
+    }
+}
+
+/// The paper with itself: written in two calls, or reopened at k and written on, a stream is that of
+/// one call, in a buffer that held other bytes.
+pub fn resumed(context: &mut Context) {
+    for _ in 0..context.rounds(10_000) {
+        let count = context.inputs.below(24) as usize;
+        let values = context.inputs.values(count);
+        let (bound, opening) = (context.inputs.bound(), context.inputs.opening());
+        let (bytes, whole) = written(bound, opening, &values);
+        for k in 0..=count {
+            let input = || {
+                format!(
+                    "resumed at {k}: {:X?} {opening:X?} {values:08X?}",
+                    bound.row()
+                )
+            };
+            let (mut buffer, before) = written(bound, opening, &values[..k]);
+            buffer.resize(6 * count, 0xA5);
+            let after = before.compress_values(&values[k..], &mut buffer);
+            context.same("two calls", Ok(whole), after, input);
+            context.same("two calls", &bytes[..], &buffer[..bytes.len()], input);
+
+            let mut buffer = [&bytes[..], &vec![0x5A; 6 * count]].concat();
+            let reopened = MacaqueV::reopen(&mut buffer, bytes.len(), count, k, opening, bound);
+            context.same("reopened", Ok(before), reopened, input);
+            let after = before.compress_values(&values[k..], &mut buffer);
+            context.same("reopened", Ok(whole), after, input);
+            context.same("reopened", &bytes[..], &buffer[..bytes.len()], input);
+        }
+    }
+}
+
+/// The paper with itself: what stays within after more bits are cleared does so after fewer, so that
+/// counting up to the first failure finds the greatest s too.
+pub fn greatest(context: &mut Context) {
+    for _ in 0..context.rounds(2_000_000) {
+        let (bound, input) = (context.inputs.bound(), context.inputs.value());
+        let is_within =
+            |s: &u32| is_value_within_error_bound(bound, input, input >> s << s) == Ok(true);
+        let count = (0..=23).filter(is_within).count();
+        let unbroken = (0..=23).take_while(is_within).count();
+        context.same("counted up", count, unbroken, || {
+            format!("clearing {input:08X} within {:X?}", bound.row())
+        });
+    }
+}

@@ -1,0 +1,35 @@
+//! The parts of the comparison.
+
+mod bounds;
+mod choice;
+mod differences;
+mod macaque_v;
+mod numbers;
+mod parameters;
+mod pmc_mean;
+mod segments;
+mod swing;
+
+use crate::context::Part;
+
+/// Every part, in the order in which they run.
+pub const ALL: &[Part] = &[
+    Part::new("widen", numbers::widen),
+    Part::new("narrow", numbers::narrow),
+    Part::new("within", bounds::within),
+    Part::new("deviation", bounds::deviation),
+    Part::new("PMC-Mean", pmc_mean::pmc_mean),
+    Part::new("Swing", swing::swing),
+    Part::new("Swing's lines", swing::lines),
+    Part::new("choice", choice::choice),
+    Part::new("MacaqueV", macaque_v::streams),
+    Part::new("MacaqueV damaged", macaque_v::damaged),
+    Part::new("MacaqueV resumed", macaque_v::resumed),
+    Part::new("MacaqueV's greatest s", macaque_v::greatest),
+    Part::new("parameter bytes", parameters::parameters),
+    Part::new("segments", segments::segments),
+    Part::new("listed differences", differences::differences),
+];
+
+/// The long one: all 2^32 patterns.
+pub const EVERY_F32: Part = Part::new("widen every f32", numbers::widen_every_f32);
