@@ -3,3 +3,4 @@ pub mod Keeping
 pub mod Coding
 pub mod Stepping
 pub mod Writing
+pub mod Accepting

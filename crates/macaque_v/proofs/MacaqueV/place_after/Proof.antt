@@ -50,7 +50,7 @@ loop-again c =
     let r = c .before .step .result in (
       omega arith,
       next-state (a .self) (a .values .now) (l .i) (omega arith) r
-      (subst (λ (w : MacaqueV). Stepped w (getD (a .values .now) (l .i) 0) r) (l .inv .1) (c .before .step .ensures)),
+          (subst (λ (w : MacaqueV). Stepped w (getD (a .values .now) (l .i) 0) r) (l .inv .1) (c .before .step .ensures)),
     )
 
 returns : tie.Need-returns Inv-loop μ-loop
