@@ -9,7 +9,7 @@ use native.Mathlib.Omega.{arith}
 use borrow.Author.Tests.{leb-true, ltb-false, not-false}
 use lib.Dec.{leb}
 use lib.ListN.{length}
-use Rattle.models.specs.Answers.{Said, Done, answered, refused, Cause, _when_, judge, verdict}
+use Rattle.models.specs.Answers.{Said, Done, answered, refused, SaidOn, answeredOn, refusedOn, Cause, _when_, judge, judgedOn, verdict}
 use Rattle.models.proofs.Judged.{NoneHolds, none-holds}
 use Rattle.stream.specs.Format.{macaque}
 use Rattle.stream.proofs.Formats.{macaque-good}
@@ -58,3 +58,17 @@ accepted m xs buf h =
     let left : bytes ≤ length buf = min-le-left (length buf) (2 ^ 60) in
     let right : bytes ≤ 2 ^ 60 = min-le-right (length buf) (2 ^ 60) in
     (most, omega arith, omega arith)
+
+-- ---- what an accepted answer tells
+
+pub accepted-only : {S A : Type 0} (s : S) (causes : List Cause) (a x : A) → judgedOn s causes a ≡ answeredOn x → (verdict causes ≡ answered tt) × (a ≡ x)
+unfolding judge
+accepted-only s [] a x h = (refl, same a x h)
+  where
+    same : {S A : Type 0} (a x : A) → _≡_ {A = SaidOn S A} (answeredOn a) (answeredOn x) → a ≡ x
+    same a x e = cc
+accepted-only s (n when true ∷ causes) a x h = absurd (apart s n x h)
+  where
+    apart : {S A : Type 0} (s : S) (n : ℕ) (x : A) → _≡_ {A = SaidOn S A} (refusedOn n s) (answeredOn x) → ⊥
+    apart s n x e = let z : _≡_ {A = ℕ} 0 1 = cc in omega arith
+accepted-only s (n when false ∷ causes) a x h = accepted-only s causes a x h

@@ -1,4 +1,5 @@
--- The laws that the proofs of `macaque_v` share.
+-- The theorems about the calls, and the laws that the proofs of `macaque_v` share.
+pub mod Promises
 pub mod Keeping
 pub mod Coding
 pub mod Stepping
