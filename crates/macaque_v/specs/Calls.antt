@@ -14,8 +14,8 @@ use Rattle.stream.specs.Format.{macaque, mostValues, isOpening, leavesABit, usa
 use Rattle.macaque_v.specs.State.{stateOf}
 use Rattle.macaque_v.specs.Write.{writerAt, writtenBy, wroteBy}
 use Rattle.macaque_v.specs.declared.MacaqueV.{MacaqueV}
-use Rattle.macaque_v.specs.declared.write.WriteAnswer.{WriteAnswer}
-use Rattle.macaque_v.specs.declared.write.WriteAnswer.the-variants as OfWrite
+use Rattle.macaque_v.specs.declared.WriteAnswer.{WriteAnswer}
+use Rattle.macaque_v.specs.declared.WriteAnswer.the-variants as OfWrite
 
 -- ---- words
 

@@ -13,6 +13,7 @@ ghost use Rattle.macaque_v.specs.State.{stateOf};
 ghost use Rattle.macaque_v.specs.Write.{writerAt, writtenBy, wroteBy, Stepped};
 ghost use Rattle.macaque_v.specs.Calls.{lentBytes, tooMany, windowUsable, startCauses, writeCauses, saysWrite, writeAnswer, writeMemory};
 use crate::MacaqueV;
+use crate::WriteAnswer;
 use crate::code;
 use crate::keep;
 use models::ErrorBound;
@@ -53,11 +54,6 @@ fn too_many(length: usize, more: usize) -> bool
         return true;
     }
     65536 - more < length
-}
-
-pub enum WriteAnswer {
-    Written(MacaqueV),
-    Refused(Refusal, MacaqueV),
 }
 
 impl MacaqueV {
