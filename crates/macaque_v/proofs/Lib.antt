@@ -3,3 +3,5 @@ pub mod Keeping
 pub mod Coding
 pub mod Stepping
 pub mod Writing
+pub mod ReadingWord
+pub mod ReadingCode

@@ -3,3 +3,4 @@ pub mod Keep
 pub mod State
 pub mod Code
 pub mod Write
+pub mod ReadCode

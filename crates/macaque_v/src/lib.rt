@@ -2,6 +2,7 @@
 
 pub mod code;
 pub mod keep;
+pub mod read_code;
 mod write;
 
 use models::ErrorBound;
