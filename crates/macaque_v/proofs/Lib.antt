@@ -5,3 +5,6 @@ pub mod Stepping
 pub mod Writing
 pub mod ReadingWord
 pub mod ReadingCode
+pub mod ReadingRun
+pub mod ReadingTally
+pub mod ReadingEnd

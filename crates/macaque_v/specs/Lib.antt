@@ -4,3 +4,4 @@ pub mod State
 pub mod Code
 pub mod Write
 pub mod ReadCode
+pub mod ReadRun

@@ -3,6 +3,7 @@
 pub mod code;
 pub mod keep;
 pub mod read_code;
+pub mod read_run;
 mod write;
 
 use models::ErrorBound;
