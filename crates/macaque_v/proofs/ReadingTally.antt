@@ -1,4 +1,4 @@
--- What is taken in over some values and then more. Assumes nothing.
+-- What is taken in over some values and then more, and on the way through a stream. Assumes nothing.
 use mathlib.Core.Path.{_≡_, refl, sym, ap, ap₂, _∙_}
 use mathlib.Core.Bool.{Bool, true, false}
 use mathlib.Core.List.{List, [], _∷_, _++_}
@@ -9,11 +9,13 @@ use native.Mathlib.Omega.{arith}
 use lib.ListN.{length, take, getD}
 use lib.Seq.{take-suc, length-take-le}
 use Rattle.stream.specs.Format.{Gather, Mode, gathered, rawNext, gatherFrom}
-use Rattle.macaque_v.specs.State.{Ends, taken, gatherEnds}
-use Rattle.macaque_v.specs.ReadRun.{gatherSum, endsIn, tallied}
+use Rattle.macaque_v.specs.State.{Ends, taken, gatherEnds, modeOf}
+use Rattle.macaque_v.specs.ReadRun.{Stands, Reads, gatherSum, endsIn, freshTally, withSum, withEnds, tallied, Walked}
 use Rattle.macaque_v.specs.declared.read_run.Aim.{Aim}
 use Rattle.macaque_v.specs.declared.read_run.Aim.the-variants as OfAim
 use Rattle.macaque_v.specs.declared.read_run.Tally.{Tally}
+use Rattle.macaque_v.specs.declared.read_run.Cursor.{Cursor}
+use Rattle.macaque_v.proofs.ReadingRun.{reads-none, reads-then}
 
 module _ {A : Type 0} (G : Gather A) (mode : Mode) where
   pub gather-append : (n : ℕ) (a : A) (us vs : List ℕ) → gatherFrom G mode n a (us ++ vs) ≡ gatherFrom G mode (n + length us) (gatherFrom G mode n a us) vs
@@ -46,5 +48,29 @@ ends-more mode n e vs i h = gather-more gatherEnds mode n e vs i h ∙ go (rawNe
 pub tallied-append : (aim : Aim) (mode : Mode) (n : ℕ) (t : Tally) (us vs : List ℕ)
     → tallied aim mode n t (us ++ vs) ≡ tallied aim mode (n + length us) (tallied aim mode n t us) vs
 tallied-append OfAim.Nothing mode n t us vs = refl
-tallied-append OfAim.Sum mode n t us vs = ap (λ (s : _). record { sum = s; min = t .min; max = t .max }) (gather-append gatherSum mode n (t .sum) us vs)
-tallied-append OfAim.Ends mode n t us vs = ap (λ (e : Ends). record { sum = t .sum; min = e .min; max = e .max }) (gather-append gatherEnds mode n (endsIn t) us vs)
+tallied-append OfAim.Sum mode n t us vs = ap (withSum t) (gather-append gatherSum mode n (t .sum) us vs)
+tallied-append OfAim.Ends mode n t us vs = ap (withEnds t) (gather-append gatherEnds mode n (endsIn t) us vs)
+
+tallied-none : (aim : Aim) (mode : Mode) (n : ℕ) (t : Tally) → t ≡ tallied aim mode n t []
+unfolding gatherFrom
+tallied-none OfAim.Nothing mode n t = refl
+tallied-none OfAim.Sum mode n t = refl
+tallied-none OfAim.Ends mode n t = refl
+
+-- ---- on the way through the values
+
+module _ (first : Bool) (bytes : List ℕ) (from : Cursor) (aim : Aim) where
+  pub walked-none : Stands bytes from → Walked first bytes from 0 aim from freshTally
+  walked-none s = record { values = []; reads = reads-none first bytes from s; taken = tallied-none aim (modeOf first) (from .count) freshTally }
+
+  pub walked-more : (i k : ℕ) (at to : Cursor) (t u : Tally) (vs : List ℕ) → Walked first bytes from i aim at t → Reads first bytes at k vs to
+      → u ≡ tallied aim (modeOf first) (at .count) t vs → Walked first bytes from (i + k) aim to u
+  walked-more i k at to t u vs W R e =
+      let long : at .count ≡ from .count + length (W .values) = omega (arith, W .reads .counted, W .reads .long) in
+      record {
+        values = W .values ++ vs;
+        reads = reads-then first bytes (W .reads) R;
+        taken =
+            e ∙ ap₂ (λ (n : ℕ) (s : Tally). tallied aim (modeOf first) n s vs) long (W .taken)
+            ∙ sym (tallied-append aim (modeOf first) (from .count) freshTally (W .values) vs);
+      }

@@ -1,72 +1,89 @@
+-- `macaque_v::read_run::go_through` meets its contract: the values are read and taken in part by part. Assumes nothing.
+use borrow.Author.Needs.{needs}
+use mathlib.Core.Path.{_≡_, refl, subst}
+use Prim.Native.Nat.{ℕ, _+_, _-_, _≤_}
+use native.Mathlib.Omega.{arith}
+use lib.ListN.{length, take}
+use lib.Ieee.{ofBits}
+use Rattle.macaque_v.specs.ReadRun.{FillSays, Walked}
+use Rattle.macaque_v.specs.declared.read_run.Run.{Run}
+use Rattle.macaque_v.proofs.ReadingRun.{then-stops}
+use Rattle.macaque_v.proofs.ReadingTally.{walked-none, walked-more}
 use Rattle.macaque_v.proofs.read_run.go_through.Statement.{statement}
 use Rattle.macaque_v.proofs.read_run.go_through.Tie as tie
-use Rattle.macaque_v.proofs.read_run.go_through.Reads as reads
-use Rattle.macaque_v.proofs.read_run.go_through.Lts as lts
-use Rattle.macaque_v.proofs.read_run.fill.Reads as fill-reads
-use Rattle.macaque_v.proofs.read_run.least.Reads as least-reads
-use Rattle.macaque_v.proofs.read_run.taken_in.Reads as taken-in-reads
 
 abbrev Inv-loop : tie.InvT-loop
-Inv-loop bytes first n aim values₀ at₀ tally₀ read₀ values at tally read = ?
+Inv-loop bytes first n aim values₀ at₀ tally₀ read₀ values at tally read = (read ≤ n) × (length values ≡ 1024) × Walked first bytes at₀ read aim at tally
 
 abbrev μ-loop : tie.MeasureT-loop
-μ-loop bytes first n aim values₀ at₀ tally₀ read₀ values at tally read = ?
+μ-loop bytes first n aim values₀ at₀ tally₀ read₀ values at tally read = n - read
 
--- src/read_run.rt:122:5
 loop-holds : tie.Need-loop-holds Inv-loop μ-loop
-loop-holds c = ?
+unfolding ofBits
+loop-holds c =
+    let a = c .before .args in
+    (omega arith, refl, walked-none (a .first) (a .bytes .now) (a .from) (a .aim) (c .before .pre .0))
 
--- src/read_run.rt:123:29
 sub-least : tie.Need-sub-least Inv-loop μ-loop
-sub-least c = ?
+sub-least c = search needs
 
--- src/read_run.rt:123:13
 least-requires : tie.Need-least-requires Inv-loop μ-loop
-least-requires c κs = ?
+least-requires c κs = search needs
 
--- src/read_run.rt:124:41
 slice-aggregate-fill : tie.Need-slice-aggregate-fill Inv-loop μ-loop
-slice-aggregate-fill c = ?
+slice-aggregate-fill c = search needs
 
--- src/read_run.rt:124:15
 fill-requires : tie.Need-fill-requires Inv-loop μ-loop
-fill-requires c κs = ?
+fill-requires c κs =
+    let W = c .before .before .before .loop .inv .2 in
+    (W .reads .stands, omega (arith, W .reads .counted), omega arith)
 
--- src/read_run.rt:125:26
 enum-known-r : tie.Need-enum-known-r Inv-loop μ-loop
-enum-known-r c = ?
+enum-known-r c = search needs
 
--- src/read_run.rt:126:17
 returns : tie.Need-returns Inv-loop μ-loop
-returns c = ?
+returns c =
+    let a = c .before .before .before .before .before .before .before .before .before .before .args in
+    let l = c .before .before .before .before .before .before .before .before .loop in
+    let f = c .before .before .before .before .fill in
+    let k = c .before .before .before .before .before .before .least .result in
+    then-stops (a .first) (a .bytes .now) (l .inv .2 .reads) k
+    (subst (λ (q : Run). FillSays (a .first) (a .bytes .now) (l .at) k (l .values) (f .last .1 .1 .1 .1 .0) q) (c .before .r .given .1) (f .ensures)) (a .n) (omega arith)
 
--- src/read_run.rt:128:21
 enum-known-to : tie.Need-enum-known-to Inv-loop μ-loop
-enum-known-to c = ?
+enum-known-to c = search needs
 
--- src/read_run.rt:129:63
 slice-aggregate-taken-in : tie.Need-slice-aggregate-taken-in Inv-loop μ-loop
-slice-aggregate-taken-in c = ?
+slice-aggregate-taken-in c = search needs
 
--- src/read_run.rt:129:17
 taken-in-requires : tie.Need-taken-in-requires Inv-loop μ-loop
-taken-in-requires c κs = ?
+taken-in-requires c κs = (omega (arith, c .before .before .before .before .before .fill .kept .1 .1 .1 .1 .0), omega (arith, c .before .before .before .before .before .before .before .before .before .loop .inv .2 .reads .counted))
 
--- src/read_run.rt:131:17
 add-read : tie.Need-add-read Inv-loop μ-loop
-add-read c = ?
+add-read c = search needs
 
--- src/read_run.rt:122:5
 loop-less : tie.Need-loop-less Inv-loop μ-loop
-loop-less c = ?
+loop-less c = search needs
 
--- src/read_run.rt:122:5
 loop-again : tie.Need-loop-again Inv-loop μ-loop
-loop-again c = ?
+loop-again c =
+    let a = c .before .before .before .before .before .before .before .before .before .before .before .before .args in
+    let l = c .before .before .before .before .before .before .before .before .before .before .loop in
+    let f = c .before .before .before .before .before .before .fill in
+    let k = c .before .before .before .before .before .before .before .before .least .result in
+    let new = f .last .1 .1 .1 .1 .0 in
+    let says = subst (λ (q : Run). FillSays (a .first) (a .bytes .now) (l .at) k (l .values) new q) (c .before .before .before .to .given .1) (f .ensures) in (
+      omega arith,
+      omega (arith, f .kept .1 .1 .1 .1 .0),
+      walked-more (a .first) (a .bytes .now) (a .from) (a .aim) (l .read) k (l .at) (c .before .before .before .to .given .0 .0) (l .tally) (c .taken-in .result) (take k new) (l .inv .2) (says .0) (c .taken-in .ensures),
+    )
 
--- src/read_run.rt:110:1
 returns-2 : tie.Need-returns-2 Inv-loop μ-loop
-returns-2 c = ?
+returns-2 c =
+    let a = c .before .before .before .args in
+    let l = c .before .loop in
+    let e : l .read ≡ a .n = omega arith in
+    subst (λ (n : ℕ). Walked (a .first) (a .bytes .now) (a .from) n (a .aim) (l .at) (l .tally)) e (l .inv .2)
 
 pub go-through-spec : {M : Type 1} → statement M
 go-through-spec =
