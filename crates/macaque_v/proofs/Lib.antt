@@ -1,8 +1,10 @@
--- The laws that the proofs of `macaque_v` share.
+-- The theorems about the calls, and the laws that the proofs of `macaque_v` share.
+pub mod Promises
 pub mod Keeping
 pub mod Coding
 pub mod Stepping
 pub mod Writing
+pub mod Accepting
 pub mod ReadingWord
 pub mod ReadingCode
 pub mod ReadingRun

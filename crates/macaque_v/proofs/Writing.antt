@@ -6,7 +6,7 @@ use Prim.Native.Nat.{ℕ, suc, _+_, _*_, _^_, _≤_, _<_}
 use native.Mathlib.Numerals.{add-one}
 use native.Mathlib.Omega.{arith}
 use lib.ListN.{length, take, drop, getD, length-append, take-append-drop}
-use lib.Seq.{take-suc}
+use lib.Seq.{take-suc, length-take-le}
 use Rattle.bits.specs.Bits.{field, laidIn}
 use Rattle.bits.proofs.Fields.{length-field}
 use Rattle.stream.specs.Format.{Stream, State, isRaw}
@@ -42,6 +42,17 @@ place-grows m xs i =
 -- the writer after the first i values
 abbrev pub afterFirst : MacaqueV → List ℕ → ℕ → MacaqueV
 afterFirst m xs i = writerAt m (wroteBy m (take i xs))
+
+module _ (m : MacaqueV) (xs : List ℕ) (i : ℕ) (h : i ≤ length xs) (at : MacaqueV) (e : at ≡ afterFirst m xs i) where
+  pub after-place : at .place ≡ (wroteBy m (take i xs)) .place
+  after-place = ap (λ (w : MacaqueV). w .place) e
+
+  pub after-length : at .length ≡ m .length + i
+  after-length =
+      ap (λ (w : MacaqueV). w .length) e ∙ written-count m (take i xs) ∙ ap (λ (n : ℕ). m .length + n) (length-take-le i xs h)
+
+  pub after-most : at .place ≤ m .place + 45 * i
+  after-most = omega (arith, after-place, written-place m (take i xs), written-most m (take i xs), length-take-le i xs h)
 
 module _ (m : MacaqueV) (xs : List ℕ) (i : ℕ) (h : i < length xs) (r : Step) (s : Stepped (afterFirst m xs i) (getD xs i 0) r) where
   one-more : take (i + 1) xs ≡ take i xs ++ (getD xs i 0 ∷ [])

@@ -7,6 +7,7 @@ pub mod read_run;
 mod write;
 
 use models::ErrorBound;
+use models::Refusal;
 
 // How a stream opens: its first value is stored in full, or it goes on from a given value.
 pub enum Opening {
@@ -29,4 +30,10 @@ pub struct MacaqueV {
     // How many bits are written, and how many values.
     pub place: usize,
     pub length: usize,
+}
+
+// The state after the values, or a refusal with the state passed in.
+pub enum WriteAnswer {
+    Written(MacaqueV),
+    Refused(Refusal, MacaqueV),
 }

@@ -1,38 +1,65 @@
--- What a verdict on a call's causes tells of everything that the call judges by them: its answer, its state, lent memory. Assumes nothing.
-use mathlib.Core.Path.{_≡_, refl, sym}
-use mathlib.Core.Bool.{true, false}
+-- What a verdict on a call's causes tells of all that the call judges by them: its answer, the state, lent memory. Assumes nothing.
+use mathlib.Core.Path.{_≡_, refl, sym, ap, _∙_}
+use mathlib.Core.Bool.{Bool, true, false, cond}
 use mathlib.Core.List.{List, [], _∷_}
 use Prim.Native.Nat.{ℕ}
 use native.Mathlib.Omega.{arith}
-use Rattle.models.specs.Answers.{Said, Done, answered, refused, Cause, _when_, judge, verdict}
-
--- answered is not refused
-apart : (n : ℕ) → _≡_ {A = Said Done} (refused n) (answered tt) → ⊥
-apart n e = let z : _≡_ {A = ℕ} 0 1 = cc in omega arith
-
-same-number : (n k : ℕ) → _≡_ {A = Said Done} (refused n) (refused k) → n ≡ k
-same-number n k e = cc
+use Rattle.models.specs.Answers.{Said, Done, answered, refused, Cause, _when_, judge, verdict, Stepped, stateAfter, judgedOn}
+use Rattle.models.specs.Refusals.{number}
+use Rattle.models.specs.Calls.{saysVerdict}
+use Rattle.models.specs.declared.Refusal.{Refusal}
+use Rattle.models.specs.declared.Verdict.{Verdict}
+use Rattle.models.specs.declared.Verdict.the-variants.{Passed, Refused}
 
 -- every cause of a list fails
 abbrev pub NoneHolds : List Cause → Type 0
 NoneHolds [] = Done
 NoneHolds (n when holds ∷ causes) = (holds ≡ false) × NoneHolds causes
 
-pub none-holds : (causes : List Cause) → verdict causes ≡ answered tt → NoneHolds causes
+-- ---- by the causes
+apart : (n : ℕ) → _≡_ {A = Said Done} (refused n) (answered tt) → ⊥
+apart n e = let z : _≡_ {A = ℕ} 0 1 = cc in omega arith
+
+same-number : (n k : ℕ) → _≡_ {A = Said Done} (refused n) (refused k) → n ≡ k
+same-number n k e = cc
+
+none : (causes : List Cause) → verdict causes ≡ answered tt → NoneHolds causes
 unfolding judge
-none-holds [] h = tt
-none-holds (n when true ∷ causes) h = absurd (apart n h)
-none-holds (n when false ∷ causes) h = (refl, none-holds causes h)
+none [] h = tt
+none (n when true ∷ causes) h = absurd (apart n h)
+none (n when false ∷ causes) h = (refl, none causes h)
 
-module _ {X : Type 0} (refuse : ℕ → X) (x : X) where
-  pub passed : (causes : List Cause) → verdict causes ≡ answered tt → judge refuse causes x ≡ x
-  unfolding judge
-  passed [] h = refl
-  passed (n when true ∷ causes) h = absurd (apart n h)
-  passed (n when false ∷ causes) h = passed causes h
+accepted : {X : Type 0} (refuse : ℕ → X) (x : X) (causes : List Cause) → NoneHolds causes → x ≡ judge refuse causes x
+unfolding judge
+accepted refuse x [] h = refl
+accepted refuse x (n when holds ∷ causes) h = rw (h .0) (accepted refuse x causes (h .1))
 
-  pub turned-back : (causes : List Cause) (n : ℕ) → verdict causes ≡ refused n → judge refuse causes x ≡ refuse n
+turned-back : {X : Type 0} (refuse : ℕ → X) (x : X) (causes : List Cause) (n : ℕ) → verdict causes ≡ refused n → refuse n ≡ judge refuse causes x
+unfolding judge
+turned-back refuse x [] n h = absurd (apart n (sym h))
+turned-back refuse x (k when true ∷ causes) n h = rw (same-number k n h)
+turned-back refuse x (k when false ∷ causes) n h = turned-back refuse x causes n h
+
+-- ---- by the verdict v that a function gave on them
+module _ (causes : List Cause) (v : Verdict) (says : saysVerdict v ≡ verdict causes) where
+  pub none-holds : v ≡ Passed → NoneHolds causes
+  none-holds e = none causes (sym says ∙ ap saysVerdict e)
+
+  pub when-passed : {X : Type 0} (refuse : ℕ → X) (x : X) → v ≡ Passed → x ≡ judge refuse causes x
+  when-passed refuse x e = accepted refuse x causes (none-holds e)
+
+  pub when-refused : {X : Type 0} (refuse : ℕ → X) (x : X) (r : Refusal) → v ≡ Refused r → refuse (number r) ≡ judge refuse causes x
+  when-refused refuse x r e = turned-back refuse x causes (number r) (sym says ∙ ap saysVerdict e)
+
+-- ---- what a state has, and has after a step that nothing refuses, it has after the call
+module _ {S : Type 0} (P : S → Type 0) where
+  pub after-judging : (s : S) (causes : List Cause) (step : Stepped S) → P s → (NoneHolds causes → P (step .state)) → P (stateAfter (judgedOn s causes step))
   unfolding judge
-  turned-back [] n h = absurd (apart n (sym h))
-  turned-back (k when true ∷ causes) n h = rw (same-number k n h)
-  turned-back (k when false ∷ causes) n h = turned-back causes n h
+  after-judging s [] step p k = k tt
+  after-judging s (n when true ∷ causes) step p k = p
+  after-judging s (n when false ∷ causes) step p k = after-judging s causes step p (λ h. k (refl, h))
+
+  -- a step that goes by a test
+  pub after-test : (test : Bool) (x y : Stepped S) → (test ≡ true → P (x .state)) → (test ≡ false → P (y .state)) → P (cond test x y .state)
+  after-test true x y p q = p refl
+  after-test false x y p q = q refl

@@ -1,6 +1,6 @@
 -- What a call answers, in the paper's terms: its values, or the number of the cause that refuses it. And when a contract allows one result only.
 use mathlib.Core.Path.{_≡_, sym, ap, _∙_}
-use mathlib.Core.Bool.{Bool, cond}
+use mathlib.Core.Bool.{Bool, true, false, cond}
 use mathlib.Core.List.{List, [], _∷_}
 use Prim.Native.Nat.{ℕ}
 
@@ -17,6 +17,13 @@ pub data SaidOn (S A : Type 0) : Type 0 where
 pub record Stepped (S : Type 0) : Type 0 where
   pub fits : Bool
   pub state : S
+
+-- "each step hands the fitted state back", "a failed fit changes nothing"
+abbrev pub fitting : {S : Type 0} → S → Stepped S
+fitting s = record { fits = true; state = s }
+
+abbrev pub failing : {S : Type 0} → S → Stepped S
+failing s = record { fits = false; state = s }
 
 -- the state that a step hands back, also where it is refused
 abbrev pub stateAfter : {S : Type 0} → SaidOn S (Stepped S) → S

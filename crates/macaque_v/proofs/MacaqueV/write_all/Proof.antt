@@ -6,13 +6,13 @@ use mathlib.Core.List.{List}
 use Prim.Native.Nat.{ℕ, _+_, _-_, _*_, _^_, _≤_, _<_}
 use native.Mathlib.Omega.{arith}
 use lib.ListN.{length, take, getD}
-use lib.Seq.{length-take-le, take-all}
+use lib.Seq.{take-all}
 use Rattle.bits.specs.Bits.{field, laidIn}
 use Rattle.bits.proofs.InBytes.{laidIn-nothing, length-laidIn}
 use Rattle.stream.specs.Write.{keptFrom, encode, after}
 use Rattle.macaque_v.specs.Write.{writtenBy, wroteBy, writerAt, Stepped}
 use Rattle.macaque_v.specs.declared.MacaqueV.{MacaqueV}
-use Rattle.macaque_v.proofs.Writing.{written-count, written-place, written-most, place-grows, afterFirst, next-state, next-place, next-bytes}
+use Rattle.macaque_v.proofs.Writing.{written-place, place-grows, afterFirst, after-place, after-length, after-most, next-state, next-place, next-bytes}
 use Rattle.macaque_v.proofs.MacaqueV.write_all.Statement.{statement}
 use Rattle.macaque_v.proofs.MacaqueV.write_all.Tie as tie
 
@@ -28,31 +28,6 @@ unfolding keptFrom encode after
 loop-holds c =
     let a = c .before .before .args in
     (omega arith, refl, sym (laidIn-nothing (a .buffer .now) (a .self .place) (λ n. c .slice-known .given n .fits)))
-
--- what is known of the writer where the loop goes on
-module _ (c : tie.In-loop Inv-loop μ-loop) where
-  at-length : c .before .loop .at .length ≡ c .before .before .before .before .args .self .length + c .before .loop .i
-  at-length =
-      let a = c .before .before .before .before .args in
-      ap (λ (w : MacaqueV). w .length) (c .before .loop .inv .1)
-      ∙ written-count (a .self) (take (c .before .loop .i) (a .values .now))
-      ∙ ap (λ (n : ℕ). a .self .length + n) (length-take-le (c .before .loop .i) (a .values .now) (c .before .loop .inv .0))
-
-  at-place : c .before .loop .at .place ≡ (wroteBy (c .before .before .before .before .args .self) (take (c .before .loop .i) (c .before .before .before .before .args .values .now))) .place
-  at-place = ap (λ (w : MacaqueV). w .place) (c .before .loop .inv .1)
-
-  at-most : c .before .loop .at .place ≤ c .before .before .before .before .args .self .place + 45 * c .before .loop .i
-  at-most =
-      let a = c .before .before .before .before .args in
-      let ys : List ℕ = take (c .before .loop .i) (a .values .now) in
-      omega (arith, at-place, written-place (a .self) ys, written-most (a .self) ys, length-take-le (c .before .loop .i) (a .values .now) (c .before .loop .inv .0))
-
-  -- the first i values take no more bits than all of them
-  at-room : (wroteBy (c .before .before .before .before .args .self) (take (c .before .loop .i) (c .before .before .before .before .args .values .now))) .place
-      ≤ 8 * length (c .before .before .before .before .args .buffer .now)
-  at-room =
-      let a = c .before .before .before .before .args in
-      omega (arith, place-grows (a .self) (a .values .now) (c .before .loop .i))
 
 -- the buffer is as long as it was
 as-long : (c : tie.At-loop Inv-loop μ-loop) → length (c .loop .buffer) ≡ length (c .before .before .before .args .buffer .now)
@@ -79,7 +54,12 @@ shared-slice-read-step : tie.Need-shared-slice-read-step Inv-loop μ-loop
 shared-slice-read-step c = search needs
 
 step-requires : tie.Need-step-requires Inv-loop μ-loop
-step-requires c κs = (omega (arith, at-length (c .before)), omega (arith, at-most (c .before)))
+step-requires c κs =
+    let a = c .before .before .before .before .before .args in
+    let l = c .before .before .loop in (
+      omega (arith, after-length (a .self) (a .values .now) (l .i) (l .inv .0) (l .at) (l .inv .1)),
+      omega (arith, after-most (a .self) (a .values .now) (l .i) (l .inv .0) (l .at) (l .inv .1)),
+    )
 
 put-requires : tie.Need-put-requires Inv-loop μ-loop
 put-requires c κs =
@@ -88,7 +68,7 @@ put-requires c κs =
     let s = stepped (c .before) in
     let next = next-place (a .self) (a .values .now) (l .i) (omega arith) (c .before .step .result) s in (
       omega (arith, s .short),
-      omega (arith, at-place (c .before .before .before), next, place-grows (a .self) (a .values .now) (l .i + 1), as-long (c .before .before .before .before)),
+      omega (arith, after-place (a .self) (a .values .now) (l .i) (l .inv .0) (l .at) (l .inv .1), next, place-grows (a .self) (a .values .now) (l .i + 1), as-long (c .before .before .before .before)),
       s .small,
     )
 
@@ -107,8 +87,8 @@ loop-again c =
       omega arith,
       next-state (a .self) (a .values .now) (l .i) (omega arith) (k .step .result) s,
       c .before .before .before .put .ensures
-          ∙ ap₂ (λ (buf : List ℕ) (p : ℕ). laidIn buf p (field (k .step .result .width) (k .step .result .bits))) (l .inv .2) (at-place (k .before .before))
-          ∙ next-bytes (a .self) (a .values .now) (l .i) (omega arith) (k .step .result) s (a .buffer .now) (at-room (k .before .before)),
+          ∙ ap₂ (λ (buf : List ℕ) (p : ℕ). laidIn buf p (field (k .step .result .width) (k .step .result .bits))) (l .inv .2) (after-place (a .self) (a .values .now) (l .i) (l .inv .0) (l .at) (l .inv .1))
+          ∙ next-bytes (a .self) (a .values .now) (l .i) (omega arith) (k .step .result) s (a .buffer .now) (omega (arith, place-grows (a .self) (a .values .now) (l .i))),
     )
 
 same-length : tie.Need-same-length Inv-loop μ-loop

@@ -1,0 +1,122 @@
+-- What the calls on a state say and answer: for each, its causes of refusal in 01's order, the answer, and the law that its results are told apart.
+use mathlib.Core.Path.{_≡_, refl, ap}
+use mathlib.Core.Bool.{cond, not}
+use mathlib.Core.List.{List, [], _∷_}
+use Prim.Native.Nat.{ℕ}
+use lib.Dec.{eqb}
+use lib.Ieee.{Float, binary32, ofBits, toBits}
+use Rattle.models.specs.Answers.{Said, answered, refused, SaidOn, answeredOn, refusedOn, Stepped, fitting, failing, Cause, _when_, judged, judgedOn, Injective, told-apart}
+use Rattle.models.specs.Refusals.{number, numbered, numbered-number}
+use Rattle.models.specs.Bound.{boundAllowed}
+use Rattle.models.specs.Limits.{mostValues, metadataAllowed, cost}
+use Rattle.models.specs.declared.ErrorBound.{ErrorBound}
+use Rattle.pmc_mean.specs.State.{fresh, usable, average, tried}
+use Rattle.pmc_mean.specs.declared.PMCMean.{PMCMean}
+use Rattle.pmc_mean.specs.declared.NewAnswer.{NewAnswer}
+use Rattle.pmc_mean.specs.declared.NewAnswer.the-variants as OfNew
+use Rattle.pmc_mean.specs.declared.FitAnswer.{FitAnswer}
+use Rattle.pmc_mean.specs.declared.FitAnswer.the-variants as OfFit
+use Rattle.pmc_mean.specs.declared.CostAnswer.{CostAnswer}
+use Rattle.pmc_mean.specs.declared.CostAnswer.the-variants as OfCost
+use Rattle.pmc_mean.specs.declared.ModelAnswer.{ModelAnswer}
+use Rattle.pmc_mean.specs.declared.ModelAnswer.the-variants as OfModel
+
+-- ---- PMCMean::new
+abbrev pub saysNew : NewAnswer → Said PMCMean
+saysNew (OfNew.Answered s) = answered s
+saysNew (OfNew.Refused r) = refused (number r)
+
+unfoldable pub newAnswer : ErrorBound → Said PMCMean
+newAnswer b = judged (1 when not (boundAllowed b) ∷ []) (fresh b)
+
+abbrev new-back : Said PMCMean → NewAnswer
+new-back (answered s) = OfNew.Answered s
+new-back (refused n) = OfNew.Refused (numbered n)
+
+new-told : (r : NewAnswer) → new-back (saysNew r) ≡ r
+new-told (OfNew.Answered s) = refl
+new-told (OfNew.Refused r) = ap OfNew.Refused (numbered-number r)
+
+pub saysNew-injective : Injective saysNew
+saysNew-injective = told-apart saysNew new-back new-told
+
+-- ---- PMCMean::fit_value, of a pattern
+abbrev pub saysFit : FitAnswer → SaidOn PMCMean (Stepped PMCMean)
+saysFit (OfFit.Fits s) = answeredOn (fitting s)
+saysFit (OfFit.NoFit s) = answeredOn (failing s)
+saysFit (OfFit.Refused r s) = refusedOn (number r) s
+
+abbrev pub fitCauses : PMCMean → List Cause
+fitCauses s =
+    1 when not (boundAllowed (s .«error_bound»))
+    ∷ 2 when not (usable s)
+    ∷ 3 when eqb (s .length) mostValues
+    ∷ []
+
+unfoldable pub fitAnswer : PMCMean → ℕ → SaidOn PMCMean (Stepped PMCMean)
+fitAnswer s value = judgedOn s (fitCauses s) (tried s (ofBits binary32 value))
+
+abbrev fit-back : SaidOn PMCMean (Stepped PMCMean) → FitAnswer
+fit-back (answeredOn t) = cond (t .fits) (OfFit.Fits (t .state)) (OfFit.NoFit (t .state))
+fit-back (refusedOn n s) = OfFit.Refused (numbered n) s
+
+fit-told : (r : FitAnswer) → fit-back (saysFit r) ≡ r
+fit-told (OfFit.Fits s) = refl
+fit-told (OfFit.NoFit s) = refl
+fit-told (OfFit.Refused r s) = rw (numbered-number r)
+
+pub saysFit-injective : Injective saysFit
+saysFit-injective = told-apart saysFit fit-back fit-told
+
+-- ---- PMCMean::bytes_per_value, with metadata of m bytes
+abbrev pub saysCost : CostAnswer → SaidOn PMCMean Float
+saysCost (OfCost.Answered x) = answeredOn x
+saysCost (OfCost.Refused r s) = refusedOn (number r) s
+
+abbrev pub costCauses : PMCMean → ℕ → List Cause
+costCauses s m =
+    1 when not (boundAllowed (s .«error_bound»))
+    ∷ 2 when not (usable s)
+    ∷ 3 when not (metadataAllowed m)
+    ∷ 11 when eqb (s .length) 0
+    ∷ []
+
+unfoldable pub costAnswer : PMCMean → ℕ → SaidOn PMCMean Float
+costAnswer s m = judgedOn s (costCauses s m) (cost m (s .length))
+
+abbrev cost-back : SaidOn PMCMean Float → CostAnswer
+cost-back (answeredOn x) = OfCost.Answered x
+cost-back (refusedOn n s) = OfCost.Refused (numbered n) s
+
+cost-told : (r : CostAnswer) → cost-back (saysCost r) ≡ r
+cost-told (OfCost.Answered x) = refl
+cost-told (OfCost.Refused r s) = rw (numbered-number r)
+
+pub saysCost-injective : Injective saysCost
+saysCost-injective = told-apart saysCost cost-back cost-told
+
+-- ---- PMCMean::model: the average's pattern
+abbrev pub saysModel : ModelAnswer → SaidOn PMCMean ℕ
+saysModel (OfModel.Answered bits) = answeredOn bits
+saysModel (OfModel.Refused r s) = refusedOn (number r) s
+
+abbrev pub modelCauses : PMCMean → List Cause
+modelCauses s =
+    1 when not (boundAllowed (s .«error_bound»))
+    ∷ 2 when not (usable s)
+    ∷ 11 when eqb (s .length) 0
+    ∷ []
+
+unfoldable pub modelAnswer : PMCMean → SaidOn PMCMean ℕ
+modelAnswer s = judgedOn s (modelCauses s) (toBits binary32 (average s))
+
+abbrev model-back : SaidOn PMCMean ℕ → ModelAnswer
+model-back (answeredOn bits) = OfModel.Answered bits
+model-back (refusedOn n s) = OfModel.Refused (numbered n) s
+
+model-told : (r : ModelAnswer) → model-back (saysModel r) ≡ r
+model-told (OfModel.Answered bits) = refl
+model-told (OfModel.Refused r s) = rw (numbered-number r)
+
+pub saysModel-injective : Injective saysModel
+saysModel-injective = told-apart saysModel model-back model-told

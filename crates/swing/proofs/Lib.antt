@@ -1,0 +1,5 @@
+-- What the proofs of this crate and of those over it share.
+pub mod Exact
+pub mod Allowed
+pub mod Ordered
+pub mod Runs

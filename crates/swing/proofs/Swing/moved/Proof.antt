@@ -1,0 +1,15 @@
+-- `Swing::moved` meets its contract. Assumes nothing.
+use borrow.Author.Needs.{needs}
+use Rattle.swing.specs.Step.{moved}
+use Rattle.swing.proofs.Swing.moved.Statement.{statement}
+use Rattle.swing.proofs.Swing.moved.Tie as tie
+
+add-s : tie.Need-add-s
+add-s c = search needs
+
+returns : tie.Need-returns
+unfolding moved
+returns c = search needs
+
+pub moved-spec : {M : Type 1} → statement M
+moved-spec = tie.close (tie.spec add-s returns)

@@ -1,0 +1,88 @@
+-- `swing::grid` meets its contract: a refusal leaves the output as it was. Assumes nothing.
+use mathlib.Core.Path.{_∙_, _≡_}
+use Prim.Native.Nat.{ℕ}
+use mir.Syntax.{w64}
+use mir.ValLaws.{toZ-ofZ}
+use borrow.Author.Needs.{needs}
+use borrow.Author.Tests.{not-false, ltb-false}
+use lib.ListN.{length}
+use denote.Ref.{now}
+use Rattle.models.specs.Calls.{saysVerdict}
+use Rattle.models.specs.Answers.{refused, verdict}
+use Rattle.models.proofs.Judged.{NoneHolds, none-holds, when-passed, when-refused}
+use Rattle.models.proofs.Laws.{and-left, and-right}
+use Rattle.swing.specs.Line.{pointOf}
+use Rattle.swing.specs.Grid.{inTime, gridCauses, gridMemory}
+use Rattle.swing.proofs.Ordered.{start-in-time, end-in-time}
+use Rattle.swing.proofs.grid.Statement.{statement}
+use Rattle.swing.proofs.grid.Tie as tie
+
+start : (c : tie.After-point-of) → c .point-of .result ≡ pointOf (c .before .before .args .start-time) (c .before .before .args .first-value)
+start c = rw (toZ-ofZ w64 (c .before .before .args .start-time) (c .before .before .fits .start-time)) at (c .point-of .ensures)
+
+end : (c : tie.After-point-of2) → c .point-of2 .result ≡ pointOf (c .before .before .before .args .end-time) (c .before .before .before .args .last-value)
+end c = rw (toZ-ofZ w64 (c .before .before .before .args .end-time) (c .before .before .before .fits .end-time)) at (c .point-of2 .ensures)
+
+says : (c : tie.After-judge-grid) → saysVerdict (c .judge-grid .result) ≡ verdict (gridCauses (pointOf (c .before .before .before .before .args .start-time) (c .before .before .before .before .args .first-value)) (pointOf (c .before .before .before .before .args .end-time) (c .before .before .before .before .args .last-value)) (now (c .before .before .before .before .args .timestamps)) (length (now (c .before .before .before .before .args .out))))
+says c = rw (start (c .before .before), end (c .before)) at (c .judge-grid .ensures)
+
+-- past the verdict no cause holds
+clear : (c : tie.After-enum-told) → NoneHolds (gridCauses (c .before .before .before .before .point-of .result) (c .before .before .before .point-of2 .result) (now (c .before .before .before .before .before .before .args .timestamps)) (length (now (c .before .before .before .before .before .before .args .out))))
+clear c = none-holds _ _ (c .before .before .judge-grid .ensures) (c .enum-told .given .1)
+
+point-of-requires : tie.Need-point-of-requires
+point-of-requires c κs = search needs
+
+point-of-requires-2 : tie.Need-point-of-requires-2
+point-of-requires-2 c κs = search needs
+
+judge-grid-requires : tie.Need-judge-grid-requires
+judge-grid-requires c κs = search needs
+
+enum-known-r : tie.Need-enum-known-r
+enum-known-r c = search needs
+
+enum-told : tie.Need-enum-told
+enum-told c = search needs
+
+line-through-requires : tie.Need-line-through-requires
+line-through-requires c κs =
+    let none = clear c in
+    let ok = and-left _ _ (not-false _ (none .1 .1 .0)) in
+    (start-in-time _ _ ok, end-in-time _ _ ok)
+
+draw-requires : tie.Need-draw-requires
+draw-requires c κs =
+    let none = clear (c .before .before) in
+    (and-right (inTime (c .before .before .before .before .before .before .point-of .result) (c .before .before .before .before .before .point-of2 .result)) _ (not-false _ (none .1 .1 .0)), ltb-false (length (now (c .before .before .before .before .before .before .before .before .args .out))) (length (now (c .before .before .before .before .before .before .before .before .args .timestamps))) (none .1 .0))
+
+returns : tie.Need-returns
+unfolding gridMemory
+returns c =
+    let causes = gridCauses (pointOf (c .before .before .before .before .before .before .before .args .start-time) (c .before .before .before .before .before .before .before .args .first-value)) (pointOf (c .before .before .before .before .before .before .before .args .end-time) (c .before .before .before .before .before .before .before .args .last-value)) (now (c .before .before .before .before .before .before .before .args .timestamps)) (length (now (c .before .before .before .before .before .before .before .args .out))) in
+    (when-refused causes _ (says (c .before .before .before)) refused _ _ (c .before .r .given .1), when-refused causes _ (says (c .before .before .before)) (λ (n : ℕ). now (c .before .before .before .before .before .before .before .args .out)) _ _ (c .before .r .given .1))
+
+same-length : tie.Need-same-length
+same-length c = search needs
+
+returns-2 : tie.Need-returns-2
+unfolding gridMemory
+returns-2 c =
+    let causes = gridCauses (pointOf (c .before .before .before .before .before .before .before .before .before .before .before .args .start-time) (c .before .before .before .before .before .before .before .before .before .before .before .args .first-value)) (pointOf (c .before .before .before .before .before .before .before .before .before .before .before .args .end-time) (c .before .before .before .before .before .before .before .before .before .before .before .args .last-value)) (now (c .before .before .before .before .before .before .before .before .before .before .before .args .timestamps)) (length (now (c .before .before .before .before .before .before .before .before .before .before .before .args .out))) in
+    let v = says (c .before .before .before .before .before .before .before) in
+    (when-passed causes _ v refused _ (c .before .before .before .before .before .enum-told .given .1), c .before .before .draw .ensures ∙ rw (c .before .before .before .before .line-through .ensures, start (c .before .before .before .before .before .before .before .before .before), end (c .before .before .before .before .before .before .before .before)) (when-passed causes _ v (λ (n : ℕ). now (c .before .before .before .before .before .before .before .before .before .before .before .args .out)) _ (c .before .before .before .before .before .enum-told .given .1)))
+
+pub grid-spec : {M : Type 1} → statement M
+grid-spec =
+    tie.close
+    (tie.spec
+    point-of-requires
+    point-of-requires-2
+    judge-grid-requires
+    enum-known-r
+    enum-told
+    line-through-requires
+    draw-requires
+    returns
+    same-length
+    returns-2)

@@ -1,0 +1,13 @@
+-- `line::in_time` meets its contract. Assumes nothing.
+use borrow.Author.Needs.{needs}
+use Rattle.swing.specs.Times.{timeAllowed}
+use Rattle.swing.specs.Grid.{inTime}
+use Rattle.swing.proofs.line.in_time.Statement.{statement}
+use Rattle.swing.proofs.line.in_time.Tie as tie
+
+returns : tie.Need-returns
+unfolding inTime timeAllowed
+returns c = search needs
+
+pub in-time-spec : {M : Type 1} → statement M
+in-time-spec = tie.close (tie.spec returns)

@@ -1,0 +1,127 @@
+-- What the calls on a state say and answer: for each, its causes of refusal in 01's order, the answer, and the law that its results are told apart.
+use mathlib.Core.Path.{_≡_, refl, ap}
+use mathlib.Core.Bool.{cond, not}
+use mathlib.Core.List.{List, [], _∷_}
+use Prim.Native.Nat.{ℕ, _+_}
+use lib.Dec.{eqb}
+use lib.IntN.{ℤ}
+use lib.Ieee.{Float}
+use Rattle.models.specs.Answers.{Said, answered, refused, SaidOn, answeredOn, refusedOn, Stepped, fitting, failing, Cause, _when_, judged, judgedOn, Injective, told-apart}
+use Rattle.models.specs.Refusals.{number, numbered, numbered-number}
+use Rattle.models.specs.Bound.{boundAllowed}
+use Rattle.models.specs.Limits.{mostValues, metadataAllowed, cost}
+use Rattle.models.specs.declared.ErrorBound.{ErrorBound}
+use Rattle.swing.specs.Line.{pointOf}
+use Rattle.swing.specs.State.{fresh, usable, timeFollows}
+use Rattle.swing.specs.Step.{tried}
+use Rattle.swing.specs.Model.{Ends, endsOf}
+use Rattle.swing.specs.declared.Swing.{Swing}
+use Rattle.swing.specs.declared.NewAnswer.{NewAnswer}
+use Rattle.swing.specs.declared.NewAnswer.the-variants as OfNew
+use Rattle.swing.specs.declared.FitAnswer.{FitAnswer}
+use Rattle.swing.specs.declared.FitAnswer.the-variants as OfFit
+use Rattle.swing.specs.declared.CostAnswer.{CostAnswer}
+use Rattle.swing.specs.declared.CostAnswer.the-variants as OfCost
+use Rattle.swing.specs.declared.ModelAnswer.{ModelAnswer}
+use Rattle.swing.specs.declared.ModelAnswer.the-variants as OfModel
+
+-- ---- Swing::new
+abbrev pub saysNew : NewAnswer → Said Swing
+saysNew (OfNew.Answered s) = answered s
+saysNew (OfNew.Refused r) = refused (number r)
+
+unfoldable pub newAnswer : ErrorBound → Said Swing
+newAnswer b = judged (1 when not (boundAllowed b) ∷ []) (fresh b)
+
+abbrev new-back : Said Swing → NewAnswer
+new-back (answered s) = OfNew.Answered s
+new-back (refused n) = OfNew.Refused (numbered n)
+
+new-told : (r : NewAnswer) → new-back (saysNew r) ≡ r
+new-told (OfNew.Answered s) = refl
+new-told (OfNew.Refused r) = ap OfNew.Refused (numbered-number r)
+
+pub saysNew-injective : Injective saysNew
+saysNew-injective = told-apart saysNew new-back new-told
+
+-- ---- Swing::fit_data_point, of a time and a pattern
+abbrev pub saysFit : FitAnswer → SaidOn Swing (Stepped Swing)
+saysFit (OfFit.Fits s) = answeredOn (fitting s)
+saysFit (OfFit.NoFit s) = answeredOn (failing s)
+saysFit (OfFit.Refused r s) = refusedOn (number r) s
+
+abbrev pub fitCauses : Swing → ℤ → List Cause
+fitCauses s t =
+    1 when not (boundAllowed (s .«error_bound»))
+    ∷ 2 when not (usable s)
+    ∷ 3 when eqb (s .length) mostValues
+    ∷ 10 when not (timeFollows s t)
+    ∷ []
+
+unfoldable pub fitAnswer : Swing → ℤ → ℕ → SaidOn Swing (Stepped Swing)
+fitAnswer s t value = judgedOn s (fitCauses s t) (tried s (pointOf t value))
+
+abbrev fit-back : SaidOn Swing (Stepped Swing) → FitAnswer
+fit-back (answeredOn t) = cond (t .fits) (OfFit.Fits (t .state)) (OfFit.NoFit (t .state))
+fit-back (refusedOn n s) = OfFit.Refused (numbered n) s
+
+fit-told : (r : FitAnswer) → fit-back (saysFit r) ≡ r
+fit-told (OfFit.Fits s) = refl
+fit-told (OfFit.NoFit s) = refl
+fit-told (OfFit.Refused r s) = rw (numbered-number r)
+
+pub saysFit-injective : Injective saysFit
+saysFit-injective = told-apart saysFit fit-back fit-told
+
+-- ---- Swing::bytes_per_value: metadata of m bytes, and one more
+abbrev pub saysCost : CostAnswer → SaidOn Swing Float
+saysCost (OfCost.Answered x) = answeredOn x
+saysCost (OfCost.Refused r s) = refusedOn (number r) s
+
+abbrev pub costCauses : Swing → ℕ → List Cause
+costCauses s m =
+    1 when not (boundAllowed (s .«error_bound»))
+    ∷ 2 when not (usable s)
+    ∷ 3 when not (metadataAllowed m)
+    ∷ 11 when eqb (s .length) 0
+    ∷ []
+
+unfoldable pub costAnswer : Swing → ℕ → SaidOn Swing Float
+costAnswer s m = judgedOn s (costCauses s m) (cost (m + 1) (s .length))
+
+abbrev cost-back : SaidOn Swing Float → CostAnswer
+cost-back (answeredOn x) = OfCost.Answered x
+cost-back (refusedOn n s) = OfCost.Refused (numbered n) s
+
+cost-told : (r : CostAnswer) → cost-back (saysCost r) ≡ r
+cost-told (OfCost.Answered x) = refl
+cost-told (OfCost.Refused r s) = rw (numbered-number r)
+
+pub saysCost-injective : Injective saysCost
+saysCost-injective = told-apart saysCost cost-back cost-told
+
+-- ---- Swing::model
+abbrev pub saysModel : ModelAnswer → SaidOn Swing Ends
+saysModel (OfModel.Answered first last) = answeredOn (record { first = first; last = last })
+saysModel (OfModel.Refused r s) = refusedOn (number r) s
+
+abbrev pub modelCauses : Swing → List Cause
+modelCauses s =
+    1 when not (boundAllowed (s .«error_bound»))
+    ∷ 2 when not (usable s)
+    ∷ 11 when eqb (s .length) 0
+    ∷ []
+
+unfoldable pub modelAnswer : Swing → SaidOn Swing Ends
+modelAnswer s = judgedOn s (modelCauses s) (endsOf s)
+
+abbrev model-back : SaidOn Swing Ends → ModelAnswer
+model-back (answeredOn e) = OfModel.Answered (e .first) (e .last)
+model-back (refusedOn n s) = OfModel.Refused (numbered n) s
+
+model-told : (r : ModelAnswer) → model-back (saysModel r) ≡ r
+model-told (OfModel.Answered first last) = refl
+model-told (OfModel.Refused r s) = rw (numbered-number r)
+
+pub saysModel-injective : Injective saysModel
+saysModel-injective = told-apart saysModel model-back model-told

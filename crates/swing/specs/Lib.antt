@@ -1,0 +1,8 @@
+pub mod Times
+pub mod Line
+pub mod State
+pub mod Step
+pub mod Model
+pub mod Calls
+pub mod Grid
+pub mod Run
