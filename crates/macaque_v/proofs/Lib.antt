@@ -10,3 +10,4 @@ pub mod ReadingCode
 pub mod ReadingRun
 pub mod ReadingTally
 pub mod ReadingEnd
+pub mod ReadingAll

@@ -7,3 +7,4 @@ pub mod Calls
 pub mod Made
 pub mod ReadCode
 pub mod ReadRun
+pub mod Read

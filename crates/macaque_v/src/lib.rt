@@ -2,6 +2,7 @@
 
 pub mod code;
 pub mod keep;
+pub mod read;
 pub mod read_code;
 pub mod read_run;
 mod write;

@@ -1,38 +1,45 @@
+-- `macaque_v::read_run::go_to_end` meets its contract: nothing, or refusal 8. Assumes nothing.
 use borrow.Author.Needs.{needs}
+use mathlib.Core.Path.{sym, _∙_, subst}
+use native.Mathlib.Omega.{arith}
+use Rattle.macaque_v.specs.ReadRun.{Walked, WalkSays}
+use Rattle.macaque_v.specs.declared.read_run.Walk.{Walk}
+use Rattle.macaque_v.proofs.ReadingEnd.{ends-wrong, ends-early}
 use Rattle.macaque_v.proofs.read_run.go_to_end.Statement.{statement}
 use Rattle.macaque_v.proofs.read_run.go_to_end.Tie as tie
-use Rattle.macaque_v.proofs.read_run.go_to_end.Reads as reads
-use Rattle.macaque_v.proofs.read_run.go_to_end.Lts as lts
-use Rattle.macaque_v.proofs.read_run.go_through.Reads as go-through-reads
-use Rattle.macaque_v.proofs.read_run.left_behind.Reads as left-behind-reads
 
--- src/read_run.rt:143:11
+-- the values were read
+walked : (c : tie.After-to)
+    → Walked (c .before .before .before .before .args .first) (c .before .before .before .before .args .bytes .now) (c .before .before .before .before .args .from)
+    (c .before .before .before .before .args .n) (c .before .before .before .before .args .aim) (c .to .given .0 .0) (c .to .given .0 .1 .0)
+walked c =
+    let a = c .before .before .before .before .args in
+    subst (WalkSays (a .first) (a .bytes .now) (a .from) (a .n) (a .aim)) (c .to .given .1) (c .before .before .go-through .ensures)
+
 go-through-requires : tie.Need-go-through-requires
 go-through-requires c κs = search needs
 
--- src/read_run.rt:144:23
 enum-known-r : tie.Need-enum-known-r
 enum-known-r c = search needs
 
--- src/read_run.rt:145:18
 enum-known-to : tie.Need-enum-known-to
 enum-known-to c = search needs
 
--- src/read_run.rt:146:16
 left-behind-requires : tie.Need-left-behind-requires
-left-behind-requires c κs = ?
+left-behind-requires c κs =
+    let s = (walked (c .before)) .reads in
+    (omega (arith, s .stands .within), omega (arith, s .stands .near, s .counted))
 
--- src/read_run.rt:147:17
 returns : tie.Need-returns
-returns c = ?
+returns c = ends-wrong ((walked (c .before .before .before)) .reads) (sym (c .before .left-behind .ensures) ∙ c .if1 .taken)
 
--- src/read_run.rt:139:1
 returns-2 : tie.Need-returns-2
-returns-2 c = ?
+returns-2 c =
+    let a = c .before .before .before .before .before .args in
+    ends-early (subst (WalkSays (a .first) (a .bytes .now) (a .from) (a .n) (a .aim)) (c .before .r .given .1) (c .before .before .before .go-through .ensures))
 
--- src/read_run.rt:139:1
 returns-3 : tie.Need-returns-3
-returns-3 c = ?
+returns-3 c = (walked (c .before .before .before), sym (c .before .left-behind .ensures) ∙ c .if1 .left)
 
 pub go-to-end-spec : {M : Type 1} → statement M
 go-to-end-spec =
