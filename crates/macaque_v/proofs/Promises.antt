@@ -12,7 +12,8 @@ use Rattle.bits.specs.Bits.{Below, wholeBytes, laidIn}
 use Rattle.models.specs.Answers.{Said, answered, refused, SaidOn, answeredOn, refusedOn, Done, Cause, _when_, judge, verdict}
 use Rattle.models.specs.Bound.{boundAllowed}
 use Rattle.models.specs.declared.ErrorBound.{ErrorBound}
-use Rattle.models.proofs.Judged.{passed}
+use Rattle.models.proofs.Judged.{none, accepted-only}
+use Rattle.models.proofs.Judged as judging
 use Rattle.stream.specs.Format.{State, macaque, mostValues, usable}
 use Rattle.stream.specs.Write.{wrote, kept, streamOf}
 use Rattle.stream.specs.Made as theory
@@ -27,7 +28,7 @@ use Rattle.macaque_v.specs.Made.{Made}
 use Rattle.macaque_v.specs.declared.MacaqueV.{MacaqueV}
 use Rattle.macaque_v.specs.declared.Opening.{Opening}
 use Rattle.macaque_v.proofs.Keeping.{keeps}
-use Rattle.macaque_v.proofs.Accepting.{accepted, accepted-only}
+use Rattle.macaque_v.proofs.Accepting.{accepted}
 
 -- ---- the spine, as the theory of streams has it
 
@@ -57,7 +58,7 @@ module _ (b : ErrorBound) (o : Opening) (xs buf : List ℕ) (s : State Ends)
       let a = accepted-only m causes (writerOf b (isFirst o) after) n h in
       let room : after .place ≤ 8 * length buf = accepted m ys buf (a .0) .1 in
       let T = spine.made-write (keepRule b) (streamIn (isFirst o)) (openingValue o) M ys room in
-      let kept-bytes = passed (λ (k : ℕ). buf) (laidIn buf (s .place) (writtenBy m ys)) causes (a .0) in
+      let kept-bytes = sym (judging.accepted (λ (k : ℕ). buf) (laidIn buf (s .place) (writtenBy m ys)) causes (none causes (a .0))) in
       subst (λ (w : MacaqueV). Made b o (xs ++ ys) (judge (λ (k : ℕ). buf) causes (laidIn buf (s .place) (writtenBy m ys))) w) (a .1)
       (record {
         writer = ap (writerOf b (isFirst o)) (T .state);

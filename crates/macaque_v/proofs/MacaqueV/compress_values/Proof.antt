@@ -8,7 +8,8 @@ use Rattle.bits.specs.Bits.{laidIn}
 use Rattle.models.specs.Answers.{answered, answeredOn, refusedOn, refused, verdict}
 use Rattle.models.specs.Refusals.{number}
 use Rattle.models.specs.Calls.{saysVerdict}
-use Rattle.models.proofs.Judged.{passed, turned-back}
+use Rattle.models.proofs.Judged.{none, turned-back}
+use Rattle.models.proofs.Judged as judging
 use Rattle.macaque_v.specs.Write.{writerAt, wroteBy, writtenBy}
 use Rattle.macaque_v.specs.Calls.{lentBytes, writeCauses, writeAnswer, writeMemory}
 use Rattle.macaque_v.specs.declared.MacaqueV.{MacaqueV}
@@ -54,8 +55,8 @@ returns c =
     let causes = writeCauses (a .self) (a .values .now) (lentBytes (length (a .buffer .now))) in
     let n = number (c .before .r .given .0 .0) in
     let h : verdict causes ≡ refused n = sym (judged (c .before .before .before)) ∙ ap saysVerdict (c .before .r .given .1) in (
-      sym (turned-back (λ (k : ℕ). refusedOn k (a .self)) (answeredOn (writerAt (a .self) (wroteBy (a .self) (a .values .now)))) causes n h),
-      sym (turned-back (λ (k : ℕ). a .buffer .now) (laidIn (a .buffer .now) (a .self .place) (writtenBy (a .self) (a .values .now))) causes n h),
+      (turned-back (λ (k : ℕ). refusedOn k (a .self)) (answeredOn (writerAt (a .self) (wroteBy (a .self) (a .values .now)))) causes n h),
+      (turned-back (λ (k : ℕ). a .buffer .now) (laidIn (a .buffer .now) (a .self .place) (writtenBy (a .self) (a .values .now))) causes n h),
     )
 
 same-length : tie.Need-same-length
@@ -68,8 +69,8 @@ returns-2 c =
     let causes = writeCauses (a .self) (a .values .now) (lentBytes (length (a .buffer .now))) in
     let h = clear (c .before .before .before .before) in
     let w = c .before .before .write-all .ensures in (
-      ap answeredOn (w .0) ∙ sym (passed (λ (k : ℕ). refusedOn k (a .self)) (answeredOn (writerAt (a .self) (wroteBy (a .self) (a .values .now)))) causes h),
-      w .1 ∙ sym (passed (λ (k : ℕ). a .buffer .now) (laidIn (a .buffer .now) (a .self .place) (writtenBy (a .self) (a .values .now))) causes h),
+      ap answeredOn (w .0) ∙ judging.accepted (λ (k : ℕ). refusedOn k (a .self)) (answeredOn (writerAt (a .self) (wroteBy (a .self) (a .values .now)))) causes (none causes h),
+      w .1 ∙ judging.accepted (λ (k : ℕ). a .buffer .now) (laidIn (a .buffer .now) (a .self .place) (writtenBy (a .self) (a .values .now))) causes (none causes h),
     )
 
 pub compress-values-spec : {M : Type 1} → statement M

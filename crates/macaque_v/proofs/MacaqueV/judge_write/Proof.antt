@@ -11,7 +11,8 @@ use Rattle.models.specs.Refusals.{number}
 use Rattle.models.specs.Calls.{saysVerdict}
 use Rattle.macaque_v.specs.Write.{wroteBy}
 use Rattle.macaque_v.specs.Calls.{startCauses}
-use Rattle.macaque_v.proofs.Accepting.{refused-first, passed-first, started}
+use Rattle.models.proofs.Judged.{refused-first, passed-first}
+use Rattle.macaque_v.proofs.Accepting.{started}
 use Rattle.macaque_v.proofs.MacaqueV.judge_write.Statement.{statement}
 use Rattle.macaque_v.proofs.MacaqueV.judge_write.Tie as tie
 

@@ -1,0 +1,2 @@
+-- What the proofs of MacaqueV's C face share.
+pub mod Words

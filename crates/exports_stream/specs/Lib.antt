@@ -1,0 +1,2 @@
+-- How MacaqueV crosses the C face.
+pub mod Row
