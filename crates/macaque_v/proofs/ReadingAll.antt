@@ -5,21 +5,24 @@ use mathlib.Core.List.{List, _++_}
 use mathlib.Core.Option.{Option, none, some}
 use Prim.Native.Nat.{ℕ, _+_, _-_, _*_, _^_, _≤_, _<_}
 use native.Mathlib.Omega.{arith}
-use lib.ListN.{length, drop}
+use lib.ListN.{length, take, drop, take-append-drop}
 use Rattle.bits.specs.Bits.{bitsOf}
 use Rattle.models.specs.Answers.{answered, refused}
 use Rattle.models.specs.Refusals.{number}
 use Rattle.models.specs.declared.Refusal.{Refusal}
 use Rattle.stream.specs.Format.{Gather, gatherFrom, Stream, State}
+use Rattle.stream.specs.Read as stream
 use Rattle.stream.specs.Read.{Reading, done, stopped, readN, leftover, judged, ended, readAll, Reopened, reopened, stateOf, checked, reopen}
 use Rattle.stream.specs.Cases.{plain}
 use Rattle.stream.proofs.Reading.{prepend, thenRead, read-then}
 use Rattle.stream.proofs.Gathered.{SeenIn, seen-read, instead, holding, Alike, read-any}
 use Rattle.macaque_v.specs.State.{Ends, gatherEnds, modeOf, streamIn, isFirst, opened}
-use Rattle.macaque_v.specs.ReadRun.{stateAt, Stands, readFrom, Reads, StopsBy, leftBehind}
+use Rattle.macaque_v.specs.ReadRun.{stateAt, Stands, readFrom, Reads, StopsBy, FillSays, leftBehind}
 use Rattle.macaque_v.specs.Read.{valuesRead, valuesIn, startOf, reopening, stateWith, Unopened}
 use Rattle.macaque_v.specs.declared.Opening.{Opening}
 use Rattle.macaque_v.specs.declared.read_run.Cursor.{Cursor}
+use Rattle.macaque_v.specs.declared.read_run.Run.{Run}
+use Rattle.macaque_v.specs.declared.read_run.Run.the-variants as OfRun
 use Rattle.macaque_v.proofs.ReadingRun.{reads-none, reads-then, then-stops}
 use Rattle.macaque_v.proofs.ReadingEnd.{ends-right, ends-early}
 
@@ -82,6 +85,10 @@ module _ {A B : Type 0} (S : Stream A) (G : Gather B) where
 pub start-stands : (bytes : List ℕ) (o : Opening) → (startOf o) .last < 2 ^ 32 → Stands bytes (startOf o)
 start-stands bytes o h = record { within = omega arith; near = omega arith; small = h; held = λ set. absurd (set refl) }
 
+pub starts : (bytes : List ℕ) (o : Opening) (at : Cursor) → (at ≡ startOf o) × (at .last < 2 ^ 32) → Stands bytes at × (at .count ≡ 0)
+starts bytes o at h =
+    (subst (Stands bytes) (sym (h .0)) (start-stands bytes o (subst (λ (c : Cursor). c .last < 2 ^ 32) (h .0) (h .1))), ap (λ (c : Cursor). c .count) (h .0))
+
 module _ (bytes : List ℕ) (o : Opening) where
   all-alike : (n : ℕ) → Alike (plain (modeOf (isFirst o))) gatherEnds (ended (readFrom (isFirst o) bytes (startOf o) n)) (readAll (streamIn (isFirst o)) n (opened o) (bitsOf bytes))
   all-alike n =
@@ -99,6 +106,23 @@ module _ (bytes : List ℕ) (o : Opening) where
 
   pub values-wrong : (n : ℕ) (r : Refusal) → StopsBy (ended (readFrom (isFirst o) bytes (startOf o) n)) r → valuesIn bytes n o ≡ refused (number r)
   values-wrong n r s = same-values n ∙ ap valuesRead (s .stops) ∙ ap refused (s .numbered)
+
+  -- a stream that is right is read again as it was
+  pub filled-again : {n : ℕ} {vs : List ℕ} {to : Cursor} → Reads (isFirst o) bytes (startOf o) n vs to → (old new : List ℕ) (r : Run)
+      → FillSays (isFirst o) bytes (startOf o) n old new r → new ≡ vs ++ drop (length vs) old
+  filled-again {n} {vs} R old new (OfRun.To at) f =
+      let same : take n new ≡ vs = equal (sym (f .0 .values) ∙ R .values) in
+      sym (take-append-drop n new) ∙ ap₂ (λ (x y : List ℕ). x ++ y) same (f .1 ∙ ap (λ (m : ℕ). drop m old) (sym (R .long)))
+    where
+      equal : {us ws : List ℕ} {s t : State Unit} {b c : List Bool} → _≡_ {A = Reading Unit} (done us s b) (done ws t c) → us ≡ ws
+      equal e = cc
+  filled-again {n} {vs} R old new (OfRun.Refused r) f = absurd (never (clash (sym (R .values) ∙ f .stops)))
+    where
+      clash : {ws : List ℕ} {t : State Unit} {c : List Bool} {g : stream.Refusal} → _≡_ {A = Reading Unit} (done ws t c) (stopped g) → _≡_ {A = ℕ} 0 1
+      clash e = cc
+
+      never : _≡_ {A = ℕ} 0 1 → ⊥
+      never e = omega arith
 
   -- ---- the state after k of n values
 
