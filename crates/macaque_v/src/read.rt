@@ -61,7 +61,14 @@ pub fn sum(bytes: &[u8], count: usize, opening: Opening) -> ValueAnswer
 impl MacaqueV {
     // The writer behind the first k of the `count` values in the buffer's first `used` bytes. The bits behind them in the byte that they end in
     // are zeroed.
-    pub fn reopen(buffer: &mut [u8], used: usize, count: usize, k: usize, opening: Opening, error_bound: ErrorBound) -> OpenAnswer
+    pub fn reopen(
+        buffer: &mut [u8],
+        used: usize,
+        count: usize,
+        k: usize,
+        opening: Opening,
+        error_bound: ErrorBound,
+    ) -> OpenAnswer
         ensures answer { λ r. ⌜ saysOpen r ≡ reopenAnswer (now (buffer .entry)) used count k opening «error_bound» ⌝ }
         ensures bytes { λ r. ⌜ now (buffer .exit) ≡ reopenMemory (now (buffer .entry)) used count k opening «error_bound» ⌝ }
     {
@@ -81,7 +88,13 @@ fn judge_grid(count: usize, room: usize) -> Verdict
     models::when(Refusal::OverLimit, 65536 < count, short)
 }
 
-fn judge_reopen(error_bound: ErrorBound, room: usize, used: usize, count: usize, k: usize) -> Verdict
+fn judge_reopen(
+    error_bound: ErrorBound,
+    room: usize,
+    used: usize,
+    count: usize,
+    k: usize,
+) -> Verdict
     ensures { λ r. ⌜ saysVerdict r ≡ verdict (reopenCauses «error_bound» room used count k) ⌝ }
 {
     let counts = models::when(
@@ -180,7 +193,14 @@ fn state_at(bytes: &[u8], count: usize, k: usize, opening: Opening) -> Walk
     }
 }
 
-fn resume(buffer: &mut [u8], used: usize, count: usize, k: usize, opening: Opening, error_bound: ErrorBound) -> OpenAnswer
+fn resume(
+    buffer: &mut [u8],
+    used: usize,
+    count: usize,
+    k: usize,
+    opening: Opening,
+    error_bound: ErrorBound,
+) -> OpenAnswer
     requires { ⌜ (k ≤ count) × (count ≤ 65536) × (used ≤ length (now buffer)) ⌝ }
     ensures answer { λ r. ⌜ saysOpen r ≡ resumed «error_bound» (isFirst opening) (reopening (take used (now (buffer .entry))) count k opening) ⌝ }
     ensures bytes { λ r. ⌜ now (buffer .exit) ≡ bufferAfter (reopening (take used (now (buffer .entry))) count k opening) (now (buffer .entry)) ⌝ }

@@ -1,51 +1,74 @@
+-- `macaque_v::read::grid` meets its contract: refused by the first cause that holds, else by the stream, else drawn. Assumes nothing.
 use borrow.Author.Needs.{needs}
+use mathlib.Core.Path.{_∙_}
+use Prim.Native.Nat.{ℕ, _≤_}
+use native.Mathlib.Omega.{arith}
+use borrow.Author.Tests.{ltb-false}
+use lib.ListN.{length}
+use Rattle.models.specs.Answers.{refused}
+use Rattle.models.proofs.Judged.{none-holds, when-passed, when-refused}
+use Rattle.macaque_v.specs.Read.{gridCauses, gridAnswer, gridMemory}
 use Rattle.macaque_v.proofs.read.grid.Statement.{statement}
 use Rattle.macaque_v.proofs.read.grid.Tie as tie
-use Rattle.macaque_v.proofs.read.grid.Reads as reads
-use Rattle.macaque_v.proofs.read.grid.Lts as lts
-use Rattle.macaque_v.proofs.read.draw_few.Reads as draw-few-reads
-use Rattle.macaque_v.proofs.read.draw_many.Reads as draw-many-reads
-use Rattle.macaque_v.proofs.read.judge_grid.Reads as judge-grid-reads
 
--- src/read.rt:37:11
+-- neither too many values nor too little room
+room : (c : tie.After-enum-told)
+    → (c .before .before .before .before .before .args .count ≤ 65536) × (c .before .before .before .before .before .args .count ≤ length (c .before .before .before .before .before .args .out .now))
+room c =
+    let a = c .before .before .before .before .before .args in
+    let none = none-holds (gridCauses (a .count) (length (a .out .now))) _ (c .before .before .judge-grid .ensures) (c .enum-told .given .1) in
+    (ltb-false 65536 (a .count) (none .0), ltb-false (length (a .out .now)) (a .count) (none .1 .0))
+
 judge-grid-requires : tie.Need-judge-grid-requires
 judge-grid-requires c κs = search needs
 
--- src/read.rt:38:26
 enum-known-r : tie.Need-enum-known-r
 enum-known-r c = search needs
 
--- src/read.rt:40:16
 enum-told : tie.Need-enum-told
 enum-told c = search needs
 
--- src/read.rt:41:17
 draw-few-requires : tie.Need-draw-few-requires
-draw-few-requires c κs = ?
+draw-few-requires c κs = (omega arith, room (c .before .before) .1)
 
--- src/read.rt:41:17
 same-length : tie.Need-same-length
 same-length c = search needs
 
--- src/read.rt:41:17
 returns : tie.Need-returns
-returns c = ?
+unfolding gridAnswer gridMemory
+returns c =
+    let a = c .before .before .before .before .before .before .before .before .before .before .args in
+    let causes = gridCauses (a .count) (length (a .out .now)) in
+    let ok = c .before .before .before .before .before .enum-told .given .1 in
+    let says = c .before .before .before .before .before .before .before .judge-grid .ensures in (
+      c .before .before .draw-few .ensures .0 ∙ when-passed causes _ says refused _ ok,
+      c .before .before .draw-few .ensures .1 ∙ when-passed causes _ says (λ (n : ℕ). a .out .now) _ ok,
+    )
 
--- src/read.rt:43:13
 draw-many-requires : tie.Need-draw-many-requires
-draw-many-requires c κs = ?
+draw-many-requires c κs = room (c .before .before)
 
--- src/read.rt:33:1
 returns-2 : tie.Need-returns-2
-returns-2 c = ?
+unfolding gridAnswer gridMemory
+returns-2 c =
+    let a = c .before .before .before .before .before .before .args in
+    let causes = gridCauses (a .count) (length (a .out .now)) in
+    let says = c .before .before .before .judge-grid .ensures in
+    (when-refused causes _ says refused _ _ (c .before .r .given .1), when-refused causes _ says (λ (n : ℕ). a .out .now) _ _ (c .before .r .given .1))
 
--- src/read.rt:33:1
 same-length-2 : tie.Need-same-length-2
 same-length-2 c = search needs
 
--- src/read.rt:33:1
 returns-3 : tie.Need-returns-3
-returns-3 c = ?
+unfolding gridAnswer gridMemory
+returns-3 c =
+    let a = c .before .before .before .before .before .before .before .before .before .before .args in
+    let causes = gridCauses (a .count) (length (a .out .now)) in
+    let ok = c .before .before .before .before .before .enum-told .given .1 in
+    let says = c .before .before .before .before .before .before .before .judge-grid .ensures in (
+      c .before .before .draw-many .ensures .0 ∙ when-passed causes _ says refused _ ok,
+      c .before .before .draw-many .ensures .1 ∙ when-passed causes _ says (λ (n : ℕ). a .out .now) _ ok,
+    )
 
 pub grid-spec : {M : Type 1} → statement M
 grid-spec =

@@ -59,9 +59,9 @@ loop-again c =
 returns : tie.Need-returns Inv-loop μ-loop
 returns c =
     λ mode n.
-        let a = c .before .before .before .args in
-        let e : c .before .loop .i ≡ a .k = omega arith in
-        ap (withEnds (a .tally)) (c .before .loop .inv .1 mode n ∙ ap (λ (m : ℕ). gatherFrom gatherEnds mode n (endsIn (a .tally)) (take m (a .values .now))) e)
+    let a = c .before .before .before .args in
+    let e : c .before .loop .i ≡ a .k = omega arith in
+    ap (withEnds (a .tally)) (c .before .loop .inv .1 mode n ∙ ap (λ (m : ℕ). gatherFrom gatherEnds mode n (endsIn (a .tally)) (take m (a .values .now))) e)
 
 pub stretched-spec : {M : Type 1} → statement M
 stretched-spec =
