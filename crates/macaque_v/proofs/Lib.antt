@@ -5,3 +5,9 @@ pub mod Coding
 pub mod Stepping
 pub mod Writing
 pub mod Accepting
+pub mod ReadingWord
+pub mod ReadingCode
+pub mod ReadingRun
+pub mod ReadingTally
+pub mod ReadingEnd
+pub mod ReadingAll

@@ -5,3 +5,6 @@ pub mod Code
 pub mod Write
 pub mod Calls
 pub mod Made
+pub mod ReadCode
+pub mod ReadRun
+pub mod Read

@@ -2,6 +2,9 @@
 
 pub mod code;
 pub mod keep;
+pub mod read;
+pub mod read_code;
+pub mod read_run;
 mod write;
 
 use models::ErrorBound;
