@@ -9,7 +9,8 @@ use native.Mathlib.Omega.{arith}
 use borrow.Author.Tests.{le-leb, le-ltb}
 use lib.Dec.{ltb}
 use lib.ListN.{length, take, drop}
-use Rattle.bits.specs.Bits.{Below, wholeBytes, laidIn}
+use Rattle.bits.specs.Bits.{Below, bitsOf, wholeBytes, laidIn, cutIn}
+use Rattle.bits.proofs.InBytes.{length-cutIn}
 use Rattle.models.specs.Answers.{Said, answered, refused, SaidOn, answeredOn, refusedOn, Done, Cause, _when_, judge, verdict}
 use Rattle.models.specs.Bound.{boundAllowed}
 use Rattle.models.specs.declared.ErrorBound.{ErrorBound}
@@ -17,12 +18,13 @@ use Rattle.models.specs.declared.ErrorBound.the-variants.{Lossless}
 use Rattle.models.proofs.Judged.{none, accepted-only}
 use Rattle.models.proofs.Judged as judging
 use Rattle.stream.specs.Format.{State, macaque, mostValues, usable}
-use Rattle.stream.specs.Write.{wrote, kept, streamOf}
-use Rattle.stream.specs.Read.{Reopened, reopened, bufferAfter}
+use Rattle.stream.specs.Write.{wrote, kept, wroteIn, streamOf}
+use Rattle.stream.specs.Read.{Reading, done, stopped, readAll, Reopened, reopened, bufferAfter}
 use Rattle.stream.specs.Made as theory
 use Rattle.stream.proofs.Formats.{macaque-good}
 use Rattle.stream.proofs.Writing.{count-after, length-kept, wrote-append, kept-lossless}
 use Rattle.stream.proofs.Made as spine
+use Rattle.stream.proofs.AnyStream.{any-resumed}
 use Rattle.macaque_v.specs.Keep.{keepRule}
 use Rattle.macaque_v.specs.State.{Ends, streamIn, stateOf, writerOf, isFirst, openingValue, opened}
 use Rattle.macaque_v.specs.Write.{writerAt, wroteBy, writtenBy}
@@ -179,3 +181,62 @@ a-fresh-writer b o buf m h = go (boundAllowed b) h
         let T = spine.made-fresh (keepRule b) (streamIn (isFirst o)) (openingValue o) buf in
         subst (λ (w : MacaqueV). Made b o [] buf w) (sym (same (writerOf b (isFirst o) (opened o)) e))
         (record { writer = ap (writerOf b (isFirst o)) (T .state); bytes = T .bytes })
+
+-- ---- "On any accepted stream, even one this writer would not write, reopening at k and writing reads back as the first k values and then the newly
+-- kept ones"
+
+-- what reopening at k answers where the first `used` bytes of buf read as vs, and what any accepted write from there leaves to be read
+pub record Resumes (b : ErrorBound) (o : Opening) (n k used : ℕ) (buf vs : List ℕ) : Type 0 where
+  pub writer : MacaqueV
+  pub opens : reopenAnswer buf used n k o b ≡ answered writer
+  pub reads : (ys : List ℕ) → Below 32 ys → (after : MacaqueV) → writeAnswer writer ys (reopenMemory buf used n k o b) ≡ answeredOn after
+      → valuesIn (take (wholeBytes (after .place)) (writeMemory writer ys (reopenMemory buf used n k o b))) (k + length ys) o
+      ≡ answered (take k vs ++ kept (keepRule b) (streamIn (isFirst o)) (stateOf writer) ys)
+
+-- what was read, and the state behind it
+read-whole : {A : Type 0} (q : Reading A) (vs : List ℕ) → valuesRead q ≡ answered vs → (t : State A) × (r : List Bool) × (q ≡ done vs t r)
+read-whole (done us t r) vs h = (t, r, ap (λ (z : List ℕ). done z t r) (same us vs h))
+  where
+    same : (us vs : List ℕ) → _≡_ {A = Said (List ℕ)} (answered us) (answered vs) → us ≡ vs
+    same us vs e = cc
+read-whole (stopped f) vs h = absurd (never (f .no) vs h)
+  where
+    never : (n : ℕ) (vs : List ℕ) → _≡_ {A = Said (List ℕ)} (refused n) (answered vs) → ⊥
+    never n vs e = let z : _≡_ {A = ℕ} 0 1 = cc in omega arith
+
+-- an accepted write, as the theory has it
+module _ (b : ErrorBound) (o : Opening) (t : State Ends) (ys buf : List ℕ) (after : MacaqueV)
+    (h : writeAnswer (writerOf b (isFirst o) t) ys buf ≡ answeredOn after) where
+  wrote-on : (after ≡ writerOf b (isFirst o) (wrote (keepRule b) (streamIn (isFirst o)) t ys))
+      × ((wrote (keepRule b) (streamIn (isFirst o)) t ys) .place ≤ 8 * length buf)
+      × (writeMemory (writerOf b (isFirst o) t) ys buf ≡ wroteIn (keepRule b) (streamIn (isFirst o)) t ys buf)
+  unfolding writeAnswer writeMemory
+  wrote-on =
+      let m : MacaqueV = writerOf b (isFirst o) t in
+      let causes : List Cause = writeCauses m ys (lentBytes (length buf)) in
+      let a = accepted-only m causes (writerOf b (isFirst o) (wrote (keepRule b) (streamIn (isFirst o)) t ys)) after h in
+      (sym (a .1), accepted m ys buf (a .0) .1, sym (judging.accepted (λ (k : ℕ). buf) (laidIn buf (t .place) (writtenBy m ys)) causes (none causes (a .0))))
+
+pub any-stream-resumes : (b : ErrorBound) (o : Opening) (n k used : ℕ) (buf vs : List ℕ) → boundAllowed b ≡ true → openingValue o < 2 ^ 32 → n ≤ 65536
+    → k ≤ n → used ≤ length buf → valuesIn (take used buf) n o ≡ answered vs → Resumes b o n k used buf vs
+unfolding reopenAnswer reopenMemory judge
+any-stream-resumes b o n k used buf vs ok hl most le fits h =
+    let S = streamIn (isFirst o) in
+    let w = read-whole (readAll S n (opened o) (bitsOf (take used buf))) vs h in
+    let R = any-resumed (keepRule b) S macaque-good (keeps b 32) (openingValue o) hl n k used buf le most fits vs (w .0) (w .1) (w .2) in
+    let few : ltb 65536 n ≡ false = le-ltb 65536 n most in
+    let inside : ltb n k ≡ false = le-ltb n k le in
+    let held : ltb (length buf) used ≡ false = le-ltb (length buf) used fits in
+    let t : State Ends = R .state in
+    let memory : reopenMemory buf used n k o b ≡ cutIn buf (t .place) = rw (ok, few, inside, held) (ap (λ (q : Reopened Ends). bufferAfter q buf) (R .opens)) in
+    let long : length (cutIn buf (t .place)) ≡ length buf = length-cutIn buf (t .place) (omega (arith, R .placed)) in
+    record {
+      writer = writerOf b (isFirst o) t;
+      opens = rw (ok, few, inside, held) (ap (resumed b (isFirst o)) (R .opens));
+      reads = λ ys by after e.
+          let u = wrote-on b o t ys (cutIn buf (t .place)) after (ap (writeAnswer (writerOf b (isFirst o) t) ys) (sym memory) ∙ e) in
+          let room : (wrote (keepRule b) S t ys) .place ≤ 8 * length buf = omega (arith, u .1, long) in
+          ap₂ (λ (p : ℕ) (z : List ℕ). valuesIn (take (wholeBytes p) z) (k + length ys) o) (ap (λ (v : MacaqueV). v .place) (u .0))
+          (ap (writeMemory (writerOf b (isFirst o) t) ys) memory ∙ u .2)
+          ∙ ap valuesRead (R .reads ys by room);
+    }
