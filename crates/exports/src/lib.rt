@@ -2,8 +2,9 @@
 // one that 01 names. A call answers 0 or the number of its refusal; its values go into a lent row,
 // of which a refusal changes nothing.
 ghost use mathlib.Core.Path.{_≡_};
-ghost use mathlib.Core.List.{[], _∷_};
-ghost use lib.ListN.{length};
+ghost use mathlib.Core.List.{[], _∷_, _++_};
+ghost use Prim.Native.Nat.{_≤_};
+ghost use lib.ListN.{length, drop};
 ghost use lib.Ieee.{binary32, binary64, ofBits, toBits};
 ghost use Rattle.numbers.specs.Narrowed.{narrowed};
 ghost use Rattle.models.specs.Refusals.{number};
@@ -36,7 +37,7 @@ pub extern "C" fn modelardb_narrow(bits: u64) -> u32
 
 // Kind 0 is Lossless, 1 Absolute, 2 Relative. A higher one is no bound: what stands for it is not
 // allowed, so that the call behind refuses it with 1.
-fn bound_of(kind: u32, bits: u32) -> ErrorBound
+pub fn bound_of(kind: u32, bits: u32) -> ErrorBound
     ensures { λ r. ⌜ r ≡ boundOf kind bits ⌝ }
 {
     if kind == 0 {
@@ -52,7 +53,7 @@ fn bound_of(kind: u32, bits: u32) -> ErrorBound
     ErrorBound::Absolute(0.0 / 0.0)
 }
 
-fn word_of(is: bool) -> u32
+pub fn word_of(is: bool) -> u32
     ensures { λ r. ⌜ r ≡ wordOf is ⌝ }
 {
     if is { 1 } else { 0 }
@@ -60,7 +61,7 @@ fn word_of(is: bool) -> u32
 
 // What a refused call answers, where a row of `room` words is lent for `need` of them: 4 comes
 // before a cause that 01 judges after it.
-fn number_with(r: Refusal, need: usize, room: usize) -> u32
+pub fn number_with(r: Refusal, need: usize, room: usize) -> u32
     ensures { λ n. ⌜ n ≡ refusalNumber need room (number r) ⌝ }
 {
     let n = models::number_of(r);
@@ -71,6 +72,18 @@ fn number_with(r: Refusal, need: usize, room: usize) -> u32
         return n;
     }
     if room < need { 4 } else { n }
+}
+
+// Words to the front of a row that holds them.
+pub fn put_words(words: &[u64], row: &mut [u64])
+    requires { ⌜ length (now words) ≤ length (now row) ⌝ }
+    ensures { λ _. ⌜ now (row .exit) ≡ now (words .entry) ++ drop (length (now (words .entry))) (now (row .entry)) ⌝ }
+{
+    let mut i: usize = 0;
+    while i < words.len() {
+        row[i] = words[i];
+        i += 1;
+    }
 }
 
 // 1 into out[0] where the approximate value may stand for the real one, else 0.

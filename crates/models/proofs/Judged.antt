@@ -1,10 +1,10 @@
 -- What a verdict on a call's causes tells of all that the call judges by them: its answer, the state, lent memory. Assumes nothing.
 use mathlib.Core.Path.{_≡_, refl, sym, ap, _∙_}
 use mathlib.Core.Bool.{Bool, true, false, cond}
-use mathlib.Core.List.{List, [], _∷_}
+use mathlib.Core.List.{List, [], _∷_, _++_}
 use Prim.Native.Nat.{ℕ}
 use native.Mathlib.Omega.{arith}
-use Rattle.models.specs.Answers.{Said, Done, answered, refused, Cause, _when_, judge, verdict, Stepped, stateAfter, judgedOn}
+use Rattle.models.specs.Answers.{Said, Done, answered, refused, SaidOn, answeredOn, refusedOn, Cause, _when_, judge, verdict, Stepped, stateAfter, judgedOn}
 use Rattle.models.specs.Refusals.{number}
 use Rattle.models.specs.Calls.{saysVerdict}
 use Rattle.models.specs.declared.Refusal.{Refusal}
@@ -23,22 +23,48 @@ apart n e = let z : _≡_ {A = ℕ} 0 1 = cc in omega arith
 same-number : (n k : ℕ) → _≡_ {A = Said Done} (refused n) (refused k) → n ≡ k
 same-number n k e = cc
 
-none : (causes : List Cause) → verdict causes ≡ answered tt → NoneHolds causes
+pub none : (causes : List Cause) → verdict causes ≡ answered tt → NoneHolds causes
 unfolding judge
 none [] h = tt
 none (n when true ∷ causes) h = absurd (apart n h)
 none (n when false ∷ causes) h = (refl, none causes h)
 
-accepted : {X : Type 0} (refuse : ℕ → X) (x : X) (causes : List Cause) → NoneHolds causes → x ≡ judge refuse causes x
+pub accepted : {X : Type 0} (refuse : ℕ → X) (x : X) (causes : List Cause) → NoneHolds causes → x ≡ judge refuse causes x
 unfolding judge
 accepted refuse x [] h = refl
 accepted refuse x (n when holds ∷ causes) h = rw (h .0) (accepted refuse x causes (h .1))
 
-turned-back : {X : Type 0} (refuse : ℕ → X) (x : X) (causes : List Cause) (n : ℕ) → verdict causes ≡ refused n → refuse n ≡ judge refuse causes x
+pub turned-back : {X : Type 0} (refuse : ℕ → X) (x : X) (causes : List Cause) (n : ℕ) → verdict causes ≡ refused n → refuse n ≡ judge refuse causes x
 unfolding judge
 turned-back refuse x [] n h = absurd (apart n (sym h))
 turned-back refuse x (k when true ∷ causes) n h = rw (same-number k n h)
 turned-back refuse x (k when false ∷ causes) n h = turned-back refuse x causes n h
+
+-- causes that are judged in two parts
+pub refused-first : (first later : List Cause) (n : ℕ) → verdict first ≡ refused n → verdict (first ++ later) ≡ refused n
+unfolding judge
+refused-first [] later n h = absurd (apart n (sym h))
+refused-first (k when true ∷ first) later n h = h
+refused-first (k when false ∷ first) later n h = refused-first first later n h
+
+pub passed-first : (first later : List Cause) → verdict first ≡ answered tt → verdict (first ++ later) ≡ verdict later
+unfolding judge
+passed-first [] later h = refl
+passed-first (k when true ∷ first) later h = absurd (apart k h)
+passed-first (k when false ∷ first) later h = passed-first first later h
+
+-- an accepted answer tells that no cause held, and what was answered
+pub accepted-only : {S A : Type 0} (s : S) (causes : List Cause) (a x : A) → judgedOn s causes a ≡ answeredOn x → (verdict causes ≡ answered tt) × (a ≡ x)
+unfolding judge
+accepted-only s [] a x h = (refl, same a x h)
+  where
+    same : {S A : Type 0} (a x : A) → _≡_ {A = SaidOn S A} (answeredOn a) (answeredOn x) → a ≡ x
+    same a x e = cc
+accepted-only s (n when true ∷ causes) a x h = absurd (never s n x h)
+  where
+    never : {S A : Type 0} (s : S) (n : ℕ) (x : A) → _≡_ {A = SaidOn S A} (refusedOn n s) (answeredOn x) → ⊥
+    never s n x e = let z : _≡_ {A = ℕ} 0 1 = cc in omega arith
+accepted-only s (n when false ∷ causes) a x h = accepted-only s causes a x h
 
 -- ---- by the verdict v that a function gave on them
 module _ (causes : List Cause) (v : Verdict) (says : saysVerdict v ≡ verdict causes) where

@@ -1,0 +1,95 @@
+-- A writer's state as a row of ten words: the bound's kind and bits; the least, the greatest and the last kept value; the window's leading and
+-- trailing zeros; 1 where the first value is stored in full, else 0; the place; the length. Assumes nothing.
+use mathlib.Core.Bool.{Bool, true, false, cond, _&&_}
+use mathlib.Core.List.{List, [], _∷_, _++_}
+use Prim.Native.Nat.{ℕ, _^_}
+use lib.Dec.{eqb, leb, ltb}
+use lib.Ieee.{nan, binary32, toBits}
+use lib.ListN.{length, drop, getD}
+use Rattle.models.specs.Answers.{Said, answered, refused, SaidOn, answeredOn, refusedOn}
+use Rattle.models.specs.Floats.{freshBits}
+use Rattle.models.specs.declared.ErrorBound.{ErrorBound}
+use Rattle.models.specs.declared.ErrorBound.the-variants.{Lossless, Absolute, Relative}
+use Rattle.exports.specs.Face.{boundOf, wordOf}
+use Rattle.macaque_v.specs.declared.MacaqueV.{MacaqueV}
+
+abbrev pub rowLength : ℕ
+rowLength = 10
+
+-- ---- a state's words
+
+abbrev pub kindOf : ErrorBound → ℕ
+kindOf Lossless = 0
+kindOf (Absolute e) = 1
+kindOf (Relative e) = 2
+
+abbrev pub bitsOf : ErrorBound → ℕ
+bitsOf Lossless = 0
+bitsOf (Absolute e) = toBits binary32 e
+bitsOf (Relative e) = toBits binary32 e
+
+unfoldable pub rowOf : MacaqueV → List ℕ
+rowOf m =
+    kindOf (m .«error_bound»)
+    ∷ bitsOf (m .«error_bound»)
+    ∷ m .«min_value»
+    ∷ m .«max_value»
+    ∷ m .«last_value»
+    ∷ m .«last_leading_zero_bits»
+    ∷ m .«last_trailing_zero_bits»
+    ∷ wordOf (m .«with_first»)
+    ∷ m .place
+    ∷ m .length
+    ∷ []
+
+-- ---- the state that words stand for
+
+abbrev pub small : ℕ → Bool
+small w = ltb w (2 ^ 32)
+
+-- a bound whose words are not of 32 bits is none, and stands for one that is not allowed
+unfoldable pub boundIn : ℕ → ℕ → ErrorBound
+boundIn kind bits = cond (small kind && small bits) (boundOf kind bits) (Absolute nan)
+
+-- words of 32 bits where the state has such, and a flag of 0 or 1
+unfoldable pub standsForState : List ℕ → Bool
+standsForState row =
+    small (getD row 2 0)
+    && (small (getD row 3 0)
+    && (small (getD row 4 0)
+    && (small (getD row 5 0)
+    && (small (getD row 6 0) && leb (getD row 7 0) 1))))
+
+-- the state that no buffer allows: it has a place and no value
+abbrev pub spoiled : ErrorBound → MacaqueV
+spoiled b =
+    record {
+      «error_bound» = b;
+      «min_value» = freshBits;
+      «max_value» = freshBits;
+      «last_value» = 0;
+      «last_leading_zero_bits» = 255;
+      «last_trailing_zero_bits» = 0;
+      «with_first» = false;
+      place = 1;
+      length = 0;
+    }
+
+abbrev pub read : ErrorBound → List ℕ → MacaqueV
+read b row =
+    record {
+      «error_bound» = b;
+      «min_value» = getD row 2 0;
+      «max_value» = getD row 3 0;
+      «last_value» = getD row 4 0;
+      «last_leading_zero_bits» = getD row 5 0;
+      «last_trailing_zero_bits» = getD row 6 0;
+      «with_first» = eqb (getD row 7 0) 1;
+      place = getD row 8 0;
+      length = getD row 9 0;
+    }
+
+unfoldable pub writerIn : List ℕ → MacaqueV
+writerIn row =
+    let b = boundIn (getD row 0 0) (getD row 1 0) in
+    cond (standsForState row) (read b row) (spoiled b)

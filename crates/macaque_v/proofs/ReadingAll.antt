@@ -1,0 +1,181 @@
+-- A whole stream in lent bytes, as the calls speak of it: the values of the theory's stream, and the state that reopening answers. Assumes nothing.
+use mathlib.Core.Path.{_≡_, refl, sym, ap, ap₂, _∙_, subst}
+use mathlib.Core.Bool.{Bool, false}
+use mathlib.Core.List.{List, _++_}
+use mathlib.Core.Option.{Option, none, some}
+use Prim.Native.Nat.{ℕ, _+_, _-_, _*_, _^_, _≤_, _<_}
+use native.Mathlib.Omega.{arith}
+use lib.ListN.{length, take, drop, take-append-drop}
+use Rattle.bits.specs.Bits.{bitsOf}
+use Rattle.models.specs.Answers.{answered, refused}
+use Rattle.models.specs.Refusals.{number}
+use Rattle.models.specs.declared.Refusal.{Refusal}
+use Rattle.stream.specs.Format.{Gather, gatherFrom, Stream, State}
+use Rattle.stream.specs.Read as stream
+use Rattle.stream.specs.Read.{Reading, done, stopped, readN, leftover, judged, ended, readAll, Reopened, reopened, stateOf, checked, reopen}
+use Rattle.stream.specs.Cases.{plain}
+use Rattle.stream.proofs.Reading.{prepend, thenRead, read-then}
+use Rattle.stream.proofs.Gathered.{SeenIn, seen-read, instead, holding, Alike, read-any}
+use Rattle.macaque_v.specs.State.{Ends, gatherEnds, modeOf, streamIn, isFirst, opened}
+use Rattle.macaque_v.specs.ReadRun.{stateAt, Stands, readFrom, Reads, StopsBy, FillSays, leftBehind}
+use Rattle.macaque_v.specs.Read.{valuesRead, valuesIn, startOf, reopening, stateWith, Unopened}
+use Rattle.macaque_v.specs.declared.Opening.{Opening}
+use Rattle.macaque_v.specs.declared.read_run.Cursor.{Cursor}
+use Rattle.macaque_v.specs.declared.read_run.Run.{Run}
+use Rattle.macaque_v.specs.declared.read_run.Run.the-variants as OfRun
+use Rattle.macaque_v.proofs.ReadingRun.{reads-none, reads-then, then-stops}
+use Rattle.macaque_v.proofs.ReadingEnd.{ends-right, ends-early}
+
+-- ---- readings that differ in what they gather
+
+module _ {A B : Type 0} (S : Stream A) (G : Gather B) where
+  alike-ended : (p : Reading A) (q : Reading B) → Alike S G p q → Alike S G (ended p) (ended q)
+  unfolding ended
+  alike-ended (done vs s r) (done us t b) e =
+      subst (λ (z : List ℕ). Alike S G (ended (done vs s r)) (ended (done z t b))) (e .0)
+      (subst (λ (z : State B). Alike S G (ended (done vs s r)) (ended (done vs z b))) (e .1)
+      (subst (λ (z : List Bool). Alike S G (ended (done vs s r)) (ended (done vs (holding S G (t .seen) s) z))) (e .2)
+      (go (leftover (s .place) r))))
+    where
+      go : (o : Option ℕ) → Alike S G (judged vs s r o) (judged vs (holding S G (t .seen) s) r o)
+      go none = (refl, refl, refl)
+      go (some p) = refl
+  alike-ended (done vs s r) (stopped f) e = absurd e
+  alike-ended (stopped f) (done us t b) e = absurd e
+  alike-ended (stopped f) (stopped g) e = e
+
+  alike-values : (p : Reading A) (q : Reading B) → Alike S G p q → valuesRead p ≡ valuesRead q
+  alike-values (done vs s r) (done us t b) e = ap answered (e .0)
+  alike-values (done vs s r) (stopped f) e = absurd e
+  alike-values (stopped f) (done us t b) e = absurd e
+  alike-values (stopped f) (stopped g) e = ap (λ (h : _). refused (h .no)) e
+
+  alike-stops : (p : Reading A) (q : Reading B) (r : Refusal) → Alike S G p q → StopsBy p r → StopsBy q r
+  alike-stops p q r e s = go q (subst (λ (z : Reading A). Alike S G z q) (s .stops) e)
+    where
+      go : (z : Reading B) → Alike S G (stopped (s .fault)) z → StopsBy z r
+      go (done us t b) k = absurd k
+      go (stopped g) k = record { fault = s .fault; stops = ap stopped (sym k); numbered = s .numbered }
+
+  -- an accepted stream is checked
+  alike-checked : (p : Reading A) (q : Reading B) (vs : List ℕ) (t : State A) (b : List Bool) → Alike S G p q → p ≡ done vs t b → (x : Reopened B) → checked q x ≡ x
+  alike-checked p q vs t b e f x = go q (subst (λ (z : Reading A). Alike S G z q) f e)
+    where
+      go : (z : Reading B) → Alike S G (done vs t b) z → checked z x ≡ x
+      go (done us u c) k = refl
+      go (stopped g) k = absurd k
+
+  -- the state has gathered over the values read
+  read-gathering : (n : ℕ) (s : State A) (b : B) (bits : List Bool) (vs : List ℕ) (t : State A) (r : List Bool) → readN S n s bits ≡ done vs t r
+      → readN (instead S G) n (holding S G b s) bits ≡ done vs (holding S G (gatherFrom G (S .mode) (s .count) b vs) t) r
+  read-gathering n s b bits vs t r e =
+      go (readN (instead S G) n (holding S G b s) bits) refl
+      (subst (λ (z : Reading A). Alike S G z (readN (instead S G) n (holding S G b s) bits)) e (read-any S G n s b bits))
+      (seen-read (instead S G) n (holding S G b s) bits)
+    where
+      go : (q : Reading B) → readN (instead S G) n (holding S G b s) bits ≡ q → Alike S G (done vs t r) q → SeenIn (instead S G) (holding S G b s) q
+          → readN (instead S G) n (holding S G b s) bits ≡ done vs (holding S G (gatherFrom G (S .mode) (s .count) b vs) t) r
+      go (done us u c) is k seen =
+          let same : u .seen ≡ gatherFrom G (S .mode) (s .count) b vs = seen ∙ ap (gatherFrom G (S .mode) (s .count) b) (sym (k .0)) in
+          is ∙ ap₂ (λ (z : List ℕ) (w : State B). done z w c) (sym (k .0)) (sym (k .1)) ∙ ap₂ (λ (z : B) (w : List Bool). done vs (holding S G z t) w) same (sym (k .2))
+      go (stopped f) is k seen = absurd k
+
+-- ---- from the start
+
+pub start-stands : (bytes : List ℕ) (o : Opening) → (startOf o) .last < 2 ^ 32 → Stands bytes (startOf o)
+start-stands bytes o h = record { within = omega arith; near = omega arith; small = h; held = λ set. absurd (set refl) }
+
+pub starts : (bytes : List ℕ) (o : Opening) (at : Cursor) → (at ≡ startOf o) × (at .last < 2 ^ 32) → Stands bytes at × (at .count ≡ 0)
+starts bytes o at h =
+    (subst (Stands bytes) (sym (h .0)) (start-stands bytes o (subst (λ (c : Cursor). c .last < 2 ^ 32) (h .0) (h .1))), ap (λ (c : Cursor). c .count) (h .0))
+
+module _ (bytes : List ℕ) (o : Opening) where
+  all-alike : (n : ℕ) → Alike (plain (modeOf (isFirst o))) gatherEnds (ended (readFrom (isFirst o) bytes (startOf o) n)) (readAll (streamIn (isFirst o)) n (opened o) (bitsOf bytes))
+  all-alike n =
+      let S : Stream Unit = plain (modeOf (isFirst o)) in
+      alike-ended S gatherEnds (readFrom (isFirst o) bytes (startOf o) n) (readN (streamIn (isFirst o)) n (opened o) (bitsOf bytes))
+      (read-any S gatherEnds n (stateAt (startOf o)) (gatherEnds .none) (bitsOf bytes))
+
+  -- ---- the values
+
+  same-values : (n : ℕ) → valuesIn bytes n o ≡ valuesRead (ended (readFrom (isFirst o) bytes (startOf o) n))
+  same-values n = sym (alike-values (plain (modeOf (isFirst o))) gatherEnds (ended (readFrom (isFirst o) bytes (startOf o) n)) _ (all-alike n))
+
+  pub values-right : {n : ℕ} {vs : List ℕ} {to : Cursor} → Reads (isFirst o) bytes (startOf o) n vs to → leftBehind bytes (to .place) ≡ false → valuesIn bytes n o ≡ answered vs
+  values-right {n} R e = same-values n ∙ ap valuesRead (ends-right R e)
+
+  pub values-wrong : (n : ℕ) (r : Refusal) → StopsBy (ended (readFrom (isFirst o) bytes (startOf o) n)) r → valuesIn bytes n o ≡ refused (number r)
+  values-wrong n r s = same-values n ∙ ap valuesRead (s .stops) ∙ ap refused (s .numbered)
+
+  -- a stream that is right is read again as it was
+  pub filled-again : {n : ℕ} {vs : List ℕ} {to : Cursor} → Reads (isFirst o) bytes (startOf o) n vs to → (old new : List ℕ) (r : Run)
+      → FillSays (isFirst o) bytes (startOf o) n old new r → new ≡ vs ++ drop (length vs) old
+  filled-again {n} {vs} R old new (OfRun.To at) f =
+      let same : take n new ≡ vs = equal (sym (f .0 .values) ∙ R .values) in
+      sym (take-append-drop n new) ∙ ap₂ (λ (x y : List ℕ). x ++ y) same (f .1 ∙ ap (λ (m : ℕ). drop m old) (sym (R .long)))
+    where
+      equal : {us ws : List ℕ} {s t : State Unit} {b c : List Bool} → _≡_ {A = Reading Unit} (done us s b) (done ws t c) → us ≡ ws
+      equal e = cc
+  filled-again {n} {vs} R old new (OfRun.Refused r) f = absurd (never (clash (sym (R .values) ∙ f .stops)))
+    where
+      clash : {ws : List ℕ} {t : State Unit} {c : List Bool} {g : stream.Refusal} → _≡_ {A = Reading Unit} (done ws t c) (stopped g) → _≡_ {A = ℕ} 0 1
+      clash e = cc
+
+      never : _≡_ {A = ℕ} 0 1 → ⊥
+      never e = omega arith
+
+  -- ---- the state after k of n values
+
+  module _ (n k : ℕ) (le : k ≤ n) where
+    whole : k + (n - k) ≡ n
+    whole = omega arith
+
+    stops-unopened : {r : Refusal} → StopsBy (ended (readFrom (isFirst o) bytes (startOf o) n)) r → Unopened (reopening bytes n k o) r
+    unfolding reopen
+    stops-unopened {r} s =
+        let S : Stream Unit = plain (modeOf (isFirst o)) in
+        let t = alike-stops S gatherEnds (ended (readFrom (isFirst o) bytes (startOf o) n)) (readAll (streamIn (isFirst o)) n (opened o) (bitsOf bytes)) r (all-alike n) s in
+        record {
+          fault = t .fault;
+          opens = ap (λ (q : Reading Ends). checked q (stateOf (readN (streamIn (isFirst o)) k (opened o) (bitsOf bytes)))) (t .stops);
+          numbered = t .numbered;
+        }
+
+    -- it stops among the first k values
+    pub early-unopened : {r : Refusal} → Stands bytes (startOf o) → StopsBy (readFrom (isFirst o) bytes (startOf o) k) r → Unopened (reopening bytes n k o) r
+    early-unopened h s = stops-unopened (ends-early (then-stops (isFirst o) bytes (reads-none (isFirst o) bytes (startOf o) h) k s n (omega arith)))
+
+    module _ {us : List ℕ} {at : Cursor} (R : Reads (isFirst o) bytes (startOf o) k us at) where
+      ended-prepend : (q : Reading Unit) → ended (prepend us q) ≡ prepend us (ended q)
+      unfolding ended
+      ended-prepend (done vs s b) = go (leftover (s .place) b)
+        where
+          go : (p : Option ℕ) → judged (us ++ vs) s b p ≡ prepend us (judged vs s b p)
+          go none = refl
+          go (some p) = refl
+      ended-prepend (stopped f) = refl
+
+      -- it stops behind them
+      pub late-unopened : {r : Refusal} → StopsBy (ended (readFrom (isFirst o) bytes at (n - k))) r → Unopened (reopening bytes n k o) r
+      late-unopened {r} s =
+          let S : Stream Unit = plain (modeOf (isFirst o)) in
+          stops-unopened
+          (record {
+            fault = s .fault;
+            stops =
+                ap (λ (m : ℕ). ended (readFrom (isFirst o) bytes (startOf o) m)) (sym whole)
+                ∙ ap ended (read-then S k (n - k) (stateAt (startOf o)) (bitsOf bytes) ∙ ap (thenRead S (n - k)) (R .values))
+                ∙ ended-prepend (readFrom (isFirst o) bytes at (n - k))
+                ∙ ap (prepend us) (s .stops);
+            numbered = s .numbered;
+          })
+
+      pub right-reopened : {vs : List ℕ} {to : Cursor} → Reads (isFirst o) bytes at (n - k) vs to → leftBehind bytes (to .place) ≡ false
+          → reopening bytes n k o ≡ reopened (stateWith at (gatherFrom gatherEnds (modeOf (isFirst o)) 0 (gatherEnds .none) us))
+      unfolding reopen
+      right-reopened {vs} {to} Q e =
+          let S : Stream Unit = plain (modeOf (isFirst o)) in
+          let all : Reads (isFirst o) bytes (startOf o) n (us ++ vs) to = subst (λ (m : ℕ). Reads (isFirst o) bytes (startOf o) m (us ++ vs) to) whole (reads-then (isFirst o) bytes R Q) in
+          alike-checked S gatherEnds (ended (readFrom (isFirst o) bytes (startOf o) n)) (readAll (streamIn (isFirst o)) n (opened o) (bitsOf bytes))
+          (us ++ vs) (stateAt to) (drop (to .place) (bitsOf bytes)) (all-alike n) (ends-right all e) (stateOf (readN (streamIn (isFirst o)) k (opened o) (bitsOf bytes)))
+          ∙ ap stateOf (read-gathering S gatherEnds k (stateAt (startOf o)) (gatherEnds .none) (bitsOf bytes) us (stateAt at) (drop (at .place) (bitsOf bytes)) (R .values))

@@ -1,0 +1,162 @@
+-- Reading one value in lent bytes, some and then more, and into lent memory. Assumes nothing.
+use mathlib.Core.Path.{_≡_, refl, sym, ap, ap₂, _∙_, subst}
+use mathlib.Core.Logic.{_⊎_, inl, inr}
+use mathlib.Core.Bool.{Bool}
+use mathlib.Core.List.{List, [], _∷_, _++_}
+use Prim.Native.Nat.{ℕ, suc, _+_, _-_, _*_, _≤_, _<_, min}
+use native.Mathlib.Nat.{min-le-left, min-le-right}
+use native.Mathlib.Numerals.{add-one}
+use native.Mathlib.Omega.{arith}
+use lib.ListN.{length, take, drop, getD, set, length-append, length-take, length-drop}
+use lib.Seq.{take-suc, take-suc-set, drop-cons, drop-drop, drop-set-lt, set-at, append-snoc, length-take-le}
+use Rattle.bits.specs.Bits.{bitsOf}
+use Rattle.bits.proofs.Bytes.{length-bitsOf}
+use Rattle.models.specs.Refusals.{number}
+use Rattle.models.specs.declared.Refusal.{Refusal}
+use Rattle.stream.specs.Format.{macaque, Window, rawNext, advance}
+use Rattle.stream.specs.Read.{Step, got, refused, done, push, follow, stepAt, readOne, readN}
+use Rattle.stream.specs.Cases.{plain}
+use Rattle.stream.proofs.Formats.{macaque-good}
+use Rattle.stream.proofs.OwnBits.{Own, own}
+use Rattle.stream.proofs.Reading.{prepend, thenRead, read-then}
+use Rattle.stream.proofs.Steps.{read-stopped}
+use Rattle.macaque_v.specs.State.{modeOf}
+use Rattle.macaque_v.specs.Code.{windowIn}
+use Rattle.macaque_v.specs.ReadCode.{Held}
+use Rattle.macaque_v.specs.ReadRun.{stateAt, Stands, readFrom, Reads, StopsBy}
+use Rattle.macaque_v.specs.declared.read_run.Cursor.{Cursor}
+use Rattle.macaque_v.proofs.ReadingWord.{read-of-45}
+
+-- where reading stands behind one more value
+abbrev pub moved : Cursor → ℕ → ℕ → ℕ → ℕ → Cursor
+moved at v lead trail used = record { last = v; lead = lead; trail = trail; place = at .place + used; count = at .count + 1 }
+
+module _ (first : Bool) (bytes : List ℕ) where
+  -- ---- one value, by the 45 bits ahead
+
+  module _ (at : Cursor) (s : Stands bytes at) (raw : Bool) (is : raw ≡ rawNext (modeOf first) (at .count)) where
+    abbrev rest : List Bool
+    rest = drop (at .place) (bitsOf bytes)
+
+    rest-long : length rest ≡ 8 * length bytes - at .place
+    rest-long = length-drop (at .place) (bitsOf bytes) ∙ ap (λ (n : ℕ). n - at .place) (length-bitsOf bytes)
+
+    step-is : (q : Step) → readOne macaque raw (windowIn (at .lead) (at .trail)) (at .last) (take 45 rest) ≡ q
+        → stepAt (plain (modeOf first)) (stateAt at) rest ≡ q
+    step-is q e =
+        let win : Window = windowIn (at .lead) (at .trail) in
+        ap (λ (r : Bool). readOne macaque r win (at .last) rest) (sym is) ∙ sym (read-of-45 raw win (at .last) rest) ∙ e
+
+    -- one value's answer, by its step
+    one-by : (q : Step) → readOne macaque raw (windowIn (at .lead) (at .trail)) (at .last) (take 45 rest) ≡ q
+        → readFrom first bytes at 1 ≡ follow (stateAt at) q (λ v w u. done (v ∷ []) (advance (plain (modeOf first)) (stateAt at) v w u) (drop u rest))
+    unfolding readN
+    one-by q e =
+        ap (λ (t : Step). follow (stateAt at) t (λ v w u. push v (readN (plain (modeOf first)) 0 (advance (plain (modeOf first)) (stateAt at) v w u) (drop u rest)))) (step-is q e)
+        ∙ go q
+      where
+        go : (t : Step) → follow (stateAt at) t (λ v w u. push v (readN (plain (modeOf first)) 0 (advance (plain (modeOf first)) (stateAt at) v w u) (drop u rest)))
+            ≡ follow (stateAt at) t (λ v w u. done (v ∷ []) (advance (plain (modeOf first)) (stateAt at) v w u) (drop u rest))
+        go (got v w u) = refl
+        go (refused n) = refl
+
+    pub one-stops : (r : Refusal) → readOne macaque raw (windowIn (at .lead) (at .trail)) (at .last) (take 45 rest) ≡ refused (number r)
+        → StopsBy (readFrom first bytes at 1) r
+    one-stops r e =
+        record {
+          fault = record { no = number r; value = at .count; place = at .place };
+          stops = one-by (refused (number r)) e;
+          numbered = refl;
+        }
+
+    module _ (v lead trail used : ℕ) (e : readOne macaque raw (windowIn (at .lead) (at .trail)) (at .last) (take 45 rest) ≡ got v (windowIn lead trail) used) where
+      its-bits : Own macaque raw (windowIn (at .lead) (at .trail)) (at .last) (take 45 rest) v (windowIn lead trail) used
+      its-bits = own macaque macaque-good (windowIn (at .lead) (at .trail)) (at .last) (s .small) (take 45 rest) v (windowIn lead trail) used raw e
+
+      used-most : used ≤ 45
+      used-most = omega (arith, its-bits .there, length-take 45 rest, min-le-left 45 (length rest))
+
+      used-there : used ≤ length rest
+      used-there = omega (arith, its-bits .there, length-take 45 rest, min-le-right 45 (length rest))
+
+      still-held : (windowIn lead trail ≡ windowIn (at .lead) (at .trail)) ⊎ (lead + trail < 32) → Held lead trail
+      still-held (inl f) there =
+          let a : lead ≡ at .lead = ap (λ (w : Window). w .lead) f in
+          let t : trail ≡ at .trail = ap (λ (w : Window). w .trail) f in
+          omega (arith, s .held (λ z. there (a ∙ z)))
+      still-held (inr h) there = h
+
+      pub one-read : Reads first bytes at 1 (v ∷ []) (moved at v lead trail used)
+      one-read =
+          record {
+            values =
+                one-by (got v (windowIn lead trail) used) e
+                ∙ ap₂ (λ (n : ℕ) (b : List Bool). done (v ∷ []) (record { last = v; win = windowIn lead trail; place = at .place + used; count = n; seen = tt }) b)
+                (sym (add-one (at .count))) (drop-drop used (at .place) (bitsOf bytes));
+            long = refl;
+            counted = refl;
+            stands =
+                record {
+                  within = omega (arith, s .within, used-there, rest-long);
+                  near = omega (arith, s .near, used-most);
+                  small = its-bits .small;
+                  held = still-held (its-bits .frame);
+                };
+          }
+
+  -- ---- some, and then more
+
+  pub reads-none : (from : Cursor) → Stands bytes from → Reads first bytes from 0 [] from
+  unfolding readN
+  reads-none from s = record { values = refl; long = refl; counted = omega arith; stands = s }
+
+  module _ {from mid : Cursor} {i : ℕ} {us : List ℕ} (R : Reads first bytes from i us mid) where
+    pub reads-then : {to : Cursor} {j : ℕ} {vs : List ℕ} → Reads first bytes mid j vs to → Reads first bytes from (i + j) (us ++ vs) to
+    reads-then {to} {j} {vs} Q =
+        record {
+          values =
+              read-then (plain (modeOf first)) i j (stateAt from) (drop (from .place) (bitsOf bytes))
+              ∙ ap (thenRead (plain (modeOf first)) j) (R .values)
+              ∙ ap (prepend us) (Q .values);
+          long = omega (arith, length-append us vs, R .long, Q .long);
+          counted = omega (arith, R .counted, Q .counted);
+          stands = Q .stands;
+        }
+
+    -- a refusal stands, however many values were asked for
+    pub then-stops : (j : ℕ) {r : Refusal} → StopsBy (readFrom first bytes mid j) r → (n : ℕ) → i + j ≤ n → StopsBy (readFrom first bytes from n) r
+    then-stops j {r} Q n h =
+        let e : (i + j) + (n - (i + j)) ≡ n = omega arith in
+        let rest : List Bool = drop (from .place) (bitsOf bytes) in
+        record {
+          fault = Q .fault;
+          stops =
+              ap (λ (m : ℕ). readFrom first bytes from m) (sym e)
+              ∙ read-stopped (plain (modeOf first)) (i + j) (n - (i + j)) (stateAt from) rest (Q .fault)
+              (read-then (plain (modeOf first)) i j (stateAt from) rest ∙ ap (thenRead (plain (modeOf first)) j) (R .values) ∙ ap (prepend us) (Q .stops));
+          numbered = Q .numbered;
+        }
+
+  -- ---- into lent memory
+
+  pub filled-more : {from at to : Cursor} (i : ℕ) (old new : List ℕ) → Reads first bytes from i (take i new) at → drop i new ≡ drop i old → i < length new
+      → Reads first bytes at 1 (to .last ∷ []) to
+      → Reads first bytes from (i + 1) (take (i + 1) (set new i (to .last))) to × (drop (i + 1) (set new i (to .last)) ≡ drop (i + 1) old)
+  filled-more {from} {at} {to} i old new R e h Q =
+      let v : ℕ = to .last in
+      let more : i < i + 1 = omega arith in
+      let front : take (i + 1) (set new i v) ≡ take i new ++ (v ∷ []) = ap (λ (n : ℕ). take n (set new i v)) (add-one i) ∙ take-suc-set new i v h in (
+        subst (λ (us : List ℕ). Reads first bytes from (i + 1) us to) (sym front) (reads-then R Q),
+        drop-set-lt (i + 1) new i v more ∙ sym (drop-drop 1 i new) ∙ ap (drop 1) e ∙ drop-drop 1 i old,
+      )
+
+-- one value more is copied
+pub copied-more : (values old : List ℕ) (i : ℕ) → i < length values → i < length old
+    → set (take i values ++ drop i old) i (getD values i 0) ≡ take (i + 1) values ++ drop (i + 1) old
+copied-more values old i h g =
+    let v : ℕ = getD values i 0 in
+    ap (λ (z : List ℕ). set (take i values ++ z) i v) (drop-cons old i 0 g)
+    ∙ set-at (take i values) (getD old i 0) (drop (suc i) old) v i (length-take-le i values (omega arith))
+    ∙ sym (append-snoc (take i values) v (drop (suc i) old))
+    ∙ ap (λ (z : List ℕ). z ++ drop (suc i) old) (sym (take-suc values i 0 h))
+    ∙ ap (λ (n : ℕ). take n values ++ drop n old) (sym (add-one i))

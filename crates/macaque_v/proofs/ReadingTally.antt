@@ -1,0 +1,76 @@
+-- What is taken in over some values and then more, and on the way through a stream. Assumes nothing.
+use mathlib.Core.Path.{_≡_, refl, sym, ap, ap₂, _∙_}
+use mathlib.Core.Bool.{Bool, true, false}
+use mathlib.Core.List.{List, [], _∷_, _++_}
+use Prim.Native.Nat.{ℕ, suc, _+_, _<_}
+use native.Mathlib.Nat.{add-zero}
+use native.Mathlib.Numerals.{add-one}
+use native.Mathlib.Omega.{arith}
+use lib.ListN.{length, take, getD}
+use lib.Seq.{take-suc, length-take-le}
+use Rattle.stream.specs.Format.{Gather, Mode, gathered, rawNext, gatherFrom}
+use Rattle.macaque_v.specs.State.{Ends, taken, gatherEnds, modeOf}
+use Rattle.macaque_v.specs.ReadRun.{Stands, Reads, gatherSum, endsIn, freshTally, withSum, withEnds, tallied, Walked}
+use Rattle.macaque_v.specs.declared.read_run.Aim.{Aim}
+use Rattle.macaque_v.specs.declared.read_run.Aim.the-variants as OfAim
+use Rattle.macaque_v.specs.declared.read_run.Tally.{Tally}
+use Rattle.macaque_v.specs.declared.read_run.Cursor.{Cursor}
+use Rattle.macaque_v.proofs.ReadingRun.{reads-none, reads-then}
+
+module _ {A : Type 0} (G : Gather A) (mode : Mode) where
+  pub gather-append : (n : ℕ) (a : A) (us vs : List ℕ) → gatherFrom G mode n a (us ++ vs) ≡ gatherFrom G mode (n + length us) (gatherFrom G mode n a us) vs
+  unfolding gatherFrom
+  gather-append n a [] vs = ap (λ (m : ℕ). gatherFrom G mode m a vs) (sym (add-zero n))
+  gather-append n a (u ∷ us) vs =
+      let e : suc n + length us ≡ n + suc (length us) = omega arith in
+      let b : A = gathered G (rawNext mode n) a u in
+      gather-append (suc n) b us vs ∙ ap (λ (m : ℕ). gatherFrom G mode m (gatherFrom G mode (suc n) b us) vs) e
+
+  pub gather-more : (n : ℕ) (a : A) (vs : List ℕ) (i : ℕ) → i < length vs
+      → gatherFrom G mode n a (take (i + 1) vs) ≡ gathered G (rawNext mode (n + i)) (gatherFrom G mode n a (take i vs)) (getD vs i 0)
+  unfolding gatherFrom
+  gather-more n a vs i h =
+      let long : length (take i vs) ≡ i = length-take-le i vs (omega arith) in
+      let b : A = gatherFrom G mode n a (take i vs) in
+      ap (gatherFrom G mode n a) (ap (λ (m : ℕ). take m vs) (add-one i) ∙ take-suc vs i 0 h)
+      ∙ gather-append n a (take i vs) (getD vs i 0 ∷ [])
+      ∙ ap (λ (m : ℕ). gathered G (rawNext mode (n + m)) b (getD vs i 0)) long
+
+-- a raw value enters the least and the greatest as any other
+pub ends-more : (mode : Mode) (n : ℕ) (e : Ends) (vs : List ℕ) (i : ℕ) → i < length vs
+    → gatherFrom gatherEnds mode n e (take (i + 1) vs) ≡ taken (gatherFrom gatherEnds mode n e (take i vs)) (getD vs i 0)
+ends-more mode n e vs i h = gather-more gatherEnds mode n e vs i h ∙ go (rawNext mode (n + i)) (gatherFrom gatherEnds mode n e (take i vs))
+  where
+    go : (raw : Bool) (b : Ends) → gathered gatherEnds raw b (getD vs i 0) ≡ taken b (getD vs i 0)
+    go true b = refl
+    go false b = refl
+
+pub tallied-append : (aim : Aim) (mode : Mode) (n : ℕ) (t : Tally) (us vs : List ℕ)
+    → tallied aim mode n t (us ++ vs) ≡ tallied aim mode (n + length us) (tallied aim mode n t us) vs
+tallied-append OfAim.Nothing mode n t us vs = refl
+tallied-append OfAim.Sum mode n t us vs = ap (withSum t) (gather-append gatherSum mode n (t .sum) us vs)
+tallied-append OfAim.Ends mode n t us vs = ap (withEnds t) (gather-append gatherEnds mode n (endsIn t) us vs)
+
+tallied-none : (aim : Aim) (mode : Mode) (n : ℕ) (t : Tally) → t ≡ tallied aim mode n t []
+unfolding gatherFrom
+tallied-none OfAim.Nothing mode n t = refl
+tallied-none OfAim.Sum mode n t = refl
+tallied-none OfAim.Ends mode n t = refl
+
+-- ---- on the way through the values
+
+module _ (first : Bool) (bytes : List ℕ) (from : Cursor) (aim : Aim) where
+  pub walked-none : Stands bytes from → Walked first bytes from 0 aim from freshTally
+  walked-none s = record { values = []; reads = reads-none first bytes from s; taken = tallied-none aim (modeOf first) (from .count) freshTally }
+
+  pub walked-more : (i k : ℕ) (at to : Cursor) (t u : Tally) (vs : List ℕ) → Walked first bytes from i aim at t → Reads first bytes at k vs to
+      → u ≡ tallied aim (modeOf first) (at .count) t vs → Walked first bytes from (i + k) aim to u
+  walked-more i k at to t u vs W R e =
+      let long : at .count ≡ from .count + length (W .values) = omega (arith, W .reads .counted, W .reads .long) in
+      record {
+        values = W .values ++ vs;
+        reads = reads-then first bytes (W .reads) R;
+        taken =
+            e ∙ ap₂ (λ (n : ℕ) (s : Tally). tallied aim (modeOf first) n s vs) long (W .taken)
+            ∙ sym (tallied-append aim (modeOf first) (from .count) freshTally (W .values) vs);
+      }

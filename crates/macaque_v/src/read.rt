@@ -1,0 +1,225 @@
+// The reading calls: a stream's values, their sum, and a writer that goes on behind the first k of them.
+// A stream is checked whole before lent memory is touched.
+ghost use mathlib.Core.Path.{_≡_};
+ghost use Prim.Native.Nat.{_^_, _≤_, _<_};
+ghost use lib.ListN.{length, take};
+ghost use Rattle.models.specs.Answers.{verdict};
+ghost use Rattle.models.specs.Calls.{saysVerdict, saysGrid, saysValue};
+ghost use Rattle.stream.specs.Read.{bufferAfter};
+ghost use Rattle.macaque_v.specs.State.{isFirst};
+ghost use Rattle.macaque_v.specs.Read.{valuesIn, startOf, gridCauses, drawn, drawnIn, gridAnswer, gridMemory, sumAnswer, reopenCauses, reopening, resumed, StateSays, reopenAnswer, reopenMemory, saysOpen};
+use crate::MacaqueV;
+use crate::Opening;
+use crate::read_run;
+use crate::read_run::Aim;
+use crate::read_run::Cursor;
+use crate::read_run::Run;
+use crate::read_run::Walk;
+use models::ErrorBound;
+use models::GridAnswer;
+use models::Refusal;
+use models::ValueAnswer;
+use models::Verdict;
+
+// A writer, in the state asked for.
+pub enum OpenAnswer {
+    Opened(MacaqueV),
+    Refused(Refusal),
+}
+
+// ---- the public calls
+
+// Draws the values of a stream, `count` of them, into the first places of `out`.
+pub fn grid(bytes: &[u8], count: usize, opening: Opening, out: &mut [u32]) -> GridAnswer
+    ensures answer { λ r. ⌜ saysGrid r ≡ gridAnswer (now (bytes .entry)) count opening (length (now (out .entry))) ⌝ }
+    ensures values { λ r. ⌜ now (out .exit) ≡ gridMemory (now (bytes .entry)) count opening (now (out .entry)) ⌝ }
+{
+    match judge_grid(count, out.len()) {
+        Verdict::Refused(r) => GridAnswer::Refused(r),
+        Verdict::Passed => {
+            if count <= 1024 {
+                return draw_few(bytes, count, opening, out);
+            }
+            draw_many(bytes, count, opening, out)
+        }
+    }
+}
+
+// The sum of the values of a stream, `count` of them.
+pub fn sum(bytes: &[u8], count: usize, opening: Opening) -> ValueAnswer
+    ensures { λ r. ⌜ saysValue r ≡ sumAnswer (now (bytes .entry)) count opening ⌝ }
+{
+    if 65536 < count {
+        return ValueAnswer::Refused(Refusal::OverLimit);
+    }
+    match read_run::go_to_end(bytes, is_first(opening), start(opening), count, Aim::Sum) {
+        Walk::Refused(r) => ValueAnswer::Refused(r),
+        Walk::To(_, tally) => ValueAnswer::Answered(numbers::bits_of_f32(tally.sum)),
+    }
+}
+
+impl MacaqueV {
+    // The writer behind the first k of the `count` values in the buffer's first `used` bytes. The bits behind them in the byte that they end in
+    // are zeroed.
+    pub fn reopen(
+        buffer: &mut [u8],
+        used: usize,
+        count: usize,
+        k: usize,
+        opening: Opening,
+        error_bound: ErrorBound,
+    ) -> OpenAnswer
+        ensures answer { λ r. ⌜ saysOpen r ≡ reopenAnswer (now (buffer .entry)) used count k opening «error_bound» ⌝ }
+        ensures bytes { λ r. ⌜ now (buffer .exit) ≡ reopenMemory (now (buffer .entry)) used count k opening «error_bound» ⌝ }
+    {
+        match judge_reopen(error_bound, buffer.len(), used, count, k) {
+            Verdict::Refused(r) => OpenAnswer::Refused(r),
+            Verdict::Passed => resume(buffer, used, count, k, opening, error_bound),
+        }
+    }
+}
+
+// ---- the causes of refusal, the last of them first
+
+fn judge_grid(count: usize, room: usize) -> Verdict
+    ensures { λ r. ⌜ saysVerdict r ≡ verdict (gridCauses count room) ⌝ }
+{
+    let short = models::when(Refusal::OutputTooShort, room < count, Verdict::Passed);
+    models::when(Refusal::OverLimit, 65536 < count, short)
+}
+
+fn judge_reopen(
+    error_bound: ErrorBound,
+    room: usize,
+    used: usize,
+    count: usize,
+    k: usize,
+) -> Verdict
+    ensures { λ r. ⌜ saysVerdict r ≡ verdict (reopenCauses «error_bound» room used count k) ⌝ }
+{
+    let counts = models::when(
+        Refusal::CountsDisagree,
+        (count < k) | (room < used),
+        Verdict::Passed,
+    );
+    let many = models::when(Refusal::OverLimit, 65536 < count, counts);
+    models::when(
+        Refusal::BoundNotAllowed,
+        !models::bound_allowed(error_bound),
+        many,
+    )
+}
+
+// ---- the start of a stream
+
+pub fn is_first(opening: Opening) -> bool
+    ensures { λ r. ⌜ r ≡ isFirst opening ⌝ }
+{
+    match opening {
+        Opening::First => true,
+        Opening::On(_) => false,
+    }
+}
+
+fn start(opening: Opening) -> Cursor
+    ensures { λ r. ⌜ (r ≡ startOf opening) × (r .last < 2 ^ 32) ⌝ }
+{
+    let last = match opening {
+        Opening::First => 0,
+        Opening::On(value) => value,
+    };
+    Cursor {
+        last,
+        lead: 255,
+        trail: 0,
+        place: 0,
+        count: 0,
+    }
+}
+
+// ---- drawing
+
+// Few values are read into a small array, and copied once the stream is found right.
+fn draw_few(bytes: &[u8], count: usize, opening: Opening, out: &mut [u32]) -> GridAnswer
+    requires { ⌜ (count ≤ 1024) × (count ≤ length (now out)) ⌝ }
+    ensures answer { λ r. ⌜ saysGrid r ≡ drawn (valuesIn (now (bytes .entry)) count opening) ⌝ }
+    ensures values { λ r. ⌜ now (out .exit) ≡ drawnIn (now (out .entry)) (valuesIn (now (bytes .entry)) count opening) ⌝ }
+{
+    let mut values = [0u32; 1024];
+    match read_run::fill(bytes, is_first(opening), start(opening), count, &mut values) {
+        Run::Refused(r) => GridAnswer::Refused(r),
+        Run::To(end) => {
+            if read_run::left_behind(bytes, end.place) {
+                return GridAnswer::Refused(Refusal::Leftover);
+            }
+            read_run::copy(&values, count, out);
+            GridAnswer::Drawn
+        }
+    }
+}
+
+// Of many values the stream is checked first, and then read again.
+fn draw_many(bytes: &[u8], count: usize, opening: Opening, out: &mut [u32]) -> GridAnswer
+    requires { ⌜ (count ≤ 65536) × (count ≤ length (now out)) ⌝ }
+    ensures answer { λ r. ⌜ saysGrid r ≡ drawn (valuesIn (now (bytes .entry)) count opening) ⌝ }
+    ensures values { λ r. ⌜ now (out .exit) ≡ drawnIn (now (out .entry)) (valuesIn (now (bytes .entry)) count opening) ⌝ }
+{
+    let first = is_first(opening);
+    match read_run::go_to_end(bytes, first, start(opening), count, Aim::Nothing) {
+        Walk::Refused(r) => GridAnswer::Refused(r),
+        Walk::To(_, _) => {
+            read_run::fill(bytes, first, start(opening), count, out);
+            GridAnswer::Drawn
+        }
+    }
+}
+
+// ---- reopening
+
+// The state after the first k values, with the least and the greatest of them. The values behind them are read too.
+fn state_at(bytes: &[u8], count: usize, k: usize, opening: Opening) -> Walk
+    requires { ⌜ (k ≤ count) × (count ≤ 65536) ⌝ }
+    ensures { λ r. ⌜ StateSays (now (bytes .entry)) count k opening r ⌝ }
+{
+    let first = is_first(opening);
+    match read_run::go_through(bytes, first, start(opening), k, Aim::Ends) {
+        Walk::Refused(r) => Walk::Refused(r),
+        Walk::To(at, ends) => {
+            match read_run::go_to_end(bytes, first, at, count - k, Aim::Nothing) {
+                Walk::Refused(r) => Walk::Refused(r),
+                Walk::To(_, _) => Walk::To(at, ends),
+            }
+        }
+    }
+}
+
+fn resume(
+    buffer: &mut [u8],
+    used: usize,
+    count: usize,
+    k: usize,
+    opening: Opening,
+    error_bound: ErrorBound,
+) -> OpenAnswer
+    requires { ⌜ (k ≤ count) × (count ≤ 65536) × (used ≤ length (now buffer)) ⌝ }
+    ensures answer { λ r. ⌜ saysOpen r ≡ resumed «error_bound» (isFirst opening) (reopening (take used (now (buffer .entry))) count k opening) ⌝ }
+    ensures bytes { λ r. ⌜ now (buffer .exit) ≡ bufferAfter (reopening (take used (now (buffer .entry))) count k opening) (now (buffer .entry)) ⌝ }
+{
+    match state_at(&buffer[..used], count, k, opening) {
+        Walk::Refused(r) => OpenAnswer::Refused(r),
+        Walk::To(at, ends) => {
+            bits::cut(buffer, at.place);
+            OpenAnswer::Opened(MacaqueV {
+                error_bound,
+                min_value: ends.min,
+                max_value: ends.max,
+                last_value: at.last,
+                last_leading_zero_bits: at.lead,
+                last_trailing_zero_bits: at.trail,
+                with_first: is_first(opening),
+                place: at.place,
+                length: at.count,
+            })
+        }
+    }
+}

@@ -1,0 +1,230 @@
+// Reading value after value: into lent memory, or through a small array for what is taken in of the values on the way.
+ghost use mathlib.Core.Path.{_≡_};
+ghost use mathlib.Core.List.{_++_};
+ghost use Prim.Native.Nat.{_+_, _*_, _<_, _≤_};
+ghost use lib.ListN.{length, take, drop};
+ghost use Rattle.stream.specs.Format.{gathered, gatherFrom};
+ghost use Rattle.macaque_v.specs.State.{modeOf};
+ghost use Rattle.macaque_v.specs.ReadRun.{Stands, NextSays, FillSays, WalkSays, WholeSays, gatherSum, tallied, IsStretched, leftBehind};
+use crate::read_code;
+use crate::read_code::Decoded;
+use models::Refusal;
+
+// Where reading stands: behind so many values and bits, with the last value and its window.
+pub struct Cursor {
+    pub last: u32,
+    pub lead: u32,
+    pub trail: u32,
+    pub place: usize,
+    pub count: usize,
+}
+
+// Where reading stands after the values that were asked for; or why there are fewer.
+pub enum Run {
+    To(Cursor),
+    Refused(Refusal),
+}
+
+// ---- into lent memory
+
+// One value more.
+fn next(bytes: &[u8], first: bool, at: Cursor) -> Run
+    requires { ⌜ Stands (now bytes) at × (at .count < 65536) ⌝ }
+    ensures { λ r. ⌜ NextSays first (now (bytes .entry)) at r ⌝ }
+{
+    let raw = first & (at.count == 0);
+    let ahead = read_code::look(bytes, at.place);
+    match read_code::decode(raw, ahead.word, ahead.left, at.lead, at.trail, at.last) {
+        Decoded::Refused(r) => Run::Refused(r),
+        Decoded::Got {
+            value,
+            lead,
+            trail,
+            used,
+        } => Run::To(Cursor {
+            last: value,
+            lead,
+            trail,
+            place: at.place + used,
+            count: at.count + 1,
+        }),
+    }
+}
+
+// The next n values, into the first places of `out`. A refusal leaves some of them there.
+pub fn fill(bytes: &[u8], first: bool, from: Cursor, n: usize, out: &mut [u32]) -> Run
+    requires { ⌜ Stands (now bytes) from × (from .count + n ≤ 65536) × (n ≤ length (now out)) ⌝ }
+    ensures { λ r. ⌜ FillSays first (now (bytes .entry)) from n (now (out .entry)) (now (out .exit)) r ⌝ }
+{
+    let mut at = from;
+    let mut i: usize = 0;
+    while i < n {
+        match next(bytes, first, at) {
+            Run::Refused(r) => {
+                return Run::Refused(r);
+            }
+            Run::To(to) => {
+                out[i] = to.last;
+                at = to;
+                i += 1;
+            }
+        }
+    }
+    Run::To(at)
+}
+
+// The first n values of `values` into the first places of `out`.
+pub fn copy(values: &[u32], n: usize, out: &mut [u32])
+    requires { ⌜ (n ≤ length (now values)) × (n ≤ length (now out)) ⌝ }
+    ensures { λ _. ⌜ now (out .exit) ≡ take n (now (values .entry)) ++ drop n (now (out .entry)) ⌝ }
+{
+    let mut i: usize = 0;
+    while i < n {
+        out[i] = values[i];
+        i += 1;
+    }
+}
+
+// ---- through a small array
+
+// What is taken in of the values: nothing, their sum, or the least and the greatest.
+pub enum Aim {
+    Nothing,
+    Sum,
+    Ends,
+}
+
+pub struct Tally {
+    pub sum: f32,
+    pub min: u32,
+    pub max: u32,
+}
+
+// The same with what was taken in.
+pub enum Walk {
+    To(Cursor, Tally),
+    Refused(Refusal),
+}
+
+// The next n values, and what is taken in of them.
+pub fn go_through(bytes: &[u8], first: bool, from: Cursor, n: usize, aim: Aim) -> Walk
+    requires { ⌜ Stands (now bytes) from × (from .count + n ≤ 65536) ⌝ }
+    ensures { λ r. ⌜ WalkSays first (now (bytes .entry)) from n aim r ⌝ }
+{
+    let mut values = [0u32; 1024];
+    let mut at = from;
+    let mut tally = Tally {
+        sum: 0.0,
+        min: models::FRESH_BITS,
+        max: models::FRESH_BITS,
+    };
+    let mut read: usize = 0;
+    while read < n {
+        let k = least(1024, n - read);
+        match fill(bytes, first, at, k, &mut values) {
+            Run::Refused(r) => {
+                return Walk::Refused(r);
+            }
+            Run::To(to) => {
+                tally = taken_in(aim, first, at.count, tally, &values, k);
+                at = to;
+                read += k;
+            }
+        }
+    }
+    Walk::To(at, tally)
+}
+
+// A stream's last n values: nothing may follow them.
+pub fn go_to_end(bytes: &[u8], first: bool, from: Cursor, n: usize, aim: Aim) -> Walk
+    requires { ⌜ Stands (now bytes) from × (from .count + n ≤ 65536) ⌝ }
+    ensures { λ r. ⌜ WholeSays first (now (bytes .entry)) from n aim r ⌝ }
+{
+    match go_through(bytes, first, from, n, aim) {
+        Walk::Refused(r) => Walk::Refused(r),
+        Walk::To(to, tally) => {
+            if left_behind(bytes, to.place) {
+                return Walk::Refused(Refusal::Leftover);
+            }
+            Walk::To(to, tally)
+        }
+    }
+}
+
+// Whether a set padding bit or a further byte follows the place.
+pub fn left_behind(bytes: &[u8], place: usize) -> bool
+    requires { ⌜ (place ≤ 8 * length (now bytes)) × (place < 16777216) ⌝ }
+    ensures { λ r. ⌜ r ≡ leftBehind (now (bytes .entry)) place ⌝ }
+{
+    let whole = (place + 7) / 8;
+    if whole < bytes.len() {
+        return true;
+    }
+    bits::get(bytes, place, 8 * whole - place) != 0
+}
+
+fn least(a: usize, b: usize) -> usize
+    requires { ⌜ (0 < a) × (0 < b) ⌝ }
+    ensures { λ r. ⌜ (0 < r) × (r ≤ a) × (r ≤ b) ⌝ }
+{
+    if a < b { a } else { b }
+}
+
+// The first k values, behind `count` others.
+fn taken_in(aim: Aim, first: bool, count: usize, tally: Tally, values: &[u32], k: usize) -> Tally
+    requires { ⌜ (k ≤ length (now values)) × (count + k ≤ 65536) ⌝ }
+    ensures { λ r. ⌜ r ≡ tallied aim (modeOf first) count tally (take k (now (values .entry))) ⌝ }
+{
+    match aim {
+        Aim::Nothing => tally,
+        Aim::Sum => Tally {
+            sum: added(first, count, tally.sum, values, k),
+            min: tally.min,
+            max: tally.max,
+        },
+        Aim::Ends => stretched(tally, values, k),
+    }
+}
+
+// A raw first value begins the sum, and any other is added to it.
+fn plus(raw: bool, sum: f32, value: u32) -> f32
+    ensures { λ r. ⌜ r ≡ gathered gatherSum raw sum value ⌝ }
+{
+    let x = numbers::value_of_f32(value);
+    if raw {
+        return x;
+    }
+    sum + x
+}
+
+fn added(first: bool, count: usize, sum: f32, values: &[u32], k: usize) -> f32
+    requires { ⌜ (k ≤ length (now values)) × (count + k ≤ 65536) ⌝ }
+    ensures { λ r. ⌜ r ≡ gatherFrom gatherSum (modeOf first) count sum (take k (now (values .entry))) ⌝ }
+{
+    let mut total = sum;
+    let mut i: usize = 0;
+    while i < k {
+        total = plus(first & (count + i == 0), total, values[i]);
+        i += 1;
+    }
+    total
+}
+
+fn stretched(tally: Tally, values: &[u32], k: usize) -> Tally
+    requires { ⌜ k ≤ length (now values) ⌝ }
+    ensures { λ r. ⌜ IsStretched tally (take k (now (values .entry))) r ⌝ }
+{
+    let mut min = tally.min;
+    let mut max = tally.max;
+    let mut i: usize = 0;
+    while i < k {
+        min = models::min_bits(min, values[i]);
+        max = models::max_bits(max, values[i]);
+        i += 1;
+    }
+    Tally {
+        sum: tally.sum,
+        min,
+        max,
+    }
+}
