@@ -1,12 +1,8 @@
 -- The theorems about the calls, and the laws that the proofs of `macaque_v` share.
 pub mod Promises
-pub mod Keeping
-pub mod Coding
 pub mod Stepping
 pub mod Writing
 pub mod Accepting
-pub mod ReadingWord
-pub mod ReadingCode
 pub mod ReadingRun
 pub mod ReadingTally
 pub mod ReadingEnd

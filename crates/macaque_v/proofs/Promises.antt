@@ -25,7 +25,7 @@ use Rattle.stream.proofs.Formats.{macaque-good}
 use Rattle.stream.proofs.Writing.{count-after, length-kept, wrote-append, kept-lossless}
 use Rattle.stream.proofs.Made as spine
 use Rattle.stream.proofs.AnyStream.{any-resumed}
-use Rattle.macaque_v.specs.Keep.{keepRule}
+use Rattle.coding.specs.Keep.{keepRule}
 use Rattle.macaque_v.specs.State.{Ends, streamIn, stateOf, writerOf, isFirst, openingValue, opened}
 use Rattle.macaque_v.specs.Write.{writerAt, wroteBy, writtenBy}
 use Rattle.macaque_v.specs.Calls.{newAnswer, lentBytes, tooMany, writeCauses, writeAnswer, writeMemory}
@@ -33,7 +33,7 @@ use Rattle.macaque_v.specs.Read.{valuesRead, valuesIn, gridAnswer, gridM
 use Rattle.macaque_v.specs.Made.{Made}
 use Rattle.macaque_v.specs.declared.MacaqueV.{MacaqueV}
 use Rattle.macaque_v.specs.declared.Opening.{Opening}
-use Rattle.macaque_v.proofs.Keeping.{keeps}
+use Rattle.coding.proofs.Keeping.{keeps}
 use Rattle.macaque_v.proofs.Accepting.{accepted}
 
 -- ---- the spine, as the theory of streams has it

@@ -21,11 +21,11 @@ use Rattle.stream.proofs.OwnBits.{Own, own}
 use Rattle.stream.proofs.Reading.{prepend, thenRead, read-then}
 use Rattle.stream.proofs.Steps.{read-stopped}
 use Rattle.macaque_v.specs.State.{modeOf}
-use Rattle.macaque_v.specs.Code.{windowIn}
-use Rattle.macaque_v.specs.ReadCode.{Held}
+use Rattle.coding.specs.Code.{windowIn}
+use Rattle.coding.specs.Ahead.{Held}
 use Rattle.macaque_v.specs.ReadRun.{stateAt, Stands, readFrom, Reads, StopsBy}
 use Rattle.macaque_v.specs.declared.read_run.Cursor.{Cursor}
-use Rattle.macaque_v.proofs.ReadingWord.{read-of-45}
+use Rattle.coding.proofs.Words.{read-of-45}
 
 -- where reading stands behind one more value
 abbrev pub moved : Cursor → ℕ → ℕ → ℕ → ℕ → Cursor

@@ -13,10 +13,10 @@ use Rattle.models.specs.Floats.{minBits, maxBits}
 use Rattle.stream.specs.Format.{macaque, Window, gathered, rawNext, State, isRaw, advance, bitsFor, windowFor}
 use Rattle.stream.specs.Write.{keptOne, bitsOne, next}
 use Rattle.macaque_v.specs.State.{Ends, taken, gatherEnds, modeOf, stateOf}
-use Rattle.macaque_v.specs.Code.{windowIn, Says, Coded}
+use Rattle.coding.specs.Code.{windowIn, Says, Coded}
 use Rattle.macaque_v.specs.Write.{streamBy, ruleBy, writerAt, keptBy, Stepped}
 use Rattle.macaque_v.specs.declared.MacaqueV.{MacaqueV}
-use Rattle.macaque_v.specs.declared.code.Code.{Code}
+use Rattle.coding.specs.declared.code.Code.{Code}
 
 -- the next value is stored raw
 pub raw-is : (first : Bool) (n : ℕ) → (first && eqb n 0) ≡ rawNext (modeOf first) n

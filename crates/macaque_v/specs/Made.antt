@@ -6,7 +6,7 @@ use lib.ListN.{take}
 use Rattle.bits.specs.Bits.{wholeBytes}
 use Rattle.models.specs.declared.ErrorBound.{ErrorBound}
 use Rattle.stream.specs.Write.{wrote, streamOf}
-use Rattle.macaque_v.specs.Keep.{keepRule}
+use Rattle.coding.specs.Keep.{keepRule}
 use Rattle.macaque_v.specs.State.{streamIn, writerOf, isFirst, openingValue, opened}
 use Rattle.macaque_v.specs.declared.MacaqueV.{MacaqueV}
 use Rattle.macaque_v.specs.declared.Opening.{Opening}

@@ -19,7 +19,7 @@ use Rattle.stream.specs.Format.{openedOn, gatherFrom, State}
 use Rattle.stream.specs.Read as stream
 use Rattle.stream.specs.Read.{Reading, done, stopped, readAll, Reopened, reopened, unopened, reopen, bufferAfter}
 use Rattle.macaque_v.specs.State.{Ends, modeOf, streamIn, writerOf, isFirst, openingValue, opened}
-use Rattle.macaque_v.specs.Code.{windowIn}
+use Rattle.coding.specs.Code.{windowIn}
 use Rattle.macaque_v.specs.ReadRun.{gatherSum, endsIn}
 use Rattle.macaque_v.specs.declared.MacaqueV.{MacaqueV}
 use Rattle.macaque_v.specs.declared.Opening.{Opening}

@@ -16,8 +16,8 @@ use Rattle.stream.specs.Read as stream
 use Rattle.stream.specs.Read.{Reading, done, stopped, readN, leftover, ended}
 use Rattle.stream.specs.Cases.{plain}
 use Rattle.macaque_v.specs.State.{Ends, gatherEnds, modeOf}
-use Rattle.macaque_v.specs.Code.{windowIn}
-use Rattle.macaque_v.specs.ReadCode.{Held}
+use Rattle.coding.specs.Code.{windowIn}
+use Rattle.coding.specs.Ahead.{Held}
 use Rattle.macaque_v.specs.declared.read_run.Cursor.{Cursor}
 use Rattle.macaque_v.specs.declared.read_run.Run.{Run}
 use Rattle.macaque_v.specs.declared.read_run.Run.the-variants as OfRun

@@ -6,7 +6,7 @@ use Prim.Native.Nat.{ℕ, _^_, _≤_, _<_}
 use Rattle.bits.specs.Bits.{field}
 use Rattle.stream.specs.Format.{Stream, State, isRaw}
 use Rattle.stream.specs.Write.{keptOne, bitsOne, next, written, wrote}
-use Rattle.macaque_v.specs.Keep.{keepRule}
+use Rattle.coding.specs.Keep.{keepRule}
 use Rattle.macaque_v.specs.State.{Ends, streamIn, stateOf, writerOf}
 use Rattle.macaque_v.specs.declared.MacaqueV.{MacaqueV}
 use Rattle.macaque_v.specs.declared.write.Step.{Step}

@@ -1,9 +1,6 @@
 // MacaqueV: a stream of values, each coded by how it differs from the last one that was kept.
 
-pub mod code;
-pub mod keep;
 pub mod read;
-pub mod read_code;
 pub mod read_run;
 mod write;
 

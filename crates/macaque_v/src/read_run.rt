@@ -6,8 +6,8 @@ ghost use lib.ListN.{length, take, drop};
 ghost use Rattle.stream.specs.Format.{gathered, gatherFrom};
 ghost use Rattle.macaque_v.specs.State.{modeOf};
 ghost use Rattle.macaque_v.specs.ReadRun.{Stands, NextSays, FillSays, WalkSays, WholeSays, gatherSum, tallied, IsStretched, leftBehind};
-use crate::read_code;
-use crate::read_code::Decoded;
+use coding::decode;
+use coding::decode::Decoded;
 use models::Refusal;
 
 // Where reading stands: behind so many values and bits, with the last value and its window.
@@ -33,8 +33,8 @@ fn next(bytes: &[u8], first: bool, at: Cursor) -> Run
     ensures { λ r. ⌜ NextSays first (now (bytes .entry)) at r ⌝ }
 {
     let raw = first & (at.count == 0);
-    let ahead = read_code::look(bytes, at.place);
-    match read_code::decode(raw, ahead.word, ahead.left, at.lead, at.trail, at.last) {
+    let ahead = decode::look(bytes, at.place);
+    match decode::decode(raw, ahead.word, ahead.left, at.lead, at.trail, at.last) {
         Decoded::Refused(r) => Run::Refused(r),
         Decoded::Got {
             value,

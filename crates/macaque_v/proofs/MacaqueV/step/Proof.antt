@@ -3,7 +3,7 @@ use borrow.Author.Needs.{needs}
 use mathlib.Core.Path.{_≡_, sym, ap, _∙_, subst}
 use mathlib.Core.Bool.{Bool}
 use Rattle.stream.specs.Write.{keptOne}
-use Rattle.macaque_v.specs.Code.{windowIn, Coded}
+use Rattle.coding.specs.Code.{windowIn, Coded}
 use Rattle.macaque_v.specs.Write.{ruleBy}
 use Rattle.macaque_v.proofs.Stepping.{raw-is, stepped}
 use Rattle.macaque_v.proofs.MacaqueV.step.Statement.{statement}

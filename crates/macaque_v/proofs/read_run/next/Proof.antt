@@ -9,8 +9,8 @@ use lib.ListN.{take, drop}
 use Rattle.bits.specs.Bits.{bitsOf}
 use Rattle.stream.specs.Format.{macaque}
 use Rattle.stream.specs.Read.{readOne}
-use Rattle.macaque_v.specs.Code.{windowIn}
-use Rattle.macaque_v.specs.ReadCode.{saysStep}
+use Rattle.coding.specs.Code.{windowIn}
+use Rattle.coding.specs.Ahead.{saysStep}
 use Rattle.macaque_v.specs.ReadRun.{Reads}
 use Rattle.macaque_v.proofs.Stepping.{raw-is}
 use Rattle.macaque_v.proofs.ReadingRun.{moved, one-stops, one-read}

@@ -3,7 +3,7 @@ use borrow.Author.Needs.{needs}
 use mathlib.Core.Path.{sym, ap, _∙_}
 use mathlib.Core.Bool.{Bool}
 use Rattle.stream.specs.Write.{keptOne}
-use Rattle.macaque_v.specs.Keep.{keepRule}
+use Rattle.coding.specs.Keep.{keepRule}
 use Rattle.macaque_v.proofs.write.kept_of.Statement.{statement}
 use Rattle.macaque_v.proofs.write.kept_of.Tie as tie
 

@@ -1,0 +1,34 @@
+-- The bits ahead of a place as a word, and what one value read of them says. Assumes nothing.
+use mathlib.Core.Path.{_≡_}
+use mathlib.Core.Bool.{Bool}
+use mathlib.Core.List.{List}
+use Prim.Native.Nat.{ℕ, _+_, _^_, _≤_, _<_}
+use lib.ListN.{take, drop}
+use Rattle.bits.specs.Bits.{field, fieldAt, bitsOf}
+use Rattle.models.specs.Refusals.{number}
+use Rattle.stream.specs.Read.{Step, got, refused}
+use Rattle.coding.specs.Code.{windowIn}
+use Rattle.coding.specs.declared.decode.Ahead.{Ahead}
+use Rattle.coding.specs.declared.decode.Decoded.{Decoded}
+use Rattle.coding.specs.declared.decode.Decoded.the-variants.{Got, Refused}
+
+-- a window that is set leaves a bit
+abbrev pub Held : ℕ → ℕ → Type 0
+Held lead trail = ¬ (lead ≡ 255) → lead + trail < 32
+
+-- the first `left` bits of a word
+abbrev pub bitsIn : ℕ → ℕ → List Bool
+bitsIn word left = take left (field 64 word)
+
+pub record IsPart (word skip width r : ℕ) : Type 0 where
+  pub is : r ≡ fieldAt skip width (field 64 word)
+  pub small : r < 2 ^ width
+
+-- the bits of the stream from the place on: 45 of them, or as many as there are
+pub record IsAhead (bytes : List ℕ) (place : ℕ) (r : Ahead) : Type 0 where
+  pub bits : bitsIn (r .word) (r .left) ≡ take 45 (drop place (bitsOf bytes))
+  pub most : r .left ≤ 45
+
+abbrev pub saysStep : Decoded → Step
+saysStep (Got value lead trail used) = got value (windowIn lead trail) used
+saysStep (Refused r) = refused (number r)

@@ -1,0 +1,4 @@
+-- What the contracts of `coding` cite.
+pub mod Keep
+pub mod Code
+pub mod Ahead
