@@ -3,8 +3,8 @@
 pub mod code;
 pub mod keep;
 pub mod read;
-pub mod read_code;
-pub mod read_run;
+mod read_code;
+mod read_run;
 mod write;
 
 use models::ErrorBound;
