@@ -5,9 +5,11 @@
  *
  *    1  bound not allowed             7  a window of no bits, or of more than 32 with its leading zeros
  *    2  state not allowed             8  leftover: a set padding bit or a further byte
- *    3  a number above its limit      9  parameter bytes or residual count byte not allowed
+ *    3  a number above its limit,     9  parameter bytes or residual count byte not allowed
+ *       or M below 1
  *    4  lent output too short        10  timestamps out of limit, or not increasing
- *    5  stream ends early            11  no model: nothing fitted, or a line with an end that is not finite
+ *    5  stream ends early            11  no model: nothing fitted, or a line with ends that differ, at least
+ *                                        one not finite
  *    6  keep code before any window  12  counts or lengths that do not go together
  *
  * A bound is its kind, 0 Lossless, 1 Absolute or 2 Relative (per cent), and the bits of its f32, which

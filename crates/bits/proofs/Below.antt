@@ -1,6 +1,6 @@
 -- Lists of numbers of at most w digits. Assumes nothing.
-use Prim.Native.Nat.{ℕ, zero, suc, _+_, _^_, _<_}
-use mathlib.Core.List.{List, [], _∷_, _++_}
+use Prim.Native.Nat.{ℕ, zero, suc, _^_, _<_}
+use mathlib.Core.List.{List, [], _∷_}
 use lib.ListN.{take, drop, set}
 use lib.Pow.{pow-pos}
 use Rattle.bits.specs.Bits.{Below}
@@ -12,11 +12,6 @@ module _ (w : ℕ) where
   pub below-cons : (v : ℕ) (vs : List ℕ) → v < 2 ^ w → Below w vs → Below w (v ∷ vs)
   below-cons v vs h b zero = h
   below-cons v vs h b (suc i) = b i
-
-  pub below-append : (us vs : List ℕ) → Below w us → Below w vs → Below w (us ++ vs)
-  below-append [] vs a b i = b i
-  below-append (u ∷ us) vs a b zero = a 0
-  below-append (u ∷ us) vs a b (suc i) = below-append us vs (λ j. a (suc j)) b i
 
   pub below-take : (k : ℕ) (vs : List ℕ) → Below w vs → Below w (take k vs)
   below-take zero vs b i = pow-pos w

@@ -1,5 +1,5 @@
 -- Bytes and their bits: each is known by the other, and so are their parts. Assumes nothing.
-use Prim.Native.Nat.{ℕ, zero, suc, _+_, _-_, _*_, _/_, _≤_}
+use Prim.Native.Nat.{ℕ, zero, suc, _+_, _*_, _/_, _≤_}
 use mathlib.Core.Path.{_≡_, refl, sym, ap, ap₂, _∙_}
 use mathlib.Core.Bool.{Bool, false}
 use mathlib.Core.List.{List, [], _∷_, _++_, append-assoc}
@@ -87,10 +87,6 @@ unfolding bytesOf
 bits-bytes n bs h =
     let k : length bs / 8 ≡ n = omega arith in
     ap (λ (m : ℕ). bitsOf (firstBytes m bs)) k ∙ bits-first n bs h
-
--- bytes with the same bits are the same
-pub bits-inj : (a b : List ℕ) → Below 8 a → Below 8 b → bitsOf a ≡ bitsOf b → a ≡ b
-bits-inj a b ha hb e = sym (bytes-bits a ha) ∙ ap bytesOf e ∙ bytes-bits b hb
 
 module _ (n k : ℕ) (bs : List Bool) (h : length bs ≡ 8 * n) (le : k ≤ n) where
   inside : k ≤ length (bytesOf bs)

@@ -1,23 +1,17 @@
 -- Puts and cuts in lent bytes: `laidIn` and `cutIn`. What they change, what they keep, and how they follow each other. Assumes nothing.
-use Prim.Native.Nat.{ℕ, _+_, _-_, _*_, _^_, _≤_, _<_}
+use Prim.Native.Nat.{ℕ, _+_, _*_, _≤_, _<_}
 use mathlib.Core.Path.{_≡_, sym, ap, ap₂, _∙_}
 use mathlib.Core.Bool.{Bool}
 use mathlib.Core.List.{List, [], _∷_, _++_, append-nil}
-use native.Mathlib.Nat.{mod-eq-of-lt, add-zero}
+use native.Mathlib.Nat.{add-zero}
 use native.Mathlib.Omega.{arith}
 use lib.ListN.{length, take, drop}
 use lib.Seq.{take-take}
-use Rattle.bits.specs.Bits.{field, value, fieldAt, Below, bitsOf, bytesOf, wholeBytes, up, padded, laid, cutAt, laidIn, cutIn}
-use Rattle.bits.proofs.Fields.{length-field, value-field}
+use Rattle.bits.specs.Bits.{Below, bitsOf, bytesOf, wholeBytes, up, padded, laid, cutAt, laidIn, cutIn}
 use Rattle.bits.proofs.Bytes.{length-bitsOf, bits-take, length-bytesOf, bytes-below, bytes-bits, bits-bytes, bytes-take, bytes-drop}
-use Rattle.bits.proofs.Writes.{laid-laid, laid-before, laid-after, length-laid, laid-read, laid-used, cut-whole, cut-before, cut-after, length-cut, cut-used, laid-cut}
+use Rattle.bits.proofs.Writes.{laid-laid, laid-before, laid-after, length-laid, laid-used, cut-whole, cut-before, cut-after, length-cut, cut-used, laid-cut}
 
 -- ---- a put
-
--- the elements are bytes, whatever they were
-pub laidIn-below : (l : List ℕ) (p : ℕ) (b : List Bool) → Below 8 (laidIn l p b)
-unfolding laidIn
-laidIn-below l p b = bytes-below (laid (bitsOf l) p b)
 
 -- bytes that have the bits of a put are the put
 pub laidIn-is : (l m : List ℕ) (p : ℕ) (b : List Bool) → Below 8 m → bitsOf m ≡ laid (bitsOf l) p b → m ≡ laidIn l p b
@@ -56,15 +50,7 @@ module _ (l : List ℕ) (p : ℕ) (b : List Bool) (room : p + length b ≤ 8 * l
   pub laidIn-before : (q : ℕ) → q ≤ p → take q (bitsOf (laidIn l p b)) ≡ take q (bitsOf l)
   laidIn-before q h = ap (take q) bits-laidIn ∙ laid-before (bitsOf l) p b inside q h
 
-  -- so do the bytes before it, and those behind the last that is touched
-  pub laidIn-front : (q : ℕ) → 8 * q ≤ p → Below 8 l → take q (laidIn l p b) ≡ take q l
-  unfolding laidIn
-  laidIn-front q h small =
-      sym (bytes-take (length l) q (laid (bitsOf l) p b) laid-long (omega arith))
-      ∙ ap bytesOf (laid-before (bitsOf l) p b inside (8 * q) h)
-      ∙ bytes-take (length l) q (bitsOf l) (length-bitsOf l) (omega arith)
-      ∙ ap (take q) (bytes-bits l small)
-
+  -- so do the bytes behind the last that is touched
   pub laidIn-after : (q : ℕ) → wholeBytes (p + length b) ≤ q → q ≤ length l → Below 8 l → drop q (laidIn l p b) ≡ drop q l
   unfolding laidIn
   laidIn-after q h le small =
@@ -79,15 +65,6 @@ module _ (l : List ℕ) (p : ℕ) (b : List Bool) (room : p + length b ≤ 8 * l
   laidIn-used h =
       sym (bytes-take (length l) (wholeBytes (p + length b)) (laid (bitsOf l) p b) laid-long (omega arith))
       ∙ ap bytesOf (laid-used (bitsOf l) p b inside h)
-
--- a field that was put is got
-pub get-put : (l : List ℕ) (p w v : ℕ) → p + w ≤ 8 * length l → v < 2 ^ w → fieldAt p w (bitsOf (laidIn l p (field w v))) ≡ v
-get-put l p w v room hv =
-    let n : length (field w v) ≡ w = length-field w v in
-    ap (fieldAt p w) (bits-laidIn l p (field w v) (omega arith))
-    ∙ ap (λ (k : ℕ). value (take k (drop p (laid (bitsOf l) p (field w v))))) (sym n)
-    ∙ ap value (laid-read (bitsOf l) p (field w v) (omega (arith, length-bitsOf l)))
-    ∙ value-field w v ∙ mod-eq-of-lt hv
 
 -- ---- a cut
 
@@ -121,14 +98,6 @@ module _ (l : List ℕ) (p : ℕ) (room : p ≤ 8 * length l) where
 
   pub cutIn-before : (q : ℕ) → q ≤ p → take q (bitsOf (cutIn l p)) ≡ take q (bitsOf l)
   cutIn-before q h = ap (take q) bits-cutIn ∙ cut-before (bitsOf l) p cut-inside q h
-
-  pub cutIn-front : (q : ℕ) → 8 * q ≤ p → Below 8 l → take q (cutIn l p) ≡ take q l
-  unfolding cutIn
-  cutIn-front q h small =
-      sym (bytes-take (length l) q (cutAt (bitsOf l) p) cut-long (omega arith))
-      ∙ ap bytesOf (cut-before (bitsOf l) p cut-inside (8 * q) h)
-      ∙ bytes-take (length l) q (bitsOf l) (length-bitsOf l) (omega arith)
-      ∙ ap (take q) (bytes-bits l small)
 
   pub cutIn-after : (q : ℕ) → wholeBytes p ≤ q → q ≤ length l → Below 8 l → drop q (cutIn l p) ≡ drop q l
   unfolding cutIn

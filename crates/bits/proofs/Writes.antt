@@ -33,11 +33,6 @@ module _ (s : List Bool) (p : ℕ) (b : List Bool) (e : ℕ) (hp : p ≤ length 
       sym (take-take q (p + length b) (write s p b e) (omega arith)) ∙ ap (take q) write-front
       ∙ take-append-le q (take p s) b (omega (arith, length-take-le p s hp)) ∙ take-take q p s hq
 
-  -- what was written is read
-  pub write-read : take (length b) (drop p (write s p b e)) ≡ b
-  unfolding write
-  write-read = ap (take (length b)) (drop-at (take p s) _ p (length-take-le p s hp)) ∙ take-at b _ (length b) refl
-
   module _ (hb : p + length b ≤ e) where
     front-long : length (take p s ++ (b ++ replicate (e - (p + length b)) false)) ≡ e
     front-long =
@@ -108,14 +103,6 @@ module _ (s : List Bool) (p : ℕ) (b : List Bool) (hp : p ≤ length s) where
 
   pub length-laid : up (p + length b) ≤ length s → length (laid s p b) ≡ length s
   length-laid h = by-write (λ (z : List Bool). length z ≡ length s) refl (length-write s p b (up (p + length b)) hp (omega arith) h)
-
-  pub laid-read : take (length b) (drop p (laid s p b)) ≡ b
-  unfolding laid
-  laid-read = go b
-    where
-      go : (b : List Bool) → take (length b) (drop p (laid s p b)) ≡ b
-      go [] = refl
-      go (x ∷ b) = write-read s p (x ∷ b) (up (p + length (x ∷ b))) hp
 
   -- the bytes that are in use now
   pub laid-used : 0 < length b → take (up (p + length b)) (laid s p b) ≡ padded (take p s ++ b)

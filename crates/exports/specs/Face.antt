@@ -33,7 +33,7 @@ abbrev pub wordOf : Bool → ℕ
 wordOf false = 0
 wordOf true = 1
 
--- the row afterwards: only an accepted call sets its front
-unfoldable pub rowAfter : {A : Type 0} → (A → List ℕ) → List ℕ → Said A → List ℕ
-rowAfter words row (refused n) = row
-rowAfter words row (answered x) = cond (leb (length (words x)) (length row)) (words x ++ drop (length (words x)) row) row
+-- the row afterwards, lent for `need` words: its front is set exactly if the number is 0
+unfoldable pub rowAfter : {A : Type 0} → ℕ → (A → List ℕ) → List ℕ → Said A → List ℕ
+rowAfter need words row (refused n) = row
+rowAfter need words row (answered x) = cond (leb need (length row)) (words x ++ drop (length (words x)) row) row

@@ -96,7 +96,7 @@ pub extern "C" fn modelardb_is_value_within_error_bound(
     out: &mut [u32],
 ) -> u32
     ensures number { λ r. ⌜ r ≡ numberOf 1 (length (now (out .entry))) (withinAnswer (boundOf kind bound) «real_value» «approximate_value») ⌝ }
-    ensures row { λ r. ⌜ now (out .exit) ≡ rowAfter (λ is. wordOf is ∷ []) (now (out .entry)) (withinAnswer (boundOf kind bound) «real_value» «approximate_value») ⌝ }
+    ensures row { λ r. ⌜ now (out .exit) ≡ rowAfter 1 (λ is. wordOf is ∷ []) (now (out .entry)) (withinAnswer (boundOf kind bound) «real_value» «approximate_value») ⌝ }
 {
     let b = bound_of(kind, bound);
     match models::is_value_within_error_bound(b, real_value, approximate_value) {
@@ -120,7 +120,7 @@ pub extern "C" fn modelardb_maximum_allowed_deviation(
     out: &mut [u64],
 ) -> u32
     ensures number { λ r. ⌜ r ≡ numberOf 1 (length (now (out .entry))) (deviationAnswer (boundOf kind bound) (ofBits binary64 value)) ⌝ }
-    ensures row { λ r. ⌜ now (out .exit) ≡ rowAfter (λ x. toBits binary64 x ∷ []) (now (out .entry)) (deviationAnswer (boundOf kind bound) (ofBits binary64 value)) ⌝ }
+    ensures row { λ r. ⌜ now (out .exit) ≡ rowAfter 1 (λ x. toBits binary64 x ∷ []) (now (out .entry)) (deviationAnswer (boundOf kind bound) (ofBits binary64 value)) ⌝ }
 {
     let b = bound_of(kind, bound);
     match models::maximum_allowed_deviation(b, numbers::value_of_f64(value)) {

@@ -1,2 +1,3 @@
 -- What the proofs of MacaqueV's C face share.
 pub mod Words
+pub mod Faces

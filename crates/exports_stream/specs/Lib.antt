@@ -1,2 +1,3 @@
 -- How MacaqueV crosses the C face.
 pub mod Row
+pub mod Calls

@@ -4,8 +4,10 @@ ghost use mathlib.Core.Path.{_≡_};
 ghost use mathlib.Core.List.{_++_};
 ghost use Prim.Native.Nat.{_%_, _^_, _≤_};
 ghost use lib.ListN.{length, drop};
+ghost use Rattle.exports_stream.specs.Calls.{writeNumber, writeRow, writeBuffer};
 ghost use Rattle.exports_stream.specs.Row.{boundIn, kindOf, bitsOf, rowOf, small, standsForState, writerIn};
 use macaque_v::MacaqueV;
+use macaque_v::WriteAnswer;
 use models::ErrorBound;
 
 // ---- a state's row
@@ -111,5 +113,31 @@ pub fn writer_of(row: &[u64]) -> MacaqueV
         with_first: row[7] == 1,
         place: row[8] as usize,
         length: row[9] as usize,
+    }
+}
+
+// ---- the calls
+
+// Writes the values behind the state's place; the row becomes the state after them.
+#[no_mangle]
+pub extern "C" fn modelardb_macaque_v_compress_values(
+    state: &mut [u64],
+    values: &[u32],
+    buffer: &mut [u8],
+) -> u32
+    ensures number { λ r. ⌜ r ≡ writeNumber (now (state .entry)) (now (values .entry)) (now (buffer .entry)) ⌝ }
+    ensures row { λ r. ⌜ now (state .exit) ≡ writeRow (now (state .entry)) (now (values .entry)) (now (buffer .entry)) ⌝ }
+    ensures bytes { λ r. ⌜ now (buffer .exit) ≡ writeBuffer (now (state .entry)) (now (values .entry)) (now (buffer .entry)) ⌝ }
+{
+    if state.len() < 10 {
+        return 4;
+    }
+    let writer = writer_of(state);
+    match writer.compress_values(values, buffer) {
+        WriteAnswer::Refused(r, _) => models::number_of(r),
+        WriteAnswer::Written(after) => {
+            put_writer(state, after);
+            0
+        }
     }
 }

@@ -1,29 +1,35 @@
 -- The promises of the calls, in bytes: start reading here. `newAnswer`, `writeAnswer`, `writeMemory`, .. are what the contracts of the calls say
 -- that they answer and leave in lent memory. Assumes nothing.
 use mathlib.Core.Path.{_≡_, refl, sym, ap, ap₂, _∙_, subst}
-use mathlib.Core.Bool.{Bool, true, false, not}
+use mathlib.Core.Bool.{Bool, true, false, cond, not}
 use mathlib.Core.List.{List, [], _∷_, _++_}
 use Prim.Native.Nat.{ℕ, _+_, _*_, _^_, _≤_, _<_, min}
 use native.Mathlib.Nat.{min-eq-left}
 use native.Mathlib.Omega.{arith}
 use borrow.Author.Tests.{le-leb, le-ltb}
-use lib.ListN.{length, take}
-use Rattle.bits.specs.Bits.{Below, wholeBytes, laidIn}
+use lib.Dec.{ltb}
+use lib.ListN.{length, take, drop}
+use Rattle.bits.specs.Bits.{Below, bitsOf, wholeBytes, laidIn, cutIn}
+use Rattle.bits.proofs.InBytes.{length-cutIn}
 use Rattle.models.specs.Answers.{Said, answered, refused, SaidOn, answeredOn, refusedOn, Done, Cause, _when_, judge, verdict}
 use Rattle.models.specs.Bound.{boundAllowed}
 use Rattle.models.specs.declared.ErrorBound.{ErrorBound}
+use Rattle.models.specs.declared.ErrorBound.the-variants.{Lossless}
 use Rattle.models.proofs.Judged.{none, accepted-only}
 use Rattle.models.proofs.Judged as judging
 use Rattle.stream.specs.Format.{State, macaque, mostValues, usable}
-use Rattle.stream.specs.Write.{wrote, kept, streamOf}
+use Rattle.stream.specs.Write.{wrote, kept, wroteIn, streamOf}
+use Rattle.stream.specs.Read.{Reading, done, stopped, readAll, Reopened, reopened, bufferAfter}
 use Rattle.stream.specs.Made as theory
 use Rattle.stream.proofs.Formats.{macaque-good}
-use Rattle.stream.proofs.Writing.{count-after, length-kept, wrote-append}
+use Rattle.stream.proofs.Writing.{count-after, length-kept, wrote-append, kept-lossless}
 use Rattle.stream.proofs.Made as spine
+use Rattle.stream.proofs.AnyStream.{any-resumed}
 use Rattle.macaque_v.specs.Keep.{keepRule}
 use Rattle.macaque_v.specs.State.{Ends, streamIn, stateOf, writerOf, isFirst, openingValue, opened}
 use Rattle.macaque_v.specs.Write.{writerAt, wroteBy, writtenBy}
-use Rattle.macaque_v.specs.Calls.{lentBytes, tooMany, writeCauses, writeAnswer, writeMemory}
+use Rattle.macaque_v.specs.Calls.{newAnswer, lentBytes, tooMany, writeCauses, writeAnswer, writeMemory}
+use Rattle.macaque_v.specs.Read.{valuesRead, valuesIn, gridAnswer, gridMemory, reopening, resumed, reopenAnswer, reopenMemory}
 use Rattle.macaque_v.specs.Made.{Made}
 use Rattle.macaque_v.specs.declared.MacaqueV.{MacaqueV}
 use Rattle.macaque_v.specs.declared.Opening.{Opening}
@@ -33,8 +39,12 @@ use Rattle.macaque_v.proofs.Accepting.{accepted}
 -- ---- the spine, as the theory of streams has it
 
 -- the state of the theory after xs
-abbrev stateAfter : ErrorBound → Opening → List ℕ → State Ends
+abbrev pub stateAfter : ErrorBound → Opening → List ℕ → State Ends
 stateAfter b o xs = wrote (keepRule b) (streamIn (isFirst o)) (opened o) xs
+
+-- what is kept of xs
+abbrev pub keptOf : ErrorBound → Opening → List ℕ → List ℕ
+keptOf b o xs = kept (keepRule b) (streamIn (isFirst o)) (opened o) xs
 
 in-theory : {b : ErrorBound} {o : Opening} {xs buf : List ℕ} {m : MacaqueV} → Made b o xs buf m
     → theory.Made (keepRule b) (streamIn (isFirst o)) (openingValue o) xs buf (stateAfter b o xs)
@@ -101,3 +111,132 @@ module _ {b : ErrorBound} {o : Opening} {xs buf : List ℕ} {m : MacaqueV} (M : 
       ap (λ (w : MacaqueV). writeAnswer w ys buf) (M .writer)
       ∙ accepts b o xs buf (stateAfter b o xs) (in-theory M) bx hl ok ys most (subst (λ (t : State Ends). t .place ≤ 8 * length buf) next room) long
       ∙ ap (λ (t : State Ends). answeredOn (writerOf b (isFirst o) t)) (sym next)
+
+  -- ---- demand 3, resuming: reopened at any k from 0 to n, the writer is in the state that it had after its first k inputs, and the cut bytes are
+  -- those of one fresh run over these
+  pub reopening-goes-back : Below 32 xs → openingValue o < 2 ^ 32 → boundAllowed b ≡ true → length xs ≤ 65536 → (k : ℕ) → k ≤ length xs
+      → (reopenAnswer buf (wholeBytes (m .place)) (length xs) k o b ≡ answered (writerOf b (isFirst o) (stateAfter b o (take k xs))))
+      × Made b o (take k xs) (reopenMemory buf (wholeBytes (m .place)) (length xs) k o b) (writerOf b (isFirst o) (stateAfter b o (take k xs)))
+  unfolding reopenAnswer reopenMemory judge
+  reopening-goes-back bx hl ok most k le =
+      let S = streamIn (isFirst o) in
+      let T = in-theory M in
+      let back = spine.made-reopen (keepRule b) S (openingValue o) T macaque-good (keeps b 32) hl bx k le in
+      let at : m .place ≡ (stateAfter b o xs) .place = ap (λ (w : MacaqueV). w .place) (M .writer) in
+      let room : wholeBytes (m .place) ≤ length buf =
+      subst (λ (p : ℕ). wholeBytes p ≤ length buf) (sym at) (spine.made-room (keepRule b) S (openingValue o) T) in
+      let opens : reopening (take (wholeBytes (m .place)) buf) (length xs) k o ≡ reopened (stateAfter b o (take k xs)) =
+      ap (λ (p : ℕ). reopening (take (wholeBytes p) buf) (length xs) k o) at ∙ back .0 in
+      let few : ltb 65536 (length xs) ≡ false = le-ltb 65536 (length xs) most in
+      let inside : ltb (length xs) k ≡ false = le-ltb (length xs) k le in
+      let held : ltb (length buf) (wholeBytes (m .place)) ≡ false = le-ltb (length buf) (wholeBytes (m .place)) room in
+      let now : State Ends = stateAfter b o (take k xs) in (
+        rw (ok, few, inside, held) (ap (resumed b (isFirst o)) opens),
+        rw (ok, few, inside, held)
+            (record {
+              writer = refl;
+              bytes = ap (λ (q : Reopened Ends). take (wholeBytes (now .place)) (bufferAfter q buf)) (opens ∙ sym (back .0)) ∙ back .1 .bytes;
+            }),
+      )
+
+  -- so reopening at k and an accepted write of ys leave the bytes and the writer of one fresh run over the first k inputs and ys: by
+  -- `a-write-goes-on`, whose premise is the second part of `reopening-goes-back`; and `a-write-is-accepted` says that room and count limit suffice
+
+  -- ---- demand 2: the bytes in use read back as the kept values, where the output has room; later places of it stay
+  pub grid-reads-back : Below 32 xs → openingValue o < 2 ^ 32 → length xs ≤ 65536 → (out : List ℕ) → length xs ≤ length out
+      → (gridAnswer (take (wholeBytes (m .place)) buf) (length xs) o (length out) ≡ answered tt)
+      × (gridMemory (take (wholeBytes (m .place)) buf) (length xs) o out ≡ keptOf b o xs ++ drop (length xs) out)
+  unfolding gridAnswer gridMemory judge
+  grid-reads-back bx hl most out long =
+      let S = streamIn (isFirst o) in
+      let at : m .place ≡ (stateAfter b o xs) .place = ap (λ (w : MacaqueV). w .place) (M .writer) in
+      let reads = spine.made-read (keepRule b) S (openingValue o) (in-theory M) macaque-good (keeps b 32) hl bx in
+      let values : valuesIn (take (wholeBytes (m .place)) buf) (length xs) o ≡ answered (keptOf b o xs) =
+      ap (λ (p : ℕ). valuesIn (take (wholeBytes p) buf) (length xs) o) at ∙ ap valuesRead reads in
+      let few : ltb 65536 (length xs) ≡ false = le-ltb 65536 (length xs) most in
+      let room : ltb (length out) (length xs) ≡ false = le-ltb (length out) (length xs) long in (
+        rw (few, room, values),
+        rw (few, room, values, length-kept S (keepRule b) (opened o) xs),
+      )
+
+-- lossless keeps the inputs, so it is they that read back
+pub lossless-keeps-the-inputs : (o : Opening) (xs : List ℕ) → keptOf Lossless o xs ≡ xs
+unfolding keepRule
+lossless-keeps-the-inputs o xs = kept-lossless (streamIn (isFirst o)) (opened o) xs
+
+-- a fresh writer has written nothing, whatever the buffer holds
+pub a-fresh-writer : (b : ErrorBound) (o : Opening) (buf : List ℕ) (m : MacaqueV) → newAnswer b o ≡ answered m → Made b o [] buf m
+unfolding newAnswer judge
+a-fresh-writer b o buf m h = go (boundAllowed b) h
+  where
+    never : (n : ℕ) → _≡_ {A = Said MacaqueV} (refused n) (answered m) → ⊥
+    never n e = let z : _≡_ {A = ℕ} 0 1 = cc in omega arith
+
+    same : (w : MacaqueV) → _≡_ {A = Said MacaqueV} (answered w) (answered m) → m ≡ w
+    same w e = cc
+
+    go : (ok : Bool) → cond (not ok) (refused 1) (answered (writerOf b (isFirst o) (opened o))) ≡ answered m → Made b o [] buf m
+    go false e = absurd (never 1 e)
+    go true e =
+        let T = spine.made-fresh (keepRule b) (streamIn (isFirst o)) (openingValue o) buf in
+        subst (λ (w : MacaqueV). Made b o [] buf w) (sym (same (writerOf b (isFirst o) (opened o)) e))
+        (record { writer = ap (writerOf b (isFirst o)) (T .state); bytes = T .bytes })
+
+-- ---- "On any accepted stream, even one this writer would not write, reopening at k and writing reads back as the first k values and then the newly
+-- kept ones"
+
+-- what reopening at k answers where the first `used` bytes of buf read as vs, and what any accepted write from there leaves to be read
+pub record Resumes (b : ErrorBound) (o : Opening) (n k used : ℕ) (buf vs : List ℕ) : Type 0 where
+  pub writer : MacaqueV
+  pub opens : reopenAnswer buf used n k o b ≡ answered writer
+  pub reads : (ys : List ℕ) → Below 32 ys → (after : MacaqueV) → writeAnswer writer ys (reopenMemory buf used n k o b) ≡ answeredOn after
+      → valuesIn (take (wholeBytes (after .place)) (writeMemory writer ys (reopenMemory buf used n k o b))) (k + length ys) o
+      ≡ answered (take k vs ++ kept (keepRule b) (streamIn (isFirst o)) (stateOf writer) ys)
+
+-- what was read, and the state behind it
+read-whole : {A : Type 0} (q : Reading A) (vs : List ℕ) → valuesRead q ≡ answered vs → (t : State A) × (r : List Bool) × (q ≡ done vs t r)
+read-whole (done us t r) vs h = (t, r, ap (λ (z : List ℕ). done z t r) (same us vs h))
+  where
+    same : (us vs : List ℕ) → _≡_ {A = Said (List ℕ)} (answered us) (answered vs) → us ≡ vs
+    same us vs e = cc
+read-whole (stopped f) vs h = absurd (never (f .no) vs h)
+  where
+    never : (n : ℕ) (vs : List ℕ) → _≡_ {A = Said (List ℕ)} (refused n) (answered vs) → ⊥
+    never n vs e = let z : _≡_ {A = ℕ} 0 1 = cc in omega arith
+
+-- an accepted write, as the theory has it
+module _ (b : ErrorBound) (o : Opening) (t : State Ends) (ys buf : List ℕ) (after : MacaqueV)
+    (h : writeAnswer (writerOf b (isFirst o) t) ys buf ≡ answeredOn after) where
+  wrote-on : (after ≡ writerOf b (isFirst o) (wrote (keepRule b) (streamIn (isFirst o)) t ys))
+      × ((wrote (keepRule b) (streamIn (isFirst o)) t ys) .place ≤ 8 * length buf)
+      × (writeMemory (writerOf b (isFirst o) t) ys buf ≡ wroteIn (keepRule b) (streamIn (isFirst o)) t ys buf)
+  unfolding writeAnswer writeMemory
+  wrote-on =
+      let m : MacaqueV = writerOf b (isFirst o) t in
+      let causes : List Cause = writeCauses m ys (lentBytes (length buf)) in
+      let a = accepted-only m causes (writerOf b (isFirst o) (wrote (keepRule b) (streamIn (isFirst o)) t ys)) after h in
+      (sym (a .1), accepted m ys buf (a .0) .1, sym (judging.accepted (λ (k : ℕ). buf) (laidIn buf (t .place) (writtenBy m ys)) causes (none causes (a .0))))
+
+pub any-stream-resumes : (b : ErrorBound) (o : Opening) (n k used : ℕ) (buf vs : List ℕ) → boundAllowed b ≡ true → openingValue o < 2 ^ 32 → n ≤ 65536
+    → k ≤ n → used ≤ length buf → valuesIn (take used buf) n o ≡ answered vs → Resumes b o n k used buf vs
+unfolding reopenAnswer reopenMemory judge
+any-stream-resumes b o n k used buf vs ok hl most le fits h =
+    let S = streamIn (isFirst o) in
+    let w = read-whole (readAll S n (opened o) (bitsOf (take used buf))) vs h in
+    let R = any-resumed (keepRule b) S macaque-good (keeps b 32) (openingValue o) hl n k used buf le most fits vs (w .0) (w .1) (w .2) in
+    let few : ltb 65536 n ≡ false = le-ltb 65536 n most in
+    let inside : ltb n k ≡ false = le-ltb n k le in
+    let held : ltb (length buf) used ≡ false = le-ltb (length buf) used fits in
+    let t : State Ends = R .state in
+    let memory : reopenMemory buf used n k o b ≡ cutIn buf (t .place) = rw (ok, few, inside, held) (ap (λ (q : Reopened Ends). bufferAfter q buf) (R .opens)) in
+    let long : length (cutIn buf (t .place)) ≡ length buf = length-cutIn buf (t .place) (omega (arith, R .placed)) in
+    record {
+      writer = writerOf b (isFirst o) t;
+      opens = rw (ok, few, inside, held) (ap (resumed b (isFirst o)) (R .opens));
+      reads = λ ys by after e.
+          let u = wrote-on b o t ys (cutIn buf (t .place)) after (ap (writeAnswer (writerOf b (isFirst o) t) ys) (sym memory) ∙ e) in
+          let room : (wrote (keepRule b) S t ys) .place ≤ 8 * length buf = omega (arith, u .1, long) in
+          ap₂ (λ (p : ℕ) (z : List ℕ). valuesIn (take (wholeBytes p) z) (k + length ys) o) (ap (λ (v : MacaqueV). v .place) (u .0))
+          (ap (writeMemory (writerOf b (isFirst o) t) ys) memory ∙ u .2)
+          ∙ ap valuesRead (R .reads ys by room);
+    }

@@ -7,13 +7,15 @@ use Prim.Native.Nat.{ℕ, _+_, _*_, _^_, min}
 use lib.Dec.{leb, ltb}
 use lib.ListN.{length}
 use Rattle.bits.specs.Bits.{laidIn}
-use Rattle.models.specs.Answers.{SaidOn, answeredOn, refusedOn, Cause, _when_, judgedOn, judgedMemory, Injective, told-apart}
+use Rattle.models.specs.Answers.{Said, judged, SaidOn, answeredOn, refusedOn, Cause, _when_, judgedOn, judgedMemory, Injective, told-apart}
 use Rattle.models.specs.Refusals.{number, numbered, numbered-number}
 use Rattle.models.specs.Bound.{boundAllowed}
 use Rattle.stream.specs.Format.{macaque, mostValues, isOpening, leavesABit, usable}
-use Rattle.macaque_v.specs.State.{stateOf}
+use Rattle.models.specs.declared.ErrorBound.{ErrorBound}
+use Rattle.macaque_v.specs.State.{stateOf, writerOf, isFirst, opened}
 use Rattle.macaque_v.specs.Write.{writerAt, writtenBy, wroteBy}
 use Rattle.macaque_v.specs.declared.MacaqueV.{MacaqueV}
+use Rattle.macaque_v.specs.declared.Opening.{Opening}
 use Rattle.macaque_v.specs.declared.WriteAnswer.{WriteAnswer}
 use Rattle.macaque_v.specs.declared.WriteAnswer.the-variants as OfWrite
 
@@ -30,6 +32,11 @@ tooMany n more = ltb mostValues (n + more)
 -- the part of the rule for a state that speaks of its window
 abbrev pub windowUsable : MacaqueV → Bool
 windowUsable m = isOpening ((stateOf m) .win) || (leb 1 (m .length) && leavesABit macaque ((stateOf m) .win))
+
+-- ---- MacaqueV::new
+
+unfoldable pub newAnswer : ErrorBound → Opening → Said MacaqueV
+newAnswer b o = judged (1 when not (boundAllowed b) ∷ []) (writerOf b (isFirst o) (opened o))
 
 -- ---- MacaqueV::compress_values
 

@@ -33,6 +33,18 @@ pub struct MacaqueV {
     pub length: usize,
 }
 
+impl MacaqueV {
+    // The most values of a stream, and of a segment's residuals.
+    pub const MOST_VALUES: usize = 65536;
+
+    pub const MOST_RESIDUALS: usize = 255;
+
+    // The window before any is set.
+    pub const OPENING_LEADING: u32 = 255;
+
+    pub const OPENING_TRAILING: u32 = 0;
+}
+
 // The state after the values, or a refusal with the state passed in.
 pub enum WriteAnswer {
     Written(MacaqueV),

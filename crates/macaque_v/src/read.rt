@@ -113,7 +113,7 @@ fn judge_reopen(
 
 // ---- the start of a stream
 
-fn is_first(opening: Opening) -> bool
+pub fn is_first(opening: Opening) -> bool
     ensures { λ r. ⌜ r ≡ isFirst opening ⌝ }
 {
     match opening {

@@ -6,16 +6,20 @@ ghost use lib.ListN.{length};
 ghost use Rattle.bits.specs.Bits.{laidIn};
 ghost use Rattle.models.specs.Answers.{verdict};
 ghost use Rattle.models.specs.Calls.{saysVerdict};
-ghost use Rattle.stream.specs.Format.{macaque, usable};
+ghost use Rattle.stream.specs.Format.{macaque, openedOn, usable};
 ghost use Rattle.stream.specs.Write.{keptOne};
 ghost use Rattle.macaque_v.specs.Keep.{keepRule};
-ghost use Rattle.macaque_v.specs.State.{stateOf};
+ghost use Rattle.macaque_v.specs.State.{modeOf, isFirst, openingValue, stateOf};
+ghost use Rattle.macaque_v.specs.Read.{saysOpen};
 ghost use Rattle.macaque_v.specs.Write.{writerAt, writtenBy, wroteBy, Stepped};
-ghost use Rattle.macaque_v.specs.Calls.{lentBytes, tooMany, windowUsable, startCauses, writeCauses, saysWrite, writeAnswer, writeMemory};
+ghost use Rattle.macaque_v.specs.Calls.{newAnswer, lentBytes, tooMany, windowUsable, startCauses, writeCauses, saysWrite, writeAnswer, writeMemory};
 use crate::MacaqueV;
+use crate::Opening;
 use crate::WriteAnswer;
 use crate::code;
 use crate::keep;
+use crate::read;
+use crate::read::OpenAnswer;
 use models::ErrorBound;
 use models::Refusal;
 use models::Verdict;
@@ -36,6 +40,16 @@ fn kept_of(raw: bool, error_bound: ErrorBound, last: u32, value: u32) -> u32
     keep::kept(error_bound, last, value)
 }
 
+// The last value before any: +0 where the first one is stored in full.
+fn first_last(opening: Opening) -> u32
+    ensures { λ r. ⌜ r ≡ openedOn (modeOf (isFirst opening)) (openingValue opening) ⌝ }
+{
+    match opening {
+        Opening::First => 0,
+        Opening::On(value) => value,
+    }
+}
+
 // How many bytes of a buffer count: all of them, of any buffer that a machine can hold.
 pub fn lent_bytes(length: usize) -> usize
     ensures { λ r. ⌜ r ≡ lentBytes length ⌝ }
@@ -50,14 +64,34 @@ pub fn lent_bytes(length: usize) -> usize
 fn too_many(length: usize, more: usize) -> bool
     ensures { λ r. ⌜ r ≡ tooMany length more ⌝ }
 {
-    if 65536 < more {
+    if MacaqueV::MOST_VALUES < more {
         return true;
     }
-    65536 - more < length
+    MacaqueV::MOST_VALUES - more < length
 }
 
 impl MacaqueV {
-    // ---- the public call
+    // ---- the public calls
+
+    // The writer before any value.
+    pub fn new(error_bound: ErrorBound, opening: Opening) -> OpenAnswer
+        ensures { λ r. ⌜ saysOpen r ≡ newAnswer «error_bound» opening ⌝ }
+    {
+        if !models::bound_allowed(error_bound) {
+            return OpenAnswer::Refused(Refusal::BoundNotAllowed);
+        }
+        OpenAnswer::Opened(MacaqueV {
+            error_bound,
+            min_value: 0x7fc0_0000,
+            max_value: 0x7fc0_0000,
+            last_value: first_last(opening),
+            last_leading_zero_bits: MacaqueV::OPENING_LEADING,
+            last_trailing_zero_bits: MacaqueV::OPENING_TRAILING,
+            with_first: read::is_first(opening),
+            place: 0,
+            length: 0,
+        })
+    }
 
     // Writes the values behind the place, and hands the state after them back. A refusal leaves the
     // buffer, and hands back the state passed in.
@@ -109,7 +143,8 @@ impl MacaqueV {
         let place = self.place;
         let length = self.length;
         (place <= 8 * bytes)
-            & (((length == 0) == (place == 0)) & ((length <= 65536) & self.window_usable()))
+            & (((length == 0) == (place == 0))
+                & ((length <= MacaqueV::MOST_VALUES) & self.window_usable()))
     }
 
     // The window is the opening one or, at length 1 or more, leaves a bit.
@@ -119,7 +154,8 @@ impl MacaqueV {
         let lead = self.last_leading_zero_bits;
         let trail = self.last_trailing_zero_bits;
         let zeros = (lead as u64) + (trail as u64);
-        ((lead == 255) & (trail == 0)) | ((1 <= self.length) & (zeros <= 31))
+        ((lead == MacaqueV::OPENING_LEADING) & (trail == MacaqueV::OPENING_TRAILING))
+            | ((1 <= self.length) & (zeros <= 31))
     }
 
     // Whether the values' bits fit: certain where 45 a value do, and counted only where not.

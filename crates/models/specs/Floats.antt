@@ -22,7 +22,8 @@ absF nan = nan
 absF (inf s) = inf false
 absF (fin s m e) = fin false m e
 
--- |x| as the greater of x and -x, where -0 stays
+-- |x| as the greater of x and -x, where -0 stays. A bound's rules speak of `absF`; this is what one comparison of the code gives, and the tests of
+-- `near` cannot tell the two apart (`size-at-most`, `percent-at-most` of proofs/Laws).
 unfoldable pub magnitude : Float → Float
 magnitude x = cond (Ieee.lt x (Ieee.neg x)) (Ieee.neg x) x
 

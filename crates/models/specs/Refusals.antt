@@ -1,9 +1,9 @@
--- The number that 01, "Refusal numbers", gives to each cause.
+-- The number that 01, "Refusal numbers", gives to each cause, and the result that is told from what was said of it.
 use mathlib.Core.Path.{_≡_, refl}
 use mathlib.Core.List.{List, [], _∷_}
 use Prim.Native.Nat.{ℕ, _-_}
 use lib.ListN.{getD}
-use Rattle.models.specs.Answers.{Injective, told-apart}
+use Rattle.models.specs.Answers.{Said, answered, refused, SaidOn, answeredOn, refusedOn, Injective, told-apart}
 use Rattle.models.specs.declared.Refusal.{Refusal}
 use Rattle.models.specs.declared.Refusal.the-variants.{BoundNotAllowed, StateNotAllowed, OverLimit, OutputTooShort, EndsEarly, NoWindow, WindowNotAllowed, Leftover, FormNotAllowed, TimesNotAllowed, NoModel, CountsDisagree}
 
@@ -58,3 +58,12 @@ numbered-number CountsDisagree = refl
 -- no two causes have the same number
 pub number-injective : Injective number
 number-injective = told-apart number numbered numbered-number
+
+-- ---- back from what is said: `answer` and `refuse` make the result of the values, or of the cause that has the number
+abbrev pub unsaid : {A R : Type 0} → (A → R) → (Refusal → R) → Said A → R
+unsaid answer refuse (answered a) = answer a
+unsaid answer refuse (refused n) = refuse (numbered n)
+
+abbrev pub unsaidOn : {S A R : Type 0} → (A → R) → (Refusal → S → R) → SaidOn S A → R
+unsaidOn answer refuse (answeredOn a) = answer a
+unsaidOn answer refuse (refusedOn n s) = refuse (numbered n) s

@@ -6,7 +6,7 @@ use Prim.Native.Nat.{ℕ}
 use lib.Dec.{eqb}
 use lib.Ieee.{Float, binary32, ofBits, toBits}
 use Rattle.models.specs.Answers.{Said, answered, refused, SaidOn, answeredOn, refusedOn, Stepped, fitting, failing, Cause, _when_, judged, judgedOn, Injective, told-apart}
-use Rattle.models.specs.Refusals.{number, numbered, numbered-number}
+use Rattle.models.specs.Refusals.{number, numbered-number, unsaid, unsaidOn}
 use Rattle.models.specs.Bound.{boundAllowed}
 use Rattle.models.specs.Limits.{mostValues, metadataAllowed, cost}
 use Rattle.models.specs.declared.ErrorBound.{ErrorBound}
@@ -29,16 +29,12 @@ saysNew (OfNew.Refused r) = refused (number r)
 unfoldable pub newAnswer : ErrorBound → Said PMCMean
 newAnswer b = judged (1 when not (boundAllowed b) ∷ []) (fresh b)
 
-abbrev new-back : Said PMCMean → NewAnswer
-new-back (answered s) = OfNew.Answered s
-new-back (refused n) = OfNew.Refused (numbered n)
-
-new-told : (r : NewAnswer) → new-back (saysNew r) ≡ r
+new-told : (r : NewAnswer) → unsaid OfNew.Answered OfNew.Refused (saysNew r) ≡ r
 new-told (OfNew.Answered s) = refl
 new-told (OfNew.Refused r) = ap OfNew.Refused (numbered-number r)
 
 pub saysNew-injective : Injective saysNew
-saysNew-injective = told-apart saysNew new-back new-told
+saysNew-injective = told-apart saysNew (unsaid OfNew.Answered OfNew.Refused) new-told
 
 -- ---- PMCMean::fit_value, of a pattern
 abbrev pub saysFit : FitAnswer → SaidOn PMCMean (Stepped PMCMean)
@@ -56,17 +52,16 @@ fitCauses s =
 unfoldable pub fitAnswer : PMCMean → ℕ → SaidOn PMCMean (Stepped PMCMean)
 fitAnswer s value = judgedOn s (fitCauses s) (tried s (ofBits binary32 value))
 
-abbrev fit-back : SaidOn PMCMean (Stepped PMCMean) → FitAnswer
-fit-back (answeredOn t) = cond (t .fits) (OfFit.Fits (t .state)) (OfFit.NoFit (t .state))
-fit-back (refusedOn n s) = OfFit.Refused (numbered n) s
+abbrev step-back : Stepped PMCMean → FitAnswer
+step-back t = cond (t .fits) (OfFit.Fits (t .state)) (OfFit.NoFit (t .state))
 
-fit-told : (r : FitAnswer) → fit-back (saysFit r) ≡ r
+fit-told : (r : FitAnswer) → unsaidOn step-back OfFit.Refused (saysFit r) ≡ r
 fit-told (OfFit.Fits s) = refl
 fit-told (OfFit.NoFit s) = refl
 fit-told (OfFit.Refused r s) = rw (numbered-number r)
 
 pub saysFit-injective : Injective saysFit
-saysFit-injective = told-apart saysFit fit-back fit-told
+saysFit-injective = told-apart saysFit (unsaidOn step-back OfFit.Refused) fit-told
 
 -- ---- PMCMean::bytes_per_value, with metadata of m bytes
 abbrev pub saysCost : CostAnswer → SaidOn PMCMean Float
@@ -84,16 +79,12 @@ costCauses s m =
 unfoldable pub costAnswer : PMCMean → ℕ → SaidOn PMCMean Float
 costAnswer s m = judgedOn s (costCauses s m) (cost m (s .length))
 
-abbrev cost-back : SaidOn PMCMean Float → CostAnswer
-cost-back (answeredOn x) = OfCost.Answered x
-cost-back (refusedOn n s) = OfCost.Refused (numbered n) s
-
-cost-told : (r : CostAnswer) → cost-back (saysCost r) ≡ r
+cost-told : (r : CostAnswer) → unsaidOn OfCost.Answered OfCost.Refused (saysCost r) ≡ r
 cost-told (OfCost.Answered x) = refl
 cost-told (OfCost.Refused r s) = rw (numbered-number r)
 
 pub saysCost-injective : Injective saysCost
-saysCost-injective = told-apart saysCost cost-back cost-told
+saysCost-injective = told-apart saysCost (unsaidOn OfCost.Answered OfCost.Refused) cost-told
 
 -- ---- PMCMean::model: the average's pattern
 abbrev pub saysModel : ModelAnswer → SaidOn PMCMean ℕ
@@ -110,13 +101,9 @@ modelCauses s =
 unfoldable pub modelAnswer : PMCMean → SaidOn PMCMean ℕ
 modelAnswer s = judgedOn s (modelCauses s) (toBits binary32 (average s))
 
-abbrev model-back : SaidOn PMCMean ℕ → ModelAnswer
-model-back (answeredOn bits) = OfModel.Answered bits
-model-back (refusedOn n s) = OfModel.Refused (numbered n) s
-
-model-told : (r : ModelAnswer) → model-back (saysModel r) ≡ r
+model-told : (r : ModelAnswer) → unsaidOn OfModel.Answered OfModel.Refused (saysModel r) ≡ r
 model-told (OfModel.Answered bits) = refl
 model-told (OfModel.Refused r s) = rw (numbered-number r)
 
 pub saysModel-injective : Injective saysModel
-saysModel-injective = told-apart saysModel model-back model-told
+saysModel-injective = told-apart saysModel (unsaidOn OfModel.Answered OfModel.Refused) model-told

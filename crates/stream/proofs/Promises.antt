@@ -2,24 +2,26 @@
 -- what is kept and anything that a state gathers. MacaqueV is the format `macaque`. Assumes nothing.
 use mathlib.Core.Path.{_≡_, refl, sym, ap, ap₂, _∙_}
 use mathlib.Core.Bool.{Bool, true, false}
-use mathlib.Core.List.{List, [], _++_, append-nil}
+use mathlib.Core.List.{List, [], _∷_, _++_, append-nil, foldl}
 use Prim.Native.Nat.{ℕ, _+_, _*_, _^_, _≤_, _<_}
 use native.Mathlib.Nat.{add-zero}
 use native.Mathlib.Omega.{arith}
 use lib.ListN.{length, take, drop, replicate}
-use Rattle.bits.specs.Bits.{Below, bitsOf, wholeBytes, up, padding, padded, laidIn, cutIn}
+use Rattle.bits.specs.Bits.{Below, field, bitsOf, wholeBytes, up, padding, padded, laidIn, cutIn}
 use Rattle.bits.proofs.Bytes.{length-bitsOf}
 use Rattle.bits.proofs.Writes.{laid-used, cut-used}
 use Rattle.bits.proofs.InBytes.{bits-laidIn, length-laidIn, laidIn-nothing, laidIn-before, laidIn-after, bits-cutIn, length-cutIn, cutIn-before, cutIn-after}
-use Rattle.stream.specs.Format.{macaque, gorilla, Gather, gatherFrom, withFirst, withoutFirst, Stream, macaqueOf, State, fresh, mostValues, usable}
-use Rattle.stream.specs.Write.{lossless, kept, Keeps, wrote, wroteIn}
-use Rattle.stream.specs.Read.{done, readAll, Reopened, reopened, reopen, bufferAfter}
+use Rattle.stream.specs.Format.{macaque, gorilla, bitsFor, Gather, gatherFrom, Mode, withFirst, withoutFirst, Stream, macaqueOf, State, fresh, mostValues, usable}
+use Rattle.stream.specs.Write.{lossless, keptFrom, kept, Keeps, written, wrote, wroteIn}
+use Rattle.stream.specs.Read.{Refusal, done, stopped, readAll, Reopened, reopened, unopened, reopen, bufferAfter}
 use Rattle.stream.specs.Made.{Made}
 use Rattle.stream.specs.Cases.{cases, AllRight}
 use Rattle.stream.proofs.Formats.{Good, macaque-good, gorilla-good}
-use Rattle.stream.proofs.Writing.{place-after}
+use Rattle.stream.proofs.Writing.{place-after, wrote-append}
 use Rattle.stream.proofs.Rule.{wrote-usable}
-use Rattle.stream.proofs.Gathered.{seen-after}
+use Rattle.stream.proofs.Gathered.{seen-after, gather-folds}
+use Rattle.stream.proofs.Steps.{written-one, laid-append}
+use Rattle.stream.proofs.Reopen.{refused-reopen}
 use Rattle.stream.proofs.Made as spine
 use Rattle.stream.proofs.AnyStream.{Resumed, any-resumed}
 use Rattle.stream.proofs.Marked.{marked}
@@ -71,6 +73,15 @@ pub a-write-hands-back-a-usable-state : {A : Type 0} (rule : ℕ → ℕ → ℕ
     → s .count + length xs ≤ mostValues → (wrote rule S s xs) .place ≤ 8 * bytes → usable (S .form) bytes (wrote rule S s xs) ≡ true
 a-write-hands-back-a-usable-state = wrote-usable
 
+-- two writes are one, from any state, handed in or made: the state after, and the bytes where the first has room
+pub two-writes-are-one : {A : Type 0} (rule : ℕ → ℕ → ℕ) (S : Stream A) (s : State A) (ys zs : List ℕ)
+    → wrote rule S (wrote rule S s ys) zs ≡ wrote rule S s (ys ++ zs)
+two-writes-are-one rule S s ys zs = sym (wrote-append S rule s ys zs)
+
+pub two-writes-leave-the-bytes-of-one : {A : Type 0} (rule : ℕ → ℕ → ℕ) (S : Stream A) (s : State A) (ys zs buf : List ℕ)
+    → (wrote rule S s ys) .place ≤ 8 * length buf → wroteIn rule S (wrote rule S s ys) zs (wroteIn rule S s ys buf) ≡ wroteIn rule S s (ys ++ zs) buf
+two-writes-leave-the-bytes-of-one rule S = laid-append S rule
+
 -- "Lossless keeps the input": a lossless stream reads back as the inputs
 pub lossless-reads-back : {A : Type 0} (S : Stream A) (l : ℕ) {xs buf : List ℕ} {s : State A} → Made lossless S l xs buf s
     → Good (S .form) → l < 2 ^ S .form .width → Below (S .form .width) xs
@@ -84,10 +95,27 @@ with-first-opens-on-zero G l = refl
 pub without-first-opens-on-the-value : {A : Type 0} (G : Gather A) (l : ℕ) → (fresh (macaqueOf withoutFirst G) l) .last ≡ l
 without-first-opens-on-the-value G l = refl
 
--- "Minimum and maximum start fresh and take in each kept value from the left, the raw first one too, and never an input that was not kept"
+-- "With-first mode stores the first value's 32 bits raw": by any rule, and the first value is kept as it is
+pub a-first-value-is-stored-raw : {A : Type 0} (rule : ℕ → ℕ → ℕ) (G : Gather A) (l x : ℕ)
+    → written rule (macaqueOf withFirst G) (fresh (macaqueOf withFirst G) l) (x ∷ []) ≡ field 32 x
+unfolding bitsFor
+a-first-value-is-stored-raw rule G l x = written-one (macaqueOf withFirst G) rule (fresh (macaqueOf withFirst G) l) x
+
+pub a-first-value-is-kept : {A : Type 0} (rule : ℕ → ℕ → ℕ) (G : Gather A) (l x : ℕ)
+    → kept rule (macaqueOf withFirst G) (fresh (macaqueOf withFirst G) l) (x ∷ []) ≡ x ∷ []
+unfolding keptFrom
+a-first-value-is-kept rule G l x = refl
+
+-- "Minimum and maximum start fresh and take in each kept value from the left, the raw first one too, and never an input that was not kept";
+-- `gathers-each-value-once` says that this is a plain fold
 pub gathers-over-the-kept-values : {A : Type 0} (rule : ℕ → ℕ → ℕ) (S : Stream A) (s : State A) (xs : List ℕ)
     → (wrote rule S s xs) .seen ≡ gatherFrom (S .gather) (S .mode) (s .count) (s .seen) (kept rule S s xs)
 gathers-over-the-kept-values rule S s xs = seen-after S s (kept rule S s xs)
+
+-- "from the left, the raw first one too": where a raw value is taken in as any other, each value is taken in once, in order
+pub gathers-each-value-once : {A : Type 0} (G : Gather A) → ((a : A) (v : ℕ) → G .byFirst a v ≡ G .byNext a v)
+    → (mode : Mode) (n : ℕ) (a : A) (vs : List ℕ) → gatherFrom G mode n a vs ≡ foldl (G .byNext) a vs
+gathers-each-value-once = gather-folds
 
 -- ---- "On any accepted stream, even one this writer would not write, reopening at k and writing reads back as the first k values and then the newly
 -- kept ones": `Resumed` names the state, that it may be used, where it stands, what it gathered, and the reading after any write
@@ -96,6 +124,16 @@ pub any-stream-resumes : {A : Type 0} (rule : ℕ → ℕ → ℕ) (S : Stream A
     → (n k used : ℕ) (buf : List ℕ) → k ≤ n → n ≤ mostValues → used ≤ length buf → (vs : List ℕ) (t : State A) (r : List Bool)
     → readAll S n (fresh S l) (bitsOf (take used buf)) ≡ done vs t r → Resumed rule S l n k used buf vs
 any-stream-resumes = any-resumed
+
+-- "The whole stream is checked first": what reading refuses, reopening refuses, by the same number, value and place and at any k
+pub reopening-refuses-what-reading-refuses : {A : Type 0} (S : Stream A) (n k : ℕ) (s : State A) (bits : List Bool) (f : Refusal)
+    → readAll S n s bits ≡ stopped f → reopen S n k s bits ≡ unopened f
+reopening-refuses-what-reading-refuses = refused-reopen
+
+-- "lent memory is untouched"
+pub a-refused-reopening-leaves-the-buffer : {A : Type 0} (S : Stream A) (n k : ℕ) (s : State A) (bits : List Bool) (f : Refusal)
+    → readAll S n s bits ≡ stopped f → (buf : List ℕ) → bufferAfter (reopen S n k s bits) buf ≡ buf
+a-refused-reopening-leaves-the-buffer {A} S n k s bits f h buf = ap (λ (q : Reopened A). bufferAfter q buf) (refused-reopen S n k s bits f h)
 
 -- ---- what the calls do to lent bytes
 

@@ -11,7 +11,7 @@ use lib.IntN.{ℤ, pos, negsuc}
 use lib.Signed.{ltZ}
 use Rattle.models.proofs.Laws.{and-left, and-right, and-both, or-either, or-right}
 use Rattle.swing.specs.declared.Swing.{Swing}
-use Rattle.swing.specs.Times.{sameTime, timeAllowed}
+use Rattle.lines.specs.Times.{sameTime, timeAllowed}
 use Rattle.swing.specs.State.{usable, timesAllowed, timeFollows}
 
 -- ---- times

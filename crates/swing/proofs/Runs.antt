@@ -15,16 +15,16 @@ use Rattle.models.specs.declared.ErrorBound.{ErrorBound}
 use Rattle.models.proofs.Judged.{after-judging, after-test}
 use Rattle.models.proofs.Laws.{and-both}
 use Rattle.models.proofs.Folds.{steps-keep, steps-raise}
-use Rattle.swing.specs.Times.{timeAllowed}
-use Rattle.swing.specs.Line.{_+f_, _-f_, pointOf, bothFinite, valueAt}
+use Rattle.lines.specs.Times.{timeAllowed}
+use Rattle.lines.specs.Line.{_+f_, _-f_, pointOf, bothFinite, valueAt}
 use Rattle.swing.specs.State.{fresh, upperLine, lowerLine, usable, timesAllowed, timeFollows}
 use Rattle.swing.specs.Step.{opened, moved, flat, second, swung, laterAt, later, tried}
 use Rattle.swing.specs.Calls.{fitCauses, fitAnswer}
 use Rattle.swing.specs.Run.{Given, next, run}
 use Rattle.swing.specs.declared.Swing.{Swing}
-use Rattle.swing.specs.declared.line.Point.{Point}
-use Rattle.swing.specs.declared.line.Line.{Line}
-use Rattle.swing.specs.declared.line.Terms.{Terms}
+use Rattle.lines.specs.declared.Point.{Point}
+use Rattle.lines.specs.declared.Line.{Line}
+use Rattle.lines.specs.declared.Terms.{Terms}
 use Rattle.swing.proofs.Allowed.{length-below, follows-allowed, follows-start, start-allowed, one-time, two-times}
 
 -- what a state has, with p as its first point too, or moved on to p with whatever lines and sums, it has after the step

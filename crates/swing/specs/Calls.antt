@@ -7,11 +7,11 @@ use lib.Dec.{eqb}
 use lib.IntN.{ℤ}
 use lib.Ieee.{Float}
 use Rattle.models.specs.Answers.{Said, answered, refused, SaidOn, answeredOn, refusedOn, Stepped, fitting, failing, Cause, _when_, judged, judgedOn, Injective, told-apart}
-use Rattle.models.specs.Refusals.{number, numbered, numbered-number}
+use Rattle.models.specs.Refusals.{number, numbered-number, unsaid, unsaidOn}
 use Rattle.models.specs.Bound.{boundAllowed}
 use Rattle.models.specs.Limits.{mostValues, metadataAllowed, cost}
 use Rattle.models.specs.declared.ErrorBound.{ErrorBound}
-use Rattle.swing.specs.Line.{pointOf}
+use Rattle.lines.specs.Line.{pointOf}
 use Rattle.swing.specs.State.{fresh, usable, timeFollows}
 use Rattle.swing.specs.Step.{tried}
 use Rattle.swing.specs.Model.{Ends, endsOf}
@@ -33,16 +33,12 @@ saysNew (OfNew.Refused r) = refused (number r)
 unfoldable pub newAnswer : ErrorBound → Said Swing
 newAnswer b = judged (1 when not (boundAllowed b) ∷ []) (fresh b)
 
-abbrev new-back : Said Swing → NewAnswer
-new-back (answered s) = OfNew.Answered s
-new-back (refused n) = OfNew.Refused (numbered n)
-
-new-told : (r : NewAnswer) → new-back (saysNew r) ≡ r
+new-told : (r : NewAnswer) → unsaid OfNew.Answered OfNew.Refused (saysNew r) ≡ r
 new-told (OfNew.Answered s) = refl
 new-told (OfNew.Refused r) = ap OfNew.Refused (numbered-number r)
 
 pub saysNew-injective : Injective saysNew
-saysNew-injective = told-apart saysNew new-back new-told
+saysNew-injective = told-apart saysNew (unsaid OfNew.Answered OfNew.Refused) new-told
 
 -- ---- Swing::fit_data_point, of a time and a pattern
 abbrev pub saysFit : FitAnswer → SaidOn Swing (Stepped Swing)
@@ -61,17 +57,16 @@ fitCauses s t =
 unfoldable pub fitAnswer : Swing → ℤ → ℕ → SaidOn Swing (Stepped Swing)
 fitAnswer s t value = judgedOn s (fitCauses s t) (tried s (pointOf t value))
 
-abbrev fit-back : SaidOn Swing (Stepped Swing) → FitAnswer
-fit-back (answeredOn t) = cond (t .fits) (OfFit.Fits (t .state)) (OfFit.NoFit (t .state))
-fit-back (refusedOn n s) = OfFit.Refused (numbered n) s
+abbrev step-back : Stepped Swing → FitAnswer
+step-back t = cond (t .fits) (OfFit.Fits (t .state)) (OfFit.NoFit (t .state))
 
-fit-told : (r : FitAnswer) → fit-back (saysFit r) ≡ r
+fit-told : (r : FitAnswer) → unsaidOn step-back OfFit.Refused (saysFit r) ≡ r
 fit-told (OfFit.Fits s) = refl
 fit-told (OfFit.NoFit s) = refl
 fit-told (OfFit.Refused r s) = rw (numbered-number r)
 
 pub saysFit-injective : Injective saysFit
-saysFit-injective = told-apart saysFit fit-back fit-told
+saysFit-injective = told-apart saysFit (unsaidOn step-back OfFit.Refused) fit-told
 
 -- ---- Swing::bytes_per_value: metadata of m bytes, and one more
 abbrev pub saysCost : CostAnswer → SaidOn Swing Float
@@ -89,16 +84,12 @@ costCauses s m =
 unfoldable pub costAnswer : Swing → ℕ → SaidOn Swing Float
 costAnswer s m = judgedOn s (costCauses s m) (cost (m + 1) (s .length))
 
-abbrev cost-back : SaidOn Swing Float → CostAnswer
-cost-back (answeredOn x) = OfCost.Answered x
-cost-back (refusedOn n s) = OfCost.Refused (numbered n) s
-
-cost-told : (r : CostAnswer) → cost-back (saysCost r) ≡ r
+cost-told : (r : CostAnswer) → unsaidOn OfCost.Answered OfCost.Refused (saysCost r) ≡ r
 cost-told (OfCost.Answered x) = refl
 cost-told (OfCost.Refused r s) = rw (numbered-number r)
 
 pub saysCost-injective : Injective saysCost
-saysCost-injective = told-apart saysCost cost-back cost-told
+saysCost-injective = told-apart saysCost (unsaidOn OfCost.Answered OfCost.Refused) cost-told
 
 -- ---- Swing::model
 abbrev pub saysModel : ModelAnswer → SaidOn Swing Ends
@@ -115,13 +106,9 @@ modelCauses s =
 unfoldable pub modelAnswer : Swing → SaidOn Swing Ends
 modelAnswer s = judgedOn s (modelCauses s) (endsOf s)
 
-abbrev model-back : SaidOn Swing Ends → ModelAnswer
-model-back (answeredOn e) = OfModel.Answered (e .first) (e .last)
-model-back (refusedOn n s) = OfModel.Refused (numbered n) s
-
-model-told : (r : ModelAnswer) → model-back (saysModel r) ≡ r
+model-told : (r : ModelAnswer) → unsaidOn (λ (e : Ends). OfModel.Answered (e .first) (e .last)) OfModel.Refused (saysModel r) ≡ r
 model-told (OfModel.Answered first last) = refl
 model-told (OfModel.Refused r s) = rw (numbered-number r)
 
 pub saysModel-injective : Injective saysModel
-saysModel-injective = told-apart saysModel model-back model-told
+saysModel-injective = told-apart saysModel (unsaidOn (λ (e : Ends). OfModel.Answered (e .first) (e .last)) OfModel.Refused) model-told

@@ -1,5 +1,3 @@
-pub mod Times
-pub mod Line
 pub mod State
 pub mod Step
 pub mod Model

@@ -2,7 +2,7 @@
 use Prim.Native.Nat.{ℕ}
 use lib.Ieee.{Float}
 use Rattle.models.specs.Floats.{minF, maxF}
-use Rattle.swing.specs.Line.{_+f_, _*f_, _/f_, spanF, answeredAs}
+use Rattle.lines.specs.Line.{_+f_, _*f_, _/f_, spanF, answeredAs}
 use Rattle.swing.specs.State.{sumsOf}
 use Rattle.swing.specs.declared.Swing.{Swing}
 

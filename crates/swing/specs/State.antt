@@ -8,11 +8,11 @@ use lib.Ieee.{nan}
 use Rattle.models.specs.Floats.{zeroF}
 use Rattle.models.specs.Limits.{mostValues}
 use Rattle.models.specs.declared.ErrorBound.{ErrorBound}
-use Rattle.swing.specs.Times.{sameTime, timeAllowed}
+use Rattle.lines.specs.Times.{sameTime, timeAllowed}
 use Rattle.swing.specs.declared.Swing.{Swing}
-use Rattle.swing.specs.declared.line.Point.{Point}
-use Rattle.swing.specs.declared.line.Line.{Line}
-use Rattle.swing.specs.declared.line.Terms.{Terms}
+use Rattle.lines.specs.declared.Point.{Point}
+use Rattle.lines.specs.declared.Line.{Line}
+use Rattle.lines.specs.declared.Terms.{Terms}
 
 -- before any point
 unfoldable pub fresh : ErrorBound → Swing

@@ -7,12 +7,12 @@ use lib.Ieee.{Float}
 use Rattle.models.specs.Answers.{Stepped, fitting, failing}
 use Rattle.models.specs.Floats.{equalOrNan}
 use Rattle.models.specs.Bound.{deviation}
-use Rattle.swing.specs.Line.{_+f_, _-f_, bothFinite, raised, lowered, level, lineThrough, valueAt, termsOf, added}
+use Rattle.lines.specs.Line.{_+f_, _-f_, bothFinite, raised, lowered, level, lineThrough, valueAt, termsOf, added}
 use Rattle.swing.specs.State.{firstPoint, upperLine, lowerLine, sumsOf}
 use Rattle.swing.specs.declared.Swing.{Swing}
-use Rattle.swing.specs.declared.line.Point.{Point}
-use Rattle.swing.specs.declared.line.Line.{Line}
-use Rattle.swing.specs.declared.line.Terms.{Terms}
+use Rattle.lines.specs.declared.Point.{Point}
+use Rattle.lines.specs.declared.Line.{Line}
+use Rattle.lines.specs.declared.Terms.{Terms}
 
 -- ---- the states that a step gives
 

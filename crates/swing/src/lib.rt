@@ -1,11 +1,9 @@
 // Swing: a line from the first point of a segment on that passes each later one within the error
 // bound. A state goes in by value, and a step hands the fitted one back.
 
-pub mod line;
 pub mod step;
-pub mod times;
 
-use crate::line::Point;
+use lines::Point;
 use models::ErrorBound;
 use models::GridAnswer;
 use models::Refusal;
@@ -15,7 +13,7 @@ ghost use mathlib.Core.Path.{_≡_};
 ghost use lib.ListN.{length};
 ghost use Rattle.models.specs.Answers.{verdict};
 ghost use Rattle.models.specs.Calls.{saysVerdict, saysValue, saysGrid};
-ghost use Rattle.swing.specs.Line.{pointOf};
+ghost use Rattle.lines.specs.Line.{pointOf};
 ghost use Rattle.swing.specs.Calls.{saysNew, newAnswer, fitCauses, saysFit, fitAnswer, costCauses, saysCost, costAnswer, modelCauses, saysModel, modelAnswer};
 ghost use Rattle.swing.specs.Grid.{averageCauses, averageAnswer, sumCauses, sumAnswer, gridCauses, gridMemory};
 
@@ -92,7 +90,7 @@ impl Swing {
     pub fn fit_data_point(self, timestamp: i64, value: u32) -> FitAnswer
         ensures { λ r. ⌜ saysFit r ≡ fitAnswer self timestamp value ⌝ }
     {
-        let p = line::point_of(timestamp, value);
+        let p = lines::point_of(timestamp, value);
         match self.judge_fit(p) {
             Verdict::Refused(r) => FitAnswer::Refused(r, self),
             Verdict::Passed => self.tried(p),
@@ -123,8 +121,8 @@ impl Swing {
         match self.judge_model() {
             Verdict::Refused(r) => ModelAnswer::Refused(r, self),
             Verdict::Passed => {
-                let first = line::answered(self.first_value);
-                ModelAnswer::Answered(first, line::answered(self.last_value()))
+                let first = lines::answered(self.first_value);
+                ModelAnswer::Answered(first, lines::answered(self.last_value()))
             }
         }
     }
@@ -176,11 +174,11 @@ pub fn sum_by_average(
 ) -> ValueAnswer
     ensures { λ r. ⌜ saysValue r ≡ averageAnswer (pointOf «start_time» «first_value») (pointOf «end_time» «last_value») count ⌝ }
 {
-    let a = line::point_of(start_time, first_value);
-    let b = line::point_of(end_time, last_value);
+    let a = lines::point_of(start_time, first_value);
+    let b = lines::point_of(end_time, last_value);
     match judge_average(a, b, count) {
         Verdict::Refused(r) => ValueAnswer::Refused(r),
-        Verdict::Passed => ValueAnswer::Answered(line::average_sum(a, b, count)),
+        Verdict::Passed => ValueAnswer::Answered(lines::average_sum(a, b, count)),
     }
 }
 
@@ -194,13 +192,13 @@ pub fn sum_over(
 ) -> ValueAnswer
     ensures { λ r. ⌜ saysValue r ≡ sumAnswer (pointOf «start_time» «first_value») (pointOf «end_time» «last_value») (now (timestamps .entry)) ⌝ }
 {
-    let a = line::point_of(start_time, first_value);
-    let b = line::point_of(end_time, last_value);
+    let a = lines::point_of(start_time, first_value);
+    let b = lines::point_of(end_time, last_value);
     match judge_sum(a, b, timestamps) {
         Verdict::Refused(r) => ValueAnswer::Refused(r),
         Verdict::Passed => {
-            let l = line::line_through(a, b);
-            ValueAnswer::Answered(line::answered(line::total(l, timestamps)))
+            let l = lines::line_through(a, b);
+            ValueAnswer::Answered(lines::answered(lines::total(l, timestamps)))
         }
     }
 }
@@ -217,12 +215,12 @@ pub fn grid(
     ensures answer { λ r. ⌜ saysGrid r ≡ verdict (gridCauses (pointOf «start_time» «first_value») (pointOf «end_time» «last_value») (now (timestamps .entry)) (length (now (out .entry)))) ⌝ }
     ensures output { λ r. ⌜ now (out .exit) ≡ gridMemory (pointOf «start_time» «first_value») (pointOf «end_time» «last_value») (now (timestamps .entry)) (now (out .entry)) ⌝ }
 {
-    let a = line::point_of(start_time, first_value);
-    let b = line::point_of(end_time, last_value);
+    let a = lines::point_of(start_time, first_value);
+    let b = lines::point_of(end_time, last_value);
     match judge_grid(a, b, timestamps, out.len()) {
         Verdict::Refused(r) => GridAnswer::Refused(r),
         Verdict::Passed => {
-            line::draw(line::line_through(a, b), timestamps, out);
+            lines::draw(lines::line_through(a, b), timestamps, out);
             GridAnswer::Drawn
         }
     }
@@ -231,16 +229,16 @@ pub fn grid(
 fn judge_average(a: Point, b: Point, count: usize) -> Verdict
     ensures { λ r. ⌜ saysVerdict r ≡ verdict (averageCauses a b count) ⌝ }
 {
-    let ends = models::when(Refusal::NoModel, line::no_line(a, b), Verdict::Passed);
-    let times = models::when(Refusal::TimesNotAllowed, !line::in_time(a, b), ends);
+    let ends = models::when(Refusal::NoModel, lines::no_line(a, b), Verdict::Passed);
+    let times = models::when(Refusal::TimesNotAllowed, !lines::in_time(a, b), ends);
     models::when(Refusal::OverLimit, 65536 < count, times)
 }
 
 fn judge_sum(a: Point, b: Point, timestamps: &[i64]) -> Verdict
     ensures { λ r. ⌜ saysVerdict r ≡ verdict (sumCauses a b (now (timestamps .entry))) ⌝ }
 {
-    let ordered = line::in_time(a, b) & times::in_order(timestamps);
-    let ends = models::when(Refusal::NoModel, line::no_line(a, b), Verdict::Passed);
+    let ordered = lines::in_time(a, b) & lines::times::in_order(timestamps);
+    let ends = models::when(Refusal::NoModel, lines::no_line(a, b), Verdict::Passed);
     let times = models::when(Refusal::TimesNotAllowed, !ordered, ends);
     models::when(Refusal::OverLimit, 65536 < timestamps.len(), times)
 }
@@ -248,8 +246,8 @@ fn judge_sum(a: Point, b: Point, timestamps: &[i64]) -> Verdict
 fn judge_grid(a: Point, b: Point, timestamps: &[i64], room: usize) -> Verdict
     ensures { λ r. ⌜ saysVerdict r ≡ verdict (gridCauses a b (now (timestamps .entry)) room) ⌝ }
 {
-    let ordered = line::in_time(a, b) & times::in_order(timestamps);
-    let ends = models::when(Refusal::NoModel, line::no_line(a, b), Verdict::Passed);
+    let ordered = lines::in_time(a, b) & lines::times::in_order(timestamps);
+    let ends = models::when(Refusal::NoModel, lines::no_line(a, b), Verdict::Passed);
     let times = models::when(Refusal::TimesNotAllowed, !ordered, ends);
     let short = models::when(Refusal::OutputTooShort, room < timestamps.len(), times);
     models::when(Refusal::OverLimit, 65536 < timestamps.len(), short)

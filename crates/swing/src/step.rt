@@ -2,16 +2,15 @@
 
 use crate::FitAnswer;
 use crate::Swing;
-use crate::line;
-use crate::line::Line;
-use crate::line::Point;
-use crate::line::Terms;
-use crate::times;
+use lines::Line;
+use lines::Point;
+use lines::Terms;
+use lines::times;
 ghost use mathlib.Core.Path.{_≡_};
 ghost use mathlib.Core.Bool.{true};
 ghost use Prim.Native.Nat.{_<_};
 ghost use Rattle.models.specs.Answers.{answeredOn};
-ghost use Rattle.swing.specs.Times.{timeAllowed};
+ghost use Rattle.lines.specs.Times.{timeAllowed};
 ghost use Rattle.swing.specs.State.{usable, timeFollows, firstPoint, upperLine, lowerLine, sumsOf};
 ghost use Rattle.swing.specs.Step.{opened, moved, flat, second, upperSwung, lowerSwung, swung, later, tried};
 ghost use Rattle.swing.specs.Model.{lastValue};
@@ -89,7 +88,7 @@ impl Swing {
         if n == 0 {
             return FitAnswer::Fits(self.opened(p));
         }
-        if !line::both_finite(self.first_value, p.value) {
+        if !lines::both_finite(self.first_value, p.value) {
             return self.flat(p);
         }
         let d = models::deviation(b, p.value);
@@ -151,8 +150,8 @@ impl Swing {
         ensures { λ r. ⌜ r ≡ second self p d ⌝ }
     {
         let first = self.first_point();
-        let upper = line::line_through(first, line::raised(p, d));
-        let lower = line::line_through(first, line::lowered(p, d));
+        let upper = lines::line_through(first, lines::raised(p, d));
+        let lower = lines::line_through(first, lines::lowered(p, d));
         self.moved(p, upper, lower, self.sums())
     }
 
@@ -161,8 +160,8 @@ impl Swing {
         requires { ⌜ self .length < 65536 ⌝ ∗ ⌜ timeAllowed (self .«start_time») ≡ true ⌝ ∗ ⌜ timeAllowed (p .time) ≡ true ⌝ }
         ensures { λ r. ⌜ saysFit r ≡ answeredOn (later self p d) ⌝ }
     {
-        let high = line::value_at(self.upper_line(), p.time);
-        let low = line::value_at(self.lower_line(), p.time);
+        let high = lines::value_at(self.upper_line(), p.time);
+        let low = lines::value_at(self.lower_line(), p.time);
         if (high + d < p.value) | (low - d > p.value) {
             FitAnswer::NoFit(self)
         } else {
@@ -177,7 +176,7 @@ impl Swing {
     {
         let upper = self.upper_swung(p, d, high);
         let lower = self.lower_swung(p, d, low);
-        let sums = line::added(self.sums(), line::terms_of(self.first_point(), p));
+        let sums = lines::added(self.sums(), lines::terms_of(self.first_point(), p));
         self.moved(p, upper, lower, sums)
     }
 
@@ -187,7 +186,7 @@ impl Swing {
         ensures { λ r. ⌜ r ≡ upperSwung self p d high ⌝ }
     {
         if high - d > p.value {
-            line::line_through(self.first_point(), line::raised(p, d))
+            lines::line_through(self.first_point(), lines::raised(p, d))
         } else {
             self.upper_line()
         }
@@ -199,7 +198,7 @@ impl Swing {
         ensures { λ r. ⌜ r ≡ lowerSwung self p d low ⌝ }
     {
         if low + d < p.value {
-            line::line_through(self.first_point(), line::lowered(p, d))
+            lines::line_through(self.first_point(), lines::lowered(p, d))
         } else {
             self.lower_line()
         }
@@ -216,6 +215,6 @@ impl Swing {
         let projected = sums.numerator / sums.denominator;
         let under = models::min_f64(projected, self.upper_bound_slope);
         let slope = models::max_f64(self.lower_bound_slope, under);
-        slope * line::span(self.start_time, self.end_time) + self.first_value
+        slope * lines::span(self.start_time, self.end_time) + self.first_value
     }
 }

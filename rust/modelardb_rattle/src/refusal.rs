@@ -3,21 +3,21 @@
 use std::error::Error;
 use std::fmt::{Display, Formatter, Result};
 
-/// The twelve causes, in the order of their numbers.
+/// The twelve causes, in the order of their numbers and under the names of the proved library.
 #[derive(Clone, Copy, Debug, PartialEq, Eq, Hash)]
 pub enum Refusal {
     BoundNotAllowed,
     StateNotAllowed,
-    NumberOutOfLimits,
+    OverLimit,
     OutputTooShort,
-    StreamEndsEarly,
-    KeepBeforeWindow,
+    EndsEarly,
+    NoWindow,
     WindowNotAllowed,
     Leftover,
-    ParametersNotAllowed,
-    TimestampsNotAllowed,
+    FormNotAllowed,
+    TimesNotAllowed,
     NoModel,
-    CountsDoNotMatch,
+    CountsDisagree,
 }
 
 /// Each cause with what was wrong; its number is its place, counted from 1.
@@ -31,43 +31,40 @@ const CAUSES: [(Refusal, &str); 12] = [
         "the state is not allowed: its fields do not go together",
     ),
     (
-        Refusal::NumberOutOfLimits,
-        "a number is out of its limits: 65,536 values, 255 residuals, models 0 and 1, metadata sizes 1 to 65,535",
+        Refusal::OverLimit,
+        "a number is above its limit, 65,536 values, 255 residuals or model 1, or the metadata size M is above 65,535 or below 1",
     ),
     (
         Refusal::OutputTooShort,
         "the lent output is too short for the answer",
     ),
+    (Refusal::EndsEarly, "the stream ends before its last value"),
     (
-        Refusal::StreamEndsEarly,
-        "the stream ends before its last value",
-    ),
-    (
-        Refusal::KeepBeforeWindow,
+        Refusal::NoWindow,
         "the stream keeps a window before any was set",
     ),
     (
         Refusal::WindowNotAllowed,
-        "the stream sets a window of no bits, or of more than 32",
+        "the stream sets a window of no bits, or of more than 32 with its leading zeros",
     ),
     (
         Refusal::Leftover,
         "the stream goes on after its last value: a set padding bit or a further byte",
     ),
     (
-        Refusal::ParametersNotAllowed,
+        Refusal::FormNotAllowed,
         "the parameter bytes' length or flag, or the residual count byte, is not allowed",
     ),
     (
-        Refusal::TimestampsNotAllowed,
+        Refusal::TimesNotAllowed,
         "the timestamps are not strictly increasing, or one is outside -2^52 to 2^52",
     ),
     (
         Refusal::NoModel,
-        "there is no model: the state is of length 0, or a line's end is not finite",
+        "there is no model: the state is of length 0, or the line has ends that differ, at least one not finite",
     ),
     (
-        Refusal::CountsDoNotMatch,
+        Refusal::CountsDisagree,
         "the counts do not match: k above the count, more used than the buffer holds, lists of unequal lengths, or no value left for the model",
     ),
 ];
@@ -76,7 +73,7 @@ impl Refusal {
     /// The refusal's number, 1 to 12.
     ///
     /// ```
-    /// assert_eq!(modelardb_rattle::Refusal::StreamEndsEarly.number(), 5);
+    /// assert_eq!(modelardb_rattle::Refusal::EndsEarly.number(), 5);
     /// ```
     pub fn number(self) -> u32 {
         self as u32 + 1

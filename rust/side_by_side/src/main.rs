@@ -4,6 +4,7 @@
 mod context;
 mod inputs;
 mod parts;
+mod shape;
 
 use context::Context;
 use std::process::ExitCode;

@@ -1,17 +1,15 @@
 -- `exports::modelardb_is_value_within_error_bound` meets its contract, by what the call behind it said. Assumes nothing.
 use borrow.Author.Needs.{needs}
-use mathlib.Core.Path.{_≡_, refl, sym, ap, _∙_}
+use mathlib.Core.Path.{_≡_, sym, ap, _∙_}
 use mathlib.Core.Bool.{Bool}
 use mathlib.Core.List.{List, [], _∷_}
 use Prim.Native.Nat.{ℕ}
-use lib.ListN.{length, set}
 use native.Mathlib.Omega.{arith}
-use Rattle.models.specs.Answers.{Said, answered, refused}
 use Rattle.models.specs.Refusals.{number}
 use Rattle.models.specs.Calls.{saysWithin, withinAnswer}
 use Rattle.models.specs.declared.ErrorBound.{ErrorBound}
 use Rattle.exports.specs.Face.{boundOf, wordOf}
-use Rattle.exports.proofs.Rows.{Faced, refused-row, short-row, one-word}
+use Rattle.exports.proofs.Rows.{refused-row, short-row, one-word}
 use Rattle.exports.proofs.modelardb_is_value_within_error_bound.Statement.{statement}
 use Rattle.exports.proofs.modelardb_is_value_within_error_bound.Tie as tie
 
@@ -44,7 +42,7 @@ enum-known-is c = search needs
 returns : tie.Need-returns
 returns c =
     let k = c .before .before .before .before in
-    short-row row (k .before .before .before .args .out .now) _ (c .before .before .is .given .0 .0) (said k ∙ ap saysWithin (c .before .before .is .given .1)) (omega arith)
+    short-row row (k .before .before .before .args .out .now) _ 1 (c .before .before .is .given .0 .0) (said k ∙ ap saysWithin (c .before .before .is .given .1)) (omega arith)
 
 word-of-requires : tie.Need-word-of-requires
 word-of-requires c κs = search needs

@@ -1,14 +1,12 @@
 -- `exports::modelardb_maximum_allowed_deviation` meets its contract, by what the call behind it said. Assumes nothing.
 use borrow.Author.Needs.{needs}
-use mathlib.Core.Path.{_≡_, refl, sym, ap, ap₂, _∙_}
+use mathlib.Core.Path.{_≡_, sym, ap, ap₂, _∙_}
 use mathlib.Core.List.{List, [], _∷_}
 use Prim.Native.Nat.{ℕ}
 use native.Mathlib.Omega.{arith}
 use lib.Ieee.{Float, binary64, ofBits, toBits}
-use lib.ListN.{length, set}
 use Rattle.models.specs.Refusals.{number}
 use Rattle.models.specs.Calls.{saysDeviation, deviationAnswer}
-use Rattle.models.specs.declared.ErrorBound.{ErrorBound}
 use Rattle.exports.specs.Face.{boundOf}
 use Rattle.exports.proofs.Rows.{refused-row, short-row, one-word}
 use Rattle.exports.proofs.modelardb_maximum_allowed_deviation.Statement.{statement}
@@ -44,7 +42,7 @@ enum-known-d c = search needs
 returns : tie.Need-returns
 returns c =
     let k = c .before .before .before .before in
-    short-row row (k .before .before .before .before .args .out .now) _ (c .before .before .d .given .0 .0) (said k ∙ ap saysDeviation (c .before .before .d .given .1)) (omega arith)
+    short-row row (k .before .before .before .before .args .out .now) _ 1 (c .before .before .d .given .0 .0) (said k ∙ ap saysDeviation (c .before .before .d .given .1)) (omega arith)
 
 bits-of-f64-requires : tie.Need-bits-of-f64-requires
 bits-of-f64-requires c κs = search needs

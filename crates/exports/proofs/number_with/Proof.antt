@@ -1,11 +1,6 @@
 -- `exports::number_with` meets its contract, test by test. Assumes nothing.
 use borrow.Author.Needs.{needs}
 use borrow.Author.Tests.{le-leb, lt-leb, eq-eqb, ne-eqb}
-use mathlib.Core.Path.{_≡_, sym, ap, _∙_}
-use mathlib.Core.Bool.{Bool, true, false, cond, _||_}
-use Prim.Native.Nat.{ℕ}
-use lib.Dec.{eqb, leb}
-use Rattle.models.specs.Refusals.{number}
 use Rattle.exports.specs.Face.{refusalNumber}
 use Rattle.exports.proofs.number_with.Statement.{statement}
 use Rattle.exports.proofs.number_with.Tie as tie

@@ -33,8 +33,7 @@ returns : tie.Need-returns
 unfolding gridMemory
 returns c =
     let a = c .before .before .before .before .before .args in
-    let causes = gridCauses (a .count) (length (now (a .out))) in
-    (when-refused causes _ (c .before .before .before .judge-grid .ensures) refused _ _ (c .before .r .given .1), when-refused causes _ (c .before .before .before .judge-grid .ensures) (λ (n : ℕ). now (a .out)) _ _ (c .before .r .given .1))
+    (when-refused _ _ (c .before .before .before .judge-grid .ensures) refused _ _ (c .before .r .given .1), when-refused _ _ (c .before .before .before .judge-grid .ensures) (λ (n : ℕ). now (a .out)) _ _ (c .before .r .given .1))
 
 same-length : tie.Need-same-length
 same-length c = search needs
@@ -43,9 +42,8 @@ returns-2 : tie.Need-returns-2
 unfolding gridMemory
 returns-2 c =
     let a = c .before .before .before .before .before .before .before .before .before .args in
-    let causes = gridCauses (a .count) (length (now (a .out))) in
     let ok = c .before .before .before .before .before .enum-told .given .1 in
-    (when-passed causes _ (c .before .before .before .before .before .before .before .judge-grid .ensures) refused _ ok, c .before .before .fill .ensures ∙ rw (c .before .before .before .before .plain .ensures) (when-passed causes _ (c .before .before .before .before .before .before .before .judge-grid .ensures) (λ (n : ℕ). now (a .out)) _ ok))
+    (when-passed _ _ (c .before .before .before .before .before .before .before .judge-grid .ensures) refused _ ok, c .before .before .fill .ensures ∙ rw (c .before .before .before .before .plain .ensures) (when-passed _ _ (c .before .before .before .before .before .before .before .judge-grid .ensures) (λ (n : ℕ). now (a .out)) _ ok))
 
 pub grid-spec : {M : Type 1} → statement M
 grid-spec =

@@ -11,9 +11,10 @@ use Rattle.models.specs.Calls.{saysVerdict}
 use Rattle.models.specs.Answers.{refused, verdict}
 use Rattle.models.proofs.Judged.{NoneHolds, none-holds, when-passed, when-refused}
 use Rattle.models.proofs.Laws.{and-left, and-right}
-use Rattle.swing.specs.Line.{pointOf}
-use Rattle.swing.specs.Grid.{inTime, gridCauses, gridMemory}
-use Rattle.swing.proofs.Ordered.{start-in-time, end-in-time}
+use Rattle.lines.specs.Line.{pointOf}
+use Rattle.lines.specs.Values.{inTime}
+use Rattle.swing.specs.Grid.{gridCauses, gridMemory}
+use Rattle.lines.proofs.Ordered.{start-in-time, end-in-time}
 use Rattle.swing.proofs.grid.Statement.{statement}
 use Rattle.swing.proofs.grid.Tie as tie
 
@@ -59,8 +60,7 @@ draw-requires c κs =
 returns : tie.Need-returns
 unfolding gridMemory
 returns c =
-    let causes = gridCauses (pointOf (c .before .before .before .before .before .before .before .args .start-time) (c .before .before .before .before .before .before .before .args .first-value)) (pointOf (c .before .before .before .before .before .before .before .args .end-time) (c .before .before .before .before .before .before .before .args .last-value)) (now (c .before .before .before .before .before .before .before .args .timestamps)) (length (now (c .before .before .before .before .before .before .before .args .out))) in
-    (when-refused causes _ (says (c .before .before .before)) refused _ _ (c .before .r .given .1), when-refused causes _ (says (c .before .before .before)) (λ (n : ℕ). now (c .before .before .before .before .before .before .before .args .out)) _ _ (c .before .r .given .1))
+    (when-refused _ _ (says (c .before .before .before)) refused _ _ (c .before .r .given .1), when-refused _ _ (says (c .before .before .before)) (λ (n : ℕ). now (c .before .before .before .before .before .before .before .args .out)) _ _ (c .before .r .given .1))
 
 same-length : tie.Need-same-length
 same-length c = search needs
@@ -68,9 +68,8 @@ same-length c = search needs
 returns-2 : tie.Need-returns-2
 unfolding gridMemory
 returns-2 c =
-    let causes = gridCauses (pointOf (c .before .before .before .before .before .before .before .before .before .before .before .args .start-time) (c .before .before .before .before .before .before .before .before .before .before .before .args .first-value)) (pointOf (c .before .before .before .before .before .before .before .before .before .before .before .args .end-time) (c .before .before .before .before .before .before .before .before .before .before .before .args .last-value)) (now (c .before .before .before .before .before .before .before .before .before .before .before .args .timestamps)) (length (now (c .before .before .before .before .before .before .before .before .before .before .before .args .out))) in
     let v = says (c .before .before .before .before .before .before .before) in
-    (when-passed causes _ v refused _ (c .before .before .before .before .before .enum-told .given .1), c .before .before .draw .ensures ∙ rw (c .before .before .before .before .line-through .ensures, start (c .before .before .before .before .before .before .before .before .before), end (c .before .before .before .before .before .before .before .before)) (when-passed causes _ v (λ (n : ℕ). now (c .before .before .before .before .before .before .before .before .before .before .before .args .out)) _ (c .before .before .before .before .before .enum-told .given .1)))
+    (when-passed _ _ v refused _ (c .before .before .before .before .before .enum-told .given .1), c .before .before .draw .ensures ∙ rw (c .before .before .before .before .line-through .ensures, start (c .before .before .before .before .before .before .before .before .before), end (c .before .before .before .before .before .before .before .before)) (when-passed _ _ v (λ (n : ℕ). now (c .before .before .before .before .before .before .before .before .before .before .before .args .out)) _ (c .before .before .before .before .before .enum-told .given .1)))
 
 pub grid-spec : {M : Type 1} → statement M
 grid-spec =

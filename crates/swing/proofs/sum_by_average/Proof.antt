@@ -7,7 +7,7 @@ use borrow.Author.Tests.{not-false, ltb-false}
 use Rattle.models.specs.Calls.{saysVerdict}
 use Rattle.models.specs.Answers.{refused, verdict}
 use Rattle.models.proofs.Judged.{NoneHolds, none-holds, when-passed, when-refused}
-use Rattle.swing.specs.Line.{pointOf}
+use Rattle.lines.specs.Line.{pointOf}
 use Rattle.swing.specs.Grid.{averageCauses, averageAnswer}
 use Rattle.swing.proofs.sum_by_average.Statement.{statement}
 use Rattle.swing.proofs.sum_by_average.Tie as tie
@@ -47,11 +47,11 @@ average-sum-requires c κs =
 
 returns : tie.Need-returns
 unfolding averageAnswer
-returns c = when-refused (averageCauses (pointOf (c .before .before .before .before .before .before .args .start-time) (c .before .before .before .before .before .before .args .first-value)) (pointOf (c .before .before .before .before .before .before .args .end-time) (c .before .before .before .before .before .before .args .last-value)) (c .before .before .before .before .before .before .args .count)) _ (says (c .before .before .before)) refused _ _ (c .before .r .given .1)
+returns c = when-refused _ _ (says (c .before .before .before)) refused _ _ (c .before .r .given .1)
 
 returns-2 : tie.Need-returns-2
 unfolding averageAnswer
-returns-2 c = rw (c .average-sum .ensures, start (c .before .before .before .before .before), end (c .before .before .before .before)) (when-passed (averageCauses (pointOf (c .before .before .before .before .before .before .args .start-time) (c .before .before .before .before .before .before .args .first-value)) (pointOf (c .before .before .before .before .before .before .args .end-time) (c .before .before .before .before .before .before .args .last-value)) (c .before .before .before .before .before .before .args .count)) _ (says (c .before .before .before)) refused _ (c .before .enum-told .given .1))
+returns-2 c = rw (c .average-sum .ensures, start (c .before .before .before .before .before), end (c .before .before .before .before)) (when-passed _ _ (says (c .before .before .before)) refused _ (c .before .enum-told .given .1))
 
 pub sum-by-average-spec : {M : Type 1} → statement M
 sum-by-average-spec =

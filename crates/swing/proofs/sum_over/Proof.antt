@@ -9,9 +9,10 @@ use Rattle.models.specs.Calls.{saysVerdict}
 use Rattle.models.specs.Answers.{refused, verdict}
 use Rattle.models.proofs.Judged.{NoneHolds, none-holds, when-passed, when-refused}
 use Rattle.models.proofs.Laws.{and-left, and-right}
-use Rattle.swing.specs.Line.{pointOf}
-use Rattle.swing.specs.Grid.{inTime, sumCauses, sumAnswer}
-use Rattle.swing.proofs.Ordered.{start-in-time, end-in-time}
+use Rattle.lines.specs.Line.{pointOf}
+use Rattle.lines.specs.Values.{inTime}
+use Rattle.swing.specs.Grid.{sumCauses, sumAnswer}
+use Rattle.lines.proofs.Ordered.{start-in-time, end-in-time}
 use Rattle.swing.proofs.sum_over.Statement.{statement}
 use Rattle.swing.proofs.sum_over.Tie as tie
 
@@ -59,11 +60,11 @@ answered-requires c κs = search needs
 
 returns : tie.Need-returns
 unfolding sumAnswer
-returns c = when-refused (sumCauses (pointOf (c .before .before .before .before .before .before .args .start-time) (c .before .before .before .before .before .before .args .first-value)) (pointOf (c .before .before .before .before .before .before .args .end-time) (c .before .before .before .before .before .before .args .last-value)) (now (c .before .before .before .before .before .before .args .timestamps))) _ (says (c .before .before .before)) refused _ _ (c .before .r .given .1)
+returns c = when-refused _ _ (says (c .before .before .before)) refused _ _ (c .before .r .given .1)
 
 returns-2 : tie.Need-returns-2
 unfolding sumAnswer
-returns-2 c = rw (c .answered .ensures, c .before .total .ensures, c .before .before .line-through .ensures, start (c .before .before .before .before .before .before .before), end (c .before .before .before .before .before .before)) (when-passed (sumCauses (pointOf (c .before .before .before .before .before .before .before .before .args .start-time) (c .before .before .before .before .before .before .before .before .args .first-value)) (pointOf (c .before .before .before .before .before .before .before .before .args .end-time) (c .before .before .before .before .before .before .before .before .args .last-value)) (now (c .before .before .before .before .before .before .before .before .args .timestamps))) _ (says (c .before .before .before .before .before)) refused _ (c .before .before .before .enum-told .given .1))
+returns-2 c = rw (c .answered .ensures, c .before .total .ensures, c .before .before .line-through .ensures, start (c .before .before .before .before .before .before .before), end (c .before .before .before .before .before .before)) (when-passed _ _ (says (c .before .before .before .before .before)) refused _ (c .before .before .before .enum-told .given .1))
 
 pub sum-over-spec : {M : Type 1} → statement M
 sum-over-spec =

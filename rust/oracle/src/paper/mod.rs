@@ -30,7 +30,7 @@ pub mod refusal {
     pub const BOUND: u32 = 1;
     /// State not allowed.
     pub const STATE: u32 = 2;
-    /// A number above (or M below) its limit.
+    /// A number above its limit, or M below 1.
     pub const LIMIT: u32 = 3;
     /// Lent output too short.
     pub const OUTPUT: u32 = 4;
@@ -38,7 +38,7 @@ pub mod refusal {
     pub const ENDS_EARLY: u32 = 5;
     /// Keep code before any window.
     pub const NO_WINDOW: u32 = 6;
-    /// Meaningful bits 0, or leading + meaningful above 32.
+    /// Meaningful bits 0, or above 32 with its leading zeros.
     pub const WINDOW: u32 = 7;
     /// A set padding bit or a further byte.
     pub const LEFTOVER: u32 = 8;
@@ -46,7 +46,7 @@ pub mod refusal {
     pub const FORM: u32 = 9;
     /// Timestamps out of limit, or not increasing.
     pub const TIMES: u32 = 10;
-    /// Nothing to model, or a line with an end that is not finite.
+    /// Nothing to model, or a line with ends that differ, at least one not finite.
     pub const NO_MODEL: u32 = 11;
     /// k above count, used above buffer, unequal lengths, or no model value left.
     pub const COUNTS: u32 = 12;

@@ -4,8 +4,9 @@ use crate::context::Context;
 use crate::parts::{pmc_mean, swing};
 use oracle::paper::models::ErrorBound::Lossless;
 use oracle::paper::numbers::canonical;
+use oracle::paper::refusal;
 use oracle::paper::types::{Extremes, Model, ModelBuilder, PMC_MEAN_ID, SWING_ID, choose_model};
-use oracle::rust::Chosen;
+use oracle::rust::{Calls, Chosen};
 
 pub fn choice(context: &mut Context) {
     for _ in 0..context.rounds(150_000) {
@@ -71,23 +72,40 @@ fn zero(builder: ModelBuilder) -> bool {
 }
 
 fn choose(context: &mut Context, builder: ModelBuilder, m: u32) {
-    let Ok(paper) = builder.finish(m) else {
-        return; // Listed: a state of length 0 is chosen from there.
+    let paper = builder.finish(m);
+    let input = || format!("choice of {:X?}, M {m}", builder.row());
+    // "A state of length 0 .. given to the choice": 11. Listed: it is chosen from there.
+    let is_empty = builder.pmc_mean.length == 0 || builder.swing.length == 0;
+    let refusal = is_empty.then_some(refusal::NO_MODEL);
+    context.same("a length of 0", paper.err(), refusal, input);
+    let Ok(paper) = paper else {
+        return;
     };
     for rust in context.rust {
         let theirs = with_canonical_extremes((rust.choose)(builder, m));
-        // Listed: PMC is taken for a line that runs off to no finite value; which of two zeros is
-        // the minimum.
-        let runs_off = theirs.id == SWING_ID
-            && paper.id == PMC_MEAN_ID
-            && builder
-                .swing
-                .model()
-                .is_ok_and(|ends| is_finite(ends.0) && !is_finite(ends.1));
-        let is_listed = runs_off || (!rust.is_filled() && zero(builder));
-        context.same_or(is_listed, rust.name, as_chosen(paper), theirs, || {
-            format!("choice of {:X?}, M {m}", builder.row())
-        });
+        let (first, last) = (rust.swing_model)(builder.swing);
+        let runs_off = theirs.id == SWING_ID && is_finite(first) && !is_finite(last);
+        // Listed: which of two zeros is the minimum.
+        let is_zero = !rust.is_filled() && zero(builder);
+        // Listed: a line that runs off to no finite value is chosen there; here PMC's model is.
+        if runs_off && !is_zero {
+            let of_pmc_mean = as_chosen(pmc_mean_model(rust, builder, m));
+            context.same("PMC's model", as_chosen(paper), of_pmc_mean, input);
+        }
+        let is_listed = runs_off || is_zero;
+        context.same_or(is_listed, rust.name, as_chosen(paper), theirs, input);
+    }
+}
+
+/// PMC's model by the Rust's own calls.
+fn pmc_mean_model(rust: &Calls, builder: ModelBuilder, m: u32) -> Model {
+    let value = (rust.pmc_model)(builder.pmc_mean);
+    Model {
+        id: PMC_MEAN_ID,
+        length: builder.pmc_mean.length,
+        first_value: value,
+        last_value: value,
+        bytes_per_value: (rust.pmc_cost)(builder.pmc_mean, m),
     }
 }
 

@@ -81,7 +81,7 @@ fn rewriting(context: &mut Context, rust: &Calls) {
         let theirs = (rust.read)(&theirs, 1, opening).expect("a value")[0];
         let paper = macaque_v::kept(bound, last, input);
         context.listed(paper, theirs, listed, what);
-        is_value_within_error_bound(bound, input, theirs)
+        [paper, theirs].map(|kept| is_value_within_error_bound(bound, input, kept))
     };
     let what = "2: kept, Absolute(100), 1.9 after 1000";
     let listed = (bits(1.0), bits(1.890625));
@@ -94,9 +94,9 @@ fn rewriting(context: &mut Context, rust: &Calls) {
     let _ = kept(Absolute(0.01), 0, bits(1e6), listed, what);
     let what = "2: kept, Relative(0.07), 00111BF2 after 0";
     let listed = (0x0011_1A00, 0x0011_1800);
-    let within = kept(Relative(0.07), 0, 0x0011_1BF2, listed, what);
+    let [ours, theirs] = kept(Relative(0.07), 0, 0x0011_1BF2, listed, what);
     let listed = (Ok(true), Ok(false));
-    context.listed(Ok(true), within, listed, "2: that one is out of its bound");
+    context.listed(ours, theirs, listed, "2: that one is out of its bound");
 }
 
 /// 3 and 4: Its grid opens residuals on the last drawn value; its sum runs the line to the last
@@ -174,19 +174,20 @@ fn parameters(context: &mut Context, rust: &Calls) {
     };
     let paper = pmc_mean_bytes(NAN_32, four_to_six);
     let theirs = (rust.encode_pmc)(NAN_32, four_to_six);
-    let read = decode_values_for_pmc_mean(four_to_six, &theirs);
+    let read = [&paper, &theirs].map(|bytes| decode_values_for_pmc_mean(four_to_six, bytes));
     let listed = (vec![0, 0, 0xC0, 0x7F], vec![]);
     context.listed(paper, theirs, listed, "5: PMC NaN, residuals 4 to 6");
     let listed = (Ok(NAN_32), Ok(bits(4.0)));
-    context.listed(Ok(NAN_32), read, listed, "5: that reads 4");
+    context.listed(read[0], read[1], listed, "5: that reads 4");
 
     let paper = swing_bytes(ONE, NAN_32, NONE);
     let theirs = (rust.encode_swing)(ONE, NAN_32, NONE);
-    let read = decode_values_for_swing(Extremes::of_model(ONE, NAN_32), &theirs);
+    let finished = Extremes::of_model(ONE, NAN_32);
+    let read = [&paper, &theirs].map(|bytes| decode_values_for_swing(finished, bytes));
     let listed = (vec![0, 0, 0x80, 0x3F, 0, 0, 0xC0, 0x7F], vec![0]);
     context.listed(paper, theirs, listed, "5: Swing (1, NaN)");
     let listed = (Ok((ONE, NAN_32)), Ok((ONE, ONE)));
-    context.listed(Ok((ONE, NAN_32)), read, listed, "5: that reads (1, 1)");
+    context.listed(read[0], read[1], listed, "5: that reads (1, 1)");
 
     let paper = swing_bytes(1 << 31, 0, NONE).len();
     let theirs = (rust.encode_swing)(1 << 31, 0, NONE).len();

@@ -2,6 +2,7 @@
 
 use crate::context::Context;
 use crate::inputs::DOZEN;
+use crate::shape;
 use oracle::paper::macaque_v::{self, MacaqueV, Opening};
 use oracle::paper::models::ErrorBound::{self, Absolute, Lossless, Relative};
 use oracle::paper::models::is_value_within_error_bound;
@@ -90,15 +91,26 @@ fn read(bytes: &[u8], count: usize, opening: Opening) -> Result<Vec<u32>, u32> {
     macaque_v::grid(bytes, count, opening, &mut out).map(|()| out)
 }
 
-/// Reads and sums a stream on all sides. What the paper refuses is listed: 5 faults there; 6 and 7
-/// fault or answer anything; 8 and a count of 0 are answered or fault.
+/// Reads and sums a stream on all sides, and holds the refusal against the stream's shape. What the
+/// paper refuses is listed: 5 faults there; 6 and 7 fault or answer anything; 8 and a count of 0 are
+/// answered or fault.
 fn compare_reading(context: &mut Context, bytes: &[u8], count: usize, opening: Opening) {
     let (paper, sum) = (
         read(bytes, count, opening),
         macaque_v::sum(bytes, count, opening),
     );
     let input = || format!("reading {bytes:02X?}, {count} values, {opening:X?}");
-    context.same("paper's sum", paper.clone().err(), sum.err(), input);
+    let refusal = shape::refusal_of(bytes, count, opening);
+    let refusals = (paper.clone().err(), sum.err());
+    context.same("the shape", refusals, (refusal, refusal), input);
+    if count == 0 && refusal.is_none() {
+        context.same(
+            "no values",
+            (paper.clone(), sum),
+            (Ok(vec![]), Ok(0)),
+            input,
+        );
+    }
     for rust in context.rust {
         let theirs = (
             (rust.read)(bytes, count, opening),

@@ -3,6 +3,7 @@
 use crate::context::Context;
 use crate::inputs::{DOZEN, SPECIAL};
 use oracle::paper::numbers::canonical;
+use oracle::paper::refusal;
 use oracle::paper::types::{
     Extremes, decode_values_for_pmc_mean, decode_values_for_swing, pmc_mean_bytes, swing_bytes,
 };
@@ -39,6 +40,10 @@ fn of_pmc_mean(context: &mut Context, value: u32, residuals: Extremes) {
     for rust in context.rust {
         let theirs = (rust.encode_pmc)(canonical(value), residuals);
         let reads_back = decode_values_for_pmc_mean(finished, &theirs) == Ok(canonical(value));
+        if !reads_back {
+            let whole = canonical(value).to_le_bytes();
+            context.same("the 4 byte form", &bytes[..], &whole, input);
+        }
         context.same_or(!reads_back, rust.name, &bytes, &theirs, input);
     }
 }
@@ -54,8 +59,17 @@ fn of_swing(context: &mut Context, first: u32, last: u32, residuals: Extremes) {
     for rust in context.rust {
         let theirs = (rust.encode_swing)(ends.0, ends.1, residuals);
         let reads_back = decode_values_for_swing(finished, &theirs) == Ok(ends);
+        if !reads_back && (rust.is_filled() || !has_two_zeros(ends)) {
+            let whole = [ends.0.to_le_bytes(), ends.1.to_le_bytes()].concat();
+            context.same("the 8 byte form", &bytes, &whole, input);
+        }
         context.same_or(!reads_back, rust.name, &bytes, &theirs, input);
     }
+}
+
+/// Whether the ends are zeros of both signs.
+fn has_two_zeros((first, last): (u32, u32)) -> bool {
+    first ^ last == 1 << 31 && first << 1 == 0
 }
 
 /// Any bytes as parameters: what the paper refuses with 9 faults there.
@@ -70,21 +84,13 @@ fn any_bytes(context: &mut Context) {
     if let Some(flag) = bytes.first_mut().filter(|_| inputs.flip()) {
         *flag %= 8;
     }
-    let pmc_mean = decode_values_for_pmc_mean(segment, &bytes).ok();
-    let swing = decode_values_for_swing(segment, &bytes).ok();
+    let pmc_mean = decode_values_for_pmc_mean(segment, &bytes);
+    let swing = decode_values_for_swing(segment, &bytes);
     let input = || format!("decoding {bytes:02X?}, {segment:08X?}");
     for rust in context.rust {
-        context.same(
-            rust.name,
-            pmc_mean,
-            (rust.decode_pmc)(segment, &bytes),
-            input,
-        );
-        context.same(
-            rust.name,
-            swing,
-            (rust.decode_swing)(segment, &bytes),
-            input,
-        );
+        let theirs = (rust.decode_pmc)(segment, &bytes).ok_or(refusal::FORM);
+        context.same(rust.name, pmc_mean, theirs, input);
+        let theirs = (rust.decode_swing)(segment, &bytes).ok_or(refusal::FORM);
+        context.same(rust.name, swing, theirs, input);
     }
 }

@@ -4,6 +4,7 @@ use crate::context::Context;
 use crate::inputs::SPECIAL;
 use oracle::paper::numbers::canonical;
 use oracle::paper::pmc_mean::{self, PMCMean};
+use oracle::paper::refusal;
 
 /// A step's answer: whether it fits, and the state's row.
 type Step = (bool, [u64; 6]);
@@ -57,12 +58,15 @@ fn without_zero_signs((fits, mut row): Step) -> Step {
 
 fn of_state(context: &mut Context, state: PMCMean) {
     let m = 1 + context.inputs.below(65_535) as u32;
+    let paper = (state.model(), state.bytes_per_value(m));
+    let input = || format!("PMC model {:X?}, M {m}", state.row());
+    // "A state of length 0 asked for its model or cost": 11. There it is answered.
+    let refusal = (state.length == 0).then_some(refusal::NO_MODEL);
+    let refusals = (paper.0.err(), paper.1.err());
+    context.same("a length of 0", refusals, (refusal, refusal), input);
     for rust in context.rust.iter().filter(|_| state.length > 0) {
-        let paper = (state.model(), state.bytes_per_value(m));
         let theirs = (Ok((rust.pmc_model)(state)), Ok((rust.pmc_cost)(state, m)));
-        context.same(rust.name, paper, theirs, || {
-            format!("PMC model {:X?}, M {m}", state.row())
-        });
+        context.same(rust.name, paper, theirs, input);
     }
 }
 

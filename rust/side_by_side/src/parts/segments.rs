@@ -1,10 +1,12 @@
 //! Segments: written, read into a grid and summed.
 
 use crate::context::Context;
-use crate::parts::swing::is_regular;
+use crate::parts::swing::{is_no_line, is_regular};
+use crate::shape;
 use oracle::paper::macaque_v::Opening;
 use oracle::paper::models::ErrorBound::{self, Lossless};
 use oracle::paper::numbers::{bits_of_f32, canonical};
+use oracle::paper::refusal;
 use oracle::paper::segments::{Segment, write};
 use oracle::paper::swing::Line;
 use oracle::paper::types::{
@@ -136,11 +138,54 @@ fn as_floats(extremes: Extremes) -> [u32; 2] {
     [float(extremes.min_value), float(extremes.max_value)]
 }
 
+/// The number by which a segment of valid times is refused: 12, 10, 9, 11, then 5 to 8 by the shape of
+/// its residual stream.
+fn refusal_of(segment: Segment) -> Option<u32> {
+    let count = usize::from(segment.residuals.last().copied().unwrap_or(0));
+    let is_swing = segment.model == SWING_ID;
+    let Some(owned) = segment
+        .timestamps
+        .len()
+        .checked_sub(count)
+        .filter(|&n| n > 0)
+    else {
+        return Some(refusal::COUNTS);
+    };
+    if is_swing && owned == 1 {
+        return Some(refusal::TIMES);
+    }
+    let is_form = match segment.values.len() {
+        0 | 1 => true,
+        4 => !is_swing,
+        5 => is_swing && segment.values[0] < 4,
+        8 => is_swing,
+        _ => false,
+    };
+    if !is_form || (count == 0 && !segment.residuals.is_empty()) {
+        return Some(refusal::FORM);
+    }
+    let ends = decoded(segment.model, segment.extremes, segment.values);
+    let (first, last) = ends.expect("parameters of a form");
+    if is_swing && is_no_line(first, last) {
+        return Some(refusal::NO_MODEL);
+    }
+    let stream = &segment.residuals[..segment.residuals.len().saturating_sub(1)];
+    shape::refusal_of(stream, count, Opening::On(last))
+}
+
 fn compare_reading(context: &mut Context, segment: Segment) {
     let mut out = vec![0; segment.timestamps.len()];
-    let Ok(()) = segment.grid(&mut out) else {
+    let input = || format!("reading {segment:X?}");
+    let refusal = refusal_of(segment);
+    let refusals = [
+        segment.grid(&mut out).err(),
+        segment.sum_by_average().err(),
+        segment.sum_over_times().err(),
+    ];
+    context.same("the segment's shape", refusals, [refusal; 3], input);
+    if refusal.is_some() || refusals[0].is_some() {
         return; // Refused here: accepted or a fault there, as listed.
-    };
+    }
     let count = usize::from(segment.residuals.last().copied().unwrap_or(0));
     let owned = segment.timestamps.len() - count;
     let ends = decoded(segment.model, segment.extremes, segment.values);
@@ -150,7 +195,6 @@ fn compare_reading(context: &mut Context, segment: Segment) {
     } else {
         segment.sum_over_times().ok()
     };
-    let input = || format!("reading {segment:X?}");
     for rust in context.rust {
         let grid = (rust.segment_grid)(segment).expect("a grid");
         let drawn: Vec<u32> = grid[..owned].iter().map(|&bits| canonical(bits)).collect();

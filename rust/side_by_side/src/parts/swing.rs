@@ -3,6 +3,7 @@
 use crate::context::Context;
 use crate::inputs::SPECIAL;
 use oracle::paper::models::ErrorBound::Lossless;
+use oracle::paper::refusal;
 use oracle::paper::swing::{self, Line, Swing};
 
 pub fn swing(context: &mut Context) {
@@ -39,17 +40,20 @@ fn step(context: &mut Context, state: Swing, time: i64, value: u32) -> Swing {
 
 fn of_state(context: &mut Context, state: Swing) {
     let m = 1 + context.inputs.below(65_535) as u32;
+    let paper = (state.model(), state.bytes_per_value(m));
+    let input = || format!("Swing model {:X?}, M {m}", state.row());
+    // "A state of length 0 asked for its model or cost": 11. There it is answered.
+    let refusal = (state.length == 0).then_some(refusal::NO_MODEL);
+    let refusals = (paper.0.err(), paper.1.err());
+    context.same("a length of 0", refusals, (refusal, refusal), input);
     for rust in context.rust.iter().filter(|_| state.length > 0) {
-        let paper = (state.model(), state.bytes_per_value(m));
         let theirs = (
             Ok((rust.swing_model)(state)),
             Ok((rust.swing_cost)(state, m)),
         );
         // Listed: which of two zeros is the minimum depends on the build there.
         let is_listed = !rust.is_filled() && state.first_value == 0.0;
-        context.same_or(is_listed, rust.name, paper, theirs, || {
-            format!("Swing model {:X?}, M {m}", state.row())
-        });
+        context.same_or(is_listed, rust.name, paper, theirs, input);
     }
 }
 
@@ -105,15 +109,26 @@ fn one_line(context: &mut Context, first_value: u32, last_value: u32) {
     } else {
         swing::sum_over(line, &times)
     };
-    if swing::grid(line, &times, &mut grid).is_err() {
+    let drawn = swing::grid(line, &times, &mut grid);
+    let input = || format!("{line:X?} over {times:?}");
+    let refusal = is_no_line(first_value, last_value).then_some(refusal::NO_MODEL);
+    let refusals = (drawn.err(), sum.err());
+    context.same("no line", refusals, (refusal, refusal), input);
+    if refusal.is_some() {
         return; // Listed: a line with an infinite end is drawn there.
     }
-    let input = || format!("{line:X?} over {times:?}");
     for rust in context.rust {
         context.same(rust.name, sum, Ok((rust.swing_sum)(line, &times)), input);
         let theirs = (rust.swing_grid)(line, &times);
         context.same(rust.name, &grid, &theirs, input);
     }
+}
+
+/// "A Swing grid or sum whose ends are not equal-or-NaN while at least one is not finite."
+pub fn is_no_line(first: u32, last: u32) -> bool {
+    let (first, last) = (f32::from_bits(first), f32::from_bits(last));
+    let is_equal_or_nan = first == last || (first.is_nan() && last.is_nan());
+    !is_equal_or_nan && (!first.is_finite() || !last.is_finite())
 }
 
 /// Whether the Rust takes the times for regular.

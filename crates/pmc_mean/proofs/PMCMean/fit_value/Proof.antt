@@ -41,13 +41,13 @@ returns : tie.Need-returns
 unfolding fitAnswer
 returns c =
     let s = c .before .before .before .before .args .self in
-    when-refused (fitCauses (c .before .before .before .before .args .self)) _ (c .before .before .before .judge-fit .ensures) (λ (n : ℕ). refusedOn n s) _ _ (c .before .r .given .1)
+    when-refused _ _ (c .before .before .before .judge-fit .ensures) (λ (n : ℕ). refusedOn n s) _ _ (c .before .r .given .1)
 
 returns-2 : tie.Need-returns-2
 unfolding fitAnswer
 returns-2 c =
     let s = c .before .before .before .before .before .args .self in
-    c .tried .ensures ∙ rw (c .before .value-of-f32 .ensures) (when-passed (fitCauses s) _ (c .before .before .before .before .judge-fit .ensures) (λ (n : ℕ). refusedOn n s) _ (c .before .before .enum-told .given .1))
+    c .tried .ensures ∙ rw (c .before .value-of-f32 .ensures) (when-passed _ _ (c .before .before .before .before .judge-fit .ensures) (λ (n : ℕ). refusedOn n s) _ (c .before .before .enum-told .given .1))
 
 pub fit-value-spec : {M : Type 1} → statement M
 fit-value-spec =

@@ -33,13 +33,13 @@ returns : tie.Need-returns
 unfolding modelAnswer
 returns c =
     let s = c .before .before .before .before .args .self in
-    when-refused (modelCauses (c .before .before .before .before .args .self)) _ (c .before .before .before .judge-model .ensures) (λ (n : ℕ). refusedOn n s) _ _ (c .before .r .given .1)
+    when-refused _ _ (c .before .before .before .judge-model .ensures) (λ (n : ℕ). refusedOn n s) _ _ (c .before .r .given .1)
 
 returns-2 : tie.Need-returns-2
 unfolding modelAnswer
 returns-2 c =
     let s = c .before .before .before .before .before .args .self in
-    rw (c .bits-of-f32 .ensures, c .before .average .ensures) (when-passed (modelCauses s) _ (c .before .before .before .before .judge-model .ensures) (λ (n : ℕ). refusedOn n s) _ (c .before .before .enum-told .given .1))
+    rw (c .bits-of-f32 .ensures, c .before .average .ensures) (when-passed _ _ (c .before .before .before .before .judge-model .ensures) (λ (n : ℕ). refusedOn n s) _ (c .before .before .enum-told .given .1))
 
 pub model-spec : {M : Type 1} → statement M
 model-spec =

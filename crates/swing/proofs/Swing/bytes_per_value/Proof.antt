@@ -41,13 +41,13 @@ returns : tie.Need-returns
 unfolding costAnswer
 returns c =
     let s = c .before .before .before .before .args .self in
-    when-refused (costCauses s (c .before .before .before .before .args .m)) _ (c .before .before .before .judge-cost .ensures) (λ (n : ℕ). refusedOn n s) _ _ (c .before .r .given .1)
+    when-refused _ _ (c .before .before .before .judge-cost .ensures) (λ (n : ℕ). refusedOn n s) _ _ (c .before .r .given .1)
 
 returns-2 : tie.Need-returns-2
 unfolding costAnswer
 returns-2 c =
     let s = c .before .before .before .before .args .self in
-    rw (c .cost .ensures) (when-passed (costCauses s (c .before .before .before .before .args .m)) _ (c .before .before .before .judge-cost .ensures) (λ (n : ℕ). refusedOn n s) _ (c .before .enum-told .given .1))
+    rw (c .cost .ensures) (when-passed _ _ (c .before .before .before .judge-cost .ensures) (λ (n : ℕ). refusedOn n s) _ (c .before .enum-told .given .1))
 
 pub bytes-per-value-spec : {M : Type 1} → statement M
 bytes-per-value-spec =

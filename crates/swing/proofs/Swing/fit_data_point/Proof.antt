@@ -8,7 +8,7 @@ use borrow.Author.Tests.{eqb-false, not-false}
 use Rattle.models.specs.Calls.{saysVerdict}
 use Rattle.models.specs.Answers.{refusedOn, verdict}
 use Rattle.models.proofs.Judged.{NoneHolds, none-holds, when-passed, when-refused}
-use Rattle.swing.specs.Line.{pointOf}
+use Rattle.lines.specs.Line.{pointOf}
 use Rattle.swing.specs.Calls.{fitCauses, fitAnswer}
 use Rattle.swing.proofs.Allowed.{length-below, follows-allowed}
 use Rattle.swing.proofs.Swing.fit_data_point.Statement.{statement}
@@ -47,13 +47,13 @@ returns : tie.Need-returns
 unfolding fitAnswer
 returns c =
     let s = c .before .before .before .before .before .args .self in
-    when-refused (fitCauses s (c .before .before .before .before .before .args .timestamp)) _ (says (c .before .before .before)) (λ (n : ℕ). refusedOn n s) _ _ (c .before .r .given .1)
+    when-refused _ _ (says (c .before .before .before)) (λ (n : ℕ). refusedOn n s) _ _ (c .before .r .given .1)
 
 returns-2 : tie.Need-returns-2
 unfolding fitAnswer
 returns-2 c =
     let s = c .before .before .before .before .before .args .self in
-    c .tried .ensures ∙ rw (point (c .before .before .before .before)) (when-passed (fitCauses s (c .before .before .before .before .before .args .timestamp)) _ (says (c .before .before .before)) (λ (n : ℕ). refusedOn n s) _ (c .before .enum-told .given .1))
+    c .tried .ensures ∙ rw (point (c .before .before .before .before)) (when-passed _ _ (says (c .before .before .before)) (λ (n : ℕ). refusedOn n s) _ (c .before .enum-told .given .1))
 
 pub fit-data-point-spec : {M : Type 1} → statement M
 fit-data-point-spec =

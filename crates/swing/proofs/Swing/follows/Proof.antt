@@ -1,6 +1,6 @@
 -- `Swing::follows` meets its contract. Assumes nothing.
 use borrow.Author.Needs.{needs}
-use Rattle.swing.specs.Times.{timeAllowed}
+use Rattle.lines.specs.Times.{timeAllowed}
 use Rattle.swing.specs.State.{timeFollows}
 use Rattle.swing.proofs.Swing.follows.Statement.{statement}
 use Rattle.swing.proofs.Swing.follows.Tie as tie

@@ -3,7 +3,7 @@ use mir.Syntax.{w64}
 use mir.ValLaws.{toZ-ofZ}
 use borrow.Author.Needs.{needs}
 use Rattle.swing.specs.Model.{lastValue}
-use Rattle.swing.proofs.Exact.{time-fits}
+use Rattle.lines.proofs.Exact.{time-fits}
 use Rattle.swing.proofs.Swing.last_value.Statement.{statement}
 use Rattle.swing.proofs.Swing.last_value.Tie as tie
 

@@ -1,6 +1,6 @@
 -- `Swing::usable` meets its contract. Assumes nothing.
 use borrow.Author.Needs.{needs}
-use Rattle.swing.specs.Times.{timeAllowed}
+use Rattle.lines.specs.Times.{timeAllowed}
 use Rattle.swing.specs.State.{timesAllowed, usable}
 use Rattle.swing.proofs.Swing.usable.Statement.{statement}
 use Rattle.swing.proofs.Swing.usable.Tie as tie
