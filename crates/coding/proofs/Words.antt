@@ -1,5 +1,5 @@
 -- The bits ahead of a place in one word: its fields, that it holds the stream's bits, and that a value is read of its first 45 bits. Assumes nothing.
-use mathlib.Core.Path.{_≡_, refl, sym, ap, ap₂, _∙_, subst}
+use mathlib.Core.Path.{_≡_, refl, sym, ap, ap₂, _∙_}
 use mathlib.Core.Logic.{_⊎_, inl, inr, ⊎-elim}
 use mathlib.Core.Bool.{Bool, true, false}
 use mathlib.Core.List.{List, [], _∷_, _++_}
@@ -17,7 +17,7 @@ use Rattle.bits.proofs.Bytes.{length-bitsOf}
 use Rattle.bits.proofs.Fields.{length-field, field-split, field-value, fieldAt-lt, fieldAt-field}
 use Rattle.bits.proofs.Words.{shl-shr-word}
 use Rattle.stream.specs.Format.{macaque, Window, span}
-use Rattle.stream.specs.Read.{Step, got, windowRead, readRaw, readOne}
+use Rattle.stream.specs.Read.{got, windowRead, readRaw, readOne}
 use Rattle.stream.proofs.OneValue.{enough}
 use Rattle.stream.proofs.Branches as branch
 use Rattle.coding.specs.Ahead.{bitsIn, IsAhead}

@@ -4,7 +4,7 @@ ghost use mathlib.Core.Bool.{true, false};
 ghost use Prim.Native.Nat.{_+_, _*_, _/_, _<_, _≤_};
 ghost use lib.ListN.{length};
 ghost use Rattle.bits.specs.Bits.{field, fieldAt};
-ghost use Rattle.stream.specs.Format.{macaque, Window};
+ghost use Rattle.stream.specs.Format.{macaque};
 ghost use Rattle.stream.specs.Read.{readOne};
 ghost use Rattle.coding.specs.Code.{windowIn};
 ghost use Rattle.coding.specs.Ahead.{Held, bitsIn, IsPart, IsAhead, saysStep};

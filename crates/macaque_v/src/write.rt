@@ -16,10 +16,10 @@ ghost use Rattle.macaque_v.specs.Calls.{newAnswer, lentBytes, tooMany, w
 use crate::MacaqueV;
 use crate::Opening;
 use crate::WriteAnswer;
-use coding::code;
-use coding::keep;
 use crate::read;
 use crate::read::OpenAnswer;
+use coding::code;
+use coding::keep;
 use models::ErrorBound;
 use models::Refusal;
 use models::Verdict;

@@ -1,17 +1,16 @@
 -- `macaque_v::read::draw_few` meets its contract. Assumes nothing.
 use borrow.Author.Needs.{needs}
-use mathlib.Core.Path.{_≡_, sym, ap, ap₂, _∙_, subst, subst₂}
+use mathlib.Core.Path.{sym, ap, _∙_, subst, subst₂}
 use mathlib.Core.Bool.{Bool}
-use mathlib.Core.List.{List, _++_}
+use mathlib.Core.List.{_++_}
 use Prim.Native.Nat.{ℕ}
 use native.Mathlib.Omega.{arith}
-use lib.ListN.{length, take, drop, replicate}
+use lib.ListN.{take, drop, replicate}
 use Rattle.macaque_v.specs.State.{isFirst}
 use Rattle.macaque_v.specs.ReadRun.{Reads, FillSays}
-use Rattle.macaque_v.specs.Read.{valuesIn, startOf, drawn, drawnIn}
+use Rattle.macaque_v.specs.Read.{startOf, drawn, drawnIn}
 use Rattle.models.specs.declared.Refusal.the-variants.{Leftover}
 use Rattle.macaque_v.specs.declared.read_run.Cursor.{Cursor}
-use Rattle.macaque_v.specs.declared.read_run.Run.{Run}
 use Rattle.macaque_v.proofs.ReadingEnd.{ends-wrong, ends-early}
 use Rattle.macaque_v.proofs.ReadingAll.{starts, values-right, values-wrong}
 use Rattle.macaque_v.proofs.read.draw_few.Statement.{statement}

@@ -1,17 +1,12 @@
 -- `macaque_v::read::draw_many` meets its contract. Assumes nothing.
 use borrow.Author.Needs.{needs}
-use mathlib.Core.Path.{_≡_, sym, ap, ap₂, _∙_, subst, subst₂}
+use mathlib.Core.Path.{sym, ap, _∙_, subst, subst₂}
 use mathlib.Core.Bool.{Bool}
-use mathlib.Core.List.{List, _++_}
-use Prim.Native.Nat.{ℕ}
 use native.Mathlib.Omega.{arith}
-use lib.ListN.{length, drop}
 use Rattle.macaque_v.specs.State.{isFirst}
 use Rattle.macaque_v.specs.ReadRun.{FillSays, WholeSays}
-use Rattle.macaque_v.specs.Read.{valuesIn, startOf, drawn, drawnIn}
+use Rattle.macaque_v.specs.Read.{startOf, drawn, drawnIn}
 use Rattle.macaque_v.specs.declared.read_run.Cursor.{Cursor}
-use Rattle.macaque_v.specs.declared.read_run.Run.{Run}
-use Rattle.macaque_v.specs.declared.read_run.Walk.{Walk}
 use Rattle.macaque_v.specs.declared.read_run.Aim.the-variants as OfAim
 use Rattle.macaque_v.proofs.ReadingAll.{starts, values-right, values-wrong, filled-again}
 use Rattle.macaque_v.proofs.read.draw_many.Statement.{statement}

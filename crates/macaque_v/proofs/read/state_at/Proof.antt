@@ -1,15 +1,14 @@
 -- `macaque_v::read::state_at` meets its contract. Assumes nothing.
 use borrow.Author.Needs.{needs}
-use mathlib.Core.Path.{_≡_, sym, ap, _∙_, subst, subst₂}
+use mathlib.Core.Path.{sym, ap, _∙_, subst, subst₂}
 use mathlib.Core.Bool.{Bool}
-use Prim.Native.Nat.{ℕ, _-_, _^_, _<_}
+use Prim.Native.Nat.{_-_, _^_, _<_}
 use native.Mathlib.Omega.{arith}
 use Rattle.stream.specs.Read.{reopened}
 use Rattle.macaque_v.specs.State.{Ends, isFirst}
 use Rattle.macaque_v.specs.ReadRun.{endsIn, Walked, WalkSays, WholeSays}
 use Rattle.macaque_v.specs.Read.{startOf, stateWith}
 use Rattle.macaque_v.specs.declared.read_run.Cursor.{Cursor}
-use Rattle.macaque_v.specs.declared.read_run.Walk.{Walk}
 use Rattle.macaque_v.specs.declared.read_run.Aim.the-variants as OfAim
 use Rattle.macaque_v.specs.declared.read_run.Tally.{Tally}
 use Rattle.macaque_v.proofs.ReadingAll.{starts, start-stands, early-unopened, late-unopened, right-reopened}

@@ -2,19 +2,15 @@
 use borrow.Author.Needs.{needs}
 use mathlib.Core.Path.{_≡_, sym, ap, _∙_, subst, subst₂}
 use mathlib.Core.Bool.{Bool}
-use Prim.Native.Nat.{ℕ}
 use native.Mathlib.Omega.{arith}
 use borrow.Author.Tests.{lt-ltb, le-ltb}
 use lib.Ieee.{binary32, toBits}
-use lib.ListN.{length}
-use Rattle.models.specs.Answers.{Said, answered, refused, judge}
-use Rattle.models.specs.Refusals.{number}
+use Rattle.models.specs.Answers.{answered, judge}
 use Rattle.models.specs.Limits.{mostValues}
 use Rattle.macaque_v.specs.State.{isFirst}
-use Rattle.macaque_v.specs.ReadRun.{Walked, WholeSays}
+use Rattle.macaque_v.specs.ReadRun.{WholeSays}
 use Rattle.macaque_v.specs.Read.{valuesIn, startOf, summed, sumAnswer}
 use Rattle.macaque_v.specs.declared.read_run.Cursor.{Cursor}
-use Rattle.macaque_v.specs.declared.read_run.Walk.{Walk}
 use Rattle.macaque_v.specs.declared.read_run.Aim.the-variants as OfAim
 use Rattle.macaque_v.specs.declared.read_run.Tally.{Tally}
 use Rattle.macaque_v.proofs.ReadingAll.{starts, values-right, values-wrong}

@@ -3,7 +3,6 @@ use borrow.Author.Needs.{needs}
 use mathlib.Core.Path.{sym, _∙_, subst}
 use native.Mathlib.Omega.{arith}
 use Rattle.macaque_v.specs.ReadRun.{Walked, WalkSays}
-use Rattle.macaque_v.specs.declared.read_run.Walk.{Walk}
 use Rattle.macaque_v.proofs.ReadingEnd.{ends-wrong, ends-early}
 use Rattle.macaque_v.proofs.read_run.go_to_end.Statement.{statement}
 use Rattle.macaque_v.proofs.read_run.go_to_end.Tie as tie

@@ -3,7 +3,7 @@ use borrow.Author.Needs.{needs}
 use mathlib.Core.Path.{_≡_, refl, sym, ap, ap₂, _∙_}
 use Prim.Native.Nat.{ℕ, _-_, _≤_}
 use native.Mathlib.Omega.{arith}
-use lib.ListN.{length, take, getD}
+use lib.ListN.{take, getD}
 use Rattle.stream.specs.Format.{Mode, gatherFrom}
 use Rattle.macaque_v.specs.State.{Ends, taken, gatherEnds}
 use Rattle.macaque_v.specs.ReadRun.{endsIn, withEnds}
