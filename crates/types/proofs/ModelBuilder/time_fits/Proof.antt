@@ -1,0 +1,17 @@
+use borrow.Author.Needs.{needs}
+use Rattle.types.proofs.ModelBuilder.time_fits.Statement.{statement}
+use Rattle.types.proofs.ModelBuilder.time_fits.Tie as tie
+use Rattle.types.proofs.ModelBuilder.time_fits.Reads as reads
+use Rattle.types.proofs.ModelBuilder.time_fits.Lts as lts
+use Rattle.swing.proofs.Swing.follows.Reads as follows-reads
+
+-- src/lib.rt:157:43
+follows-requires : tie.Need-follows-requires
+follows-requires c κs = search needs
+
+-- src/lib.rt:152:5
+returns : tie.Need-returns
+returns c = ?
+
+pub time-fits-spec : {M : Type 1} → statement M
+time-fits-spec = tie.close (tie.spec follows-requires returns)
