@@ -153,8 +153,7 @@ impl ModelBuilder {
         ensures { λ r. ⌜ r ≡ timeFits self (p .time) ⌝ }
     {
         let s = self.swing;
-        let ok = (times::LEAST <= p.time) & (p.time <= times::MOST);
-        ok & (!self.swing_could_fit_all | s.follows(p))
+        in_limits(p) & (!self.swing_could_fit_all | s.follows(p))
     }
 
     // ---- the step
@@ -221,4 +220,11 @@ impl ModelBuilder {
             swing_could_fit_all: fits,
         }
     }
+}
+
+// Whether the point's time keeps the limits.
+fn in_limits(p: Point) -> bool
+    ensures { λ r. ⌜ r ≡ timeAllowed (p .time) ⌝ }
+{
+    (times::LEAST <= p.time) & (p.time <= times::MOST)
 }

@@ -1,3 +1,5 @@
+-- `ModelBuilder::judge_finish` meets its contract: the tests are those of the list of causes. Assumes nothing.
+use Rattle.models.specs.Answers.{judge}
 use borrow.Author.Needs.{needs}
 use Rattle.types.proofs.ModelBuilder.judge_finish.Statement.{statement}
 use Rattle.types.proofs.ModelBuilder.judge_finish.Tie as tie
@@ -9,45 +11,36 @@ use Rattle.models.proofs.when.Reads as when-reads
 use Rattle.pmc_mean.proofs.PMCMean.usable.Reads as PMCMean-usable-reads
 use Rattle.swing.proofs.Swing.usable.Reads as Swing-usable-reads
 
--- src/choice.rt:45:13
 when-requires : tie.Need-when-requires
 when-requires c κs = search needs
 
--- src/choice.rt:46:54
 metadata-allowed-requires : tie.Need-metadata-allowed-requires
 metadata-allowed-requires c κs = search needs
 
--- src/choice.rt:46:13
 when-requires-2 : tie.Need-when-requires-2
 when-requires-2 c κs = search needs
 
--- src/choice.rt:47:22
 usable-requires : tie.Need-usable-requires
 usable-requires c κs = search needs
 
--- src/choice.rt:47:35
 usable-requires-2 : tie.Need-usable-requires-2
 usable-requires-2 c κs = search needs
 
--- src/choice.rt:48:13
 when-requires-3 : tie.Need-when-requires-3
 when-requires-3 c κs = search needs
 
--- src/choice.rt:49:23
 bound-allowed-requires : tie.Need-bound-allowed-requires
 bound-allowed-requires c κs = search needs
 
--- src/choice.rt:49:50
 bound-allowed-requires-2 : tie.Need-bound-allowed-requires-2
 bound-allowed-requires-2 c κs = search needs
 
--- src/choice.rt:50:9
 when-requires-4 : tie.Need-when-requires-4
 when-requires-4 c κs = search needs
 
--- src/choice.rt:37:5
 returns : tie.Need-returns
-returns c = ?
+unfolding judge
+returns c = rw (c .when4 .ensures, c .before .bound-allowed2 .ensures, c .before .before .bound-allowed .ensures, c .before .before .before .when3 .ensures, c .before .before .before .before .usable2 .ensures, c .before .before .before .before .before .usable .ensures, c .before .before .before .before .before .before .when2 .ensures, c .before .before .before .before .before .before .before .metadata-allowed .ensures, c .before .before .before .before .before .before .before .before .when .ensures)
 
 pub judge-finish-spec : {M : Type 1} → statement M
 judge-finish-spec =

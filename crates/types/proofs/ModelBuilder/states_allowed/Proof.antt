@@ -1,3 +1,5 @@
+-- `ModelBuilder::states_allowed` meets its contract. Assumes nothing.
+use Rattle.types.specs.Builder.{statesAllowed}
 use borrow.Author.Needs.{needs}
 use Rattle.types.proofs.ModelBuilder.states_allowed.Statement.{statement}
 use Rattle.types.proofs.ModelBuilder.states_allowed.Tie as tie
@@ -6,17 +8,15 @@ use Rattle.types.proofs.ModelBuilder.states_allowed.Lts as lts
 use Rattle.pmc_mean.proofs.PMCMean.usable.Reads as PMCMean-usable-reads
 use Rattle.swing.proofs.Swing.usable.Reads as Swing-usable-reads
 
--- src/lib.rt:139:52
 usable-requires : tie.Need-usable-requires
 usable-requires c κs = search needs
 
--- src/lib.rt:140:46
 usable-requires-2 : tie.Need-usable-requires-2
 usable-requires-2 c κs = search needs
 
--- src/lib.rt:134:5
 returns : tie.Need-returns
-returns c = ?
+unfolding statesAllowed
+returns c = rw (c .usable2 .ensures, c .before .before .usable .ensures)
 
 pub states-allowed-spec : {M : Type 1} → statement M
 states-allowed-spec = tie.close (tie.spec usable-requires usable-requires-2 returns)

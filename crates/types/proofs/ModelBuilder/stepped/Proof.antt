@@ -1,3 +1,16 @@
+-- `ModelBuilder::stepped` meets its contract. The points from i on are left to step over. Assumes nothing.
+use mathlib.Core.Path.{_≡_, refl, sym, ap, _∙_}
+use Prim.Native.Nat.{ℕ, _+_, _≤_, _-_}
+use native.Mathlib.Omega.{arith}
+use mir.Syntax.{w64}
+use mir.ValLaws.{toZ-ofZ}
+use borrow.Author.Needs.{needs}
+use borrow.Author.Tests.{not-true}
+use lib.IntN.{pos}
+use lib.ListN.{length, drop, getD}
+use denote.Ref.{now}
+use Rattle.types.specs.Run.{run, points}
+use Rattle.types.proofs.Runs.{run-failed, points-here, points-done}
 use Rattle.types.proofs.ModelBuilder.stepped.Statement.{statement}
 use Rattle.types.proofs.ModelBuilder.stepped.Tie as tie
 use Rattle.types.proofs.ModelBuilder.stepped.Reads as reads
@@ -6,58 +19,60 @@ use Rattle.types.proofs.ModelBuilder.could_fit.Reads as could-fit-reads
 use Rattle.types.proofs.ModelBuilder.next.Reads as next-reads
 
 abbrev Inv-loop : tie.InvT-loop
-Inv-loop timestamps values b₀ i₀ b i = ?
+Inv-loop timestamps values b₀ i₀ b i =
+    (i ≤ length values) × (length timestamps ≡ length values) × (run b₀ (points timestamps values) ≡ run b (points (drop i timestamps) (drop i values)))
 
 abbrev μ-loop : tie.MeasureT-loop
-μ-loop timestamps values b₀ i₀ b i = ?
+μ-loop timestamps values b₀ i₀ b i = length values - i
 
--- src/choice.rt:81:9
 loop-holds : tie.Need-loop-holds Inv-loop μ-loop
-loop-holds c = ?
+loop-holds c = (search needs, c .before .pre, refl)
 
--- src/choice.rt:82:17
 could-fit-requires : tie.Need-could-fit-requires Inv-loop μ-loop
-could-fit-requires c κs = ?
+could-fit-requires c κs = search needs
 
--- src/choice.rt:83:17
 returns : tie.Need-returns Inv-loop μ-loop
-returns c = ?
+returns c =
+    let l = c .before .before .before .loop in
+    sym (l .inv .2 ∙ run-failed (l .b) _ (sym (c .before .could-fit .ensures) ∙ not-true (c .before .could-fit .result) (c .if1 .taken)))
 
--- src/choice.rt:85:24
 mul-next : tie.Need-mul-next Inv-loop μ-loop
-mul-next c = ?
+mul-next c = search needs
 
--- src/choice.rt:85:24
 shared-slice-copy-out-next : tie.Need-shared-slice-copy-out-next Inv-loop μ-loop
-shared-slice-copy-out-next c = ?
+shared-slice-copy-out-next c = search needs
 
--- src/choice.rt:85:39
 mul-next-2 : tie.Need-mul-next-2 Inv-loop μ-loop
-mul-next-2 c = ?
+mul-next-2 c = search needs
 
--- src/choice.rt:85:39
 shared-slice-read-next : tie.Need-shared-slice-read-next Inv-loop μ-loop
-shared-slice-read-next c = ?
+shared-slice-read-next c = search needs
 
--- src/choice.rt:85:13
 next-requires : tie.Need-next-requires Inv-loop μ-loop
-next-requires c κs = ?
+next-requires c κs = search needs
 
--- src/choice.rt:86:13
 add-i : tie.Need-add-i Inv-loop μ-loop
-add-i c = ?
+add-i c = search needs
 
--- src/choice.rt:81:9
 loop-less : tie.Need-loop-less Inv-loop μ-loop
-loop-less c = ?
+loop-less c = search needs
 
--- src/choice.rt:81:9
 loop-again : tie.Need-loop-again Inv-loop μ-loop
-loop-again c = ?
+loop-again c =
+    let ts = now (c .before .before .before .before .before .before .before .before .args .timestamps) in
+    let vs = now (c .before .before .before .before .before .before .before .before .args .values) in
+    let l = c .before .before .before .before .before .before .loop in
+    let h = c .before .before .before .before .before .loop-test .taken in
+    let zt = toZ-ofZ w64 (getD ts (l .i) (pos 0)) (search needs) in
+    let n = rw zt at (c .next .ensures) in
+    (search needs, l .inv .1, l .inv .2 ∙ ap (run (l .b)) (points-here ts vs (l .i) (omega arith) h) ∙ ap (λ b. run b (points (drop (l .i + 1) ts) (drop (l .i + 1) vs))) (sym n))
 
--- src/choice.rt:75:5
 returns-2 : tie.Need-returns-2 Inv-loop μ-loop
-returns-2 c = ?
+returns-2 c =
+    let l = c .before .loop in
+    let ts = now (c .before .before .before .args .timestamps) in
+    let vs = now (c .before .before .before .args .values) in
+    sym (l .inv .2 ∙ ap (run (l .b)) (points-done ts vs (l .i) (omega arith)))
 
 pub stepped-spec : {M : Type 1} → statement M
 stepped-spec =

@@ -1,3 +1,5 @@
+-- `choice::judge_choice` meets its contract: the tests are those of the list of causes. Assumes nothing.
+use Rattle.models.specs.Answers.{judge}
 use borrow.Author.Needs.{needs}
 use Rattle.types.proofs.choice.judge_choice.Statement.{statement}
 use Rattle.types.proofs.choice.judge_choice.Tie as tie
@@ -8,41 +10,33 @@ use Rattle.models.proofs.bound_allowed.Reads as bound-allowed-reads
 use Rattle.models.proofs.metadata_allowed.Reads as metadata-allowed-reads
 use Rattle.models.proofs.when.Reads as when-reads
 
--- src/choice.rt:186:9
 in-order-requires : tie.Need-in-order-requires
 in-order-requires c κs = search needs
 
--- src/choice.rt:187:9
 when-requires : tie.Need-when-requires
 when-requires c κs = search needs
 
--- src/choice.rt:188:9
 when-requires-2 : tie.Need-when-requires-2
 when-requires-2 c κs = search needs
 
--- src/choice.rt:189:9
 when-requires-3 : tie.Need-when-requires-3
 when-requires-3 c κs = search needs
 
--- src/choice.rt:190:31
 metadata-allowed-requires : tie.Need-metadata-allowed-requires
 metadata-allowed-requires c κs = search needs
 
--- src/choice.rt:191:9
 when-requires-4 : tie.Need-when-requires-4
 when-requires-4 c κs = search needs
 
--- src/choice.rt:192:45
 bound-allowed-requires : tie.Need-bound-allowed-requires
 bound-allowed-requires c κs = search needs
 
--- src/choice.rt:192:5
 when-requires-5 : tie.Need-when-requires-5
 when-requires-5 c κs = search needs
 
--- src/choice.rt:177:1
 returns : tie.Need-returns
-returns c = ?
+unfolding judge
+returns c = rw (c .when5 .ensures, c .before .bound-allowed .ensures, c .before .before .when4 .ensures, c .before .before .before .metadata-allowed .ensures, c .before .before .before .before .when3 .ensures, c .before .before .before .before .before .when2 .ensures, c .before .before .before .before .before .before .when .ensures, c .before .before .before .before .before .before .before .in-order .ensures)
 
 pub judge-choice-spec : {M : Type 1} → statement M
 judge-choice-spec =
