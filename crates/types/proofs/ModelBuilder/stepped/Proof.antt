@@ -34,7 +34,9 @@ could-fit-requires c κs = search needs
 returns : tie.Need-returns Inv-loop μ-loop
 returns c =
     let l = c .before .before .before .loop in
-    sym (l .inv .2 ∙ run-failed (l .b) _ (sym (c .before .could-fit .ensures) ∙ not-true (c .before .could-fit .result) (c .if1 .taken)))
+    let ts = now (c .before .before .before .before .before .args .timestamps) in
+    let vs = now (c .before .before .before .before .before .args .values) in
+    sym (l .inv .2 ∙ run-failed (l .b) (points (drop (l .i) ts) (drop (l .i) vs)) (sym (c .before .could-fit .ensures) ∙ not-true (c .before .could-fit .result) (c .if1 .taken)))
 
 mul-next : tie.Need-mul-next Inv-loop μ-loop
 mul-next c = search needs
