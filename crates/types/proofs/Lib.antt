@@ -2,3 +2,4 @@
 pub mod Said
 pub mod Rooms
 pub mod Runs
+pub mod Parts

@@ -17,11 +17,11 @@ use Rattle.swing.specs.declared.Swing.{Swing}
 use Rattle.types.specs.Builder.{_unless-failed_, statesAllowed, roomLeft, pmcStep, swingStep, withPmc, withSwing, updatePmc, updateSwing}
 use Rattle.types.specs.declared.ModelBuilder.{ModelBuilder}
 
-live-judges : (ok live : Bool) → (ok unless-failed live) ≡ true → live ≡ true → ok ≡ true
+pub live-judges : (ok live : Bool) → (ok unless-failed live) ≡ true → live ≡ true → ok ≡ true
 live-judges ok true h l = h
 live-judges ok false h l = absurd (false≢true l)
 
-not-is : (t : Bool) → not t ≡ true → t ≡ false
+pub not-is : (t : Bool) → not t ≡ true → t ≡ false
 not-is true h = sym h
 not-is false h = refl
 
