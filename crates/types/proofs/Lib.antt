@@ -3,3 +3,4 @@ pub mod Said
 pub mod Rooms
 pub mod Runs
 pub mod Parts
+pub mod Chosen
