@@ -1,0 +1,6 @@
+-- What the proofs of this crate and of those over it share.
+pub mod Said
+pub mod Rooms
+pub mod Runs
+pub mod Parts
+pub mod Chosen

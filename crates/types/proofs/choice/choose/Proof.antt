@@ -1,0 +1,26 @@
+-- `choice::choose` meets its contract. Assumes nothing.
+use Rattle.types.specs.Choice.{chosen}
+use borrow.Author.Needs.{needs}
+use Rattle.types.proofs.choice.choose.Statement.{statement}
+use Rattle.types.proofs.choice.choose.Tie as tie
+use Rattle.types.proofs.choice.choose.Reads as reads
+use Rattle.types.proofs.choice.choose.Lts as lts
+use Rattle.types.proofs.choice.end_lost.Reads as end-lost-reads
+use Rattle.types.proofs.choice.swing_wins.Reads as swing-wins-reads
+
+swing-wins-requires : tie.Need-swing-wins-requires
+swing-wins-requires c κs = search needs
+
+end-lost-requires : tie.Need-end-lost-requires
+end-lost-requires c κs = search needs
+
+returns : tie.Need-returns
+unfolding chosen
+returns c = rw (← c .before .before .swing-wins .ensures, ← c .before .end-lost .ensures, c .if1 .taken)
+
+returns-2 : tie.Need-returns-2
+unfolding chosen
+returns-2 c = rw (← c .before .before .swing-wins .ensures, ← c .before .end-lost .ensures, c .if1 .left)
+
+pub choose-spec : {M : Type 1} → statement M
+choose-spec = tie.close (tie.spec swing-wins-requires end-lost-requires returns returns-2)

@@ -1,0 +1,87 @@
+-- `choice::choose_model` meets its contract: refused by the first cause that holds, else the steps and the choice. Assumes nothing.
+use mathlib.Core.Path.{_≡_, refl, sym, ap, _∙_}
+use borrow.Author.Tests.{eqb-true, not-false}
+use lib.ListN.{length}
+use denote.Ref.{now}
+use Rattle.models.specs.Answers.{refused, answered}
+use Rattle.models.proofs.Judged.{NoneHolds, none-holds, accepted, when-passed, when-refused}
+use Rattle.types.specs.Builder.{fresh}
+use Rattle.types.specs.Calls.{saysNew, newAnswer, finishAnswer}
+use Rattle.types.specs.Run.{run, points, stateless, choiceCauses, choiceAnswer}
+use Rattle.types.proofs.Said.{apart, same-answer}
+use borrow.Author.Needs.{needs}
+use Rattle.types.proofs.choice.choose_model.Statement.{statement}
+use Rattle.types.proofs.choice.choose_model.Tie as tie
+use Rattle.types.proofs.choice.choose_model.Reads as reads
+use Rattle.types.proofs.choice.choose_model.Lts as lts
+use Rattle.types.proofs.ModelBuilder.new.Reads as new-reads
+use Rattle.types.proofs.ModelBuilder.stepped.Reads as stepped-reads
+use Rattle.types.proofs.choice.finished.Reads as finished-reads
+use Rattle.types.proofs.choice.judge_choice.Reads as judge-choice-reads
+
+-- past the verdict no cause holds, and the builder is fresh
+clear : (c : tie.After-enum-told) → NoneHolds (choiceCauses (now (c .before .before .before .before .args .timestamps)) (now (c .before .before .before .before .args .values)) (c .before .before .before .before .args .error-bound) (c .before .before .before .before .args .m))
+clear c = none-holds _ _ (c .before .before .judge-choice .ensures) (c .enum-told .given .1)
+
+made : (c : tie.After-new) → saysNew (c .new .result) ≡ answered (fresh (c .before .before .before .before .before .args .error-bound))
+unfolding newAnswer
+made c = c .new .ensures ∙ sym (accepted refused _ _ (clear (c .before) .0, tt))
+
+judge-choice-requires : tie.Need-judge-choice-requires
+judge-choice-requires c κs = search needs
+
+enum-known-r : tie.Need-enum-known-r
+enum-known-r c = search needs
+
+enum-told : tie.Need-enum-told
+enum-told c = search needs
+
+new-requires : tie.Need-new-requires
+new-requires c κs = search needs
+
+enum-known-r-2 : tie.Need-enum-known-r-2
+enum-known-r-2 c = search needs
+
+enum-known-b : tie.Need-enum-known-b
+enum-known-b c = search needs
+
+stepped-requires : tie.Need-stepped-requires
+stepped-requires c κs =
+    let ts = now (c .before .before .before .before .before .before .before .before .args .timestamps) in
+    let vs = now (c .before .before .before .before .before .before .before .before .args .values) in
+    eqb-true (length ts) (length vs) (not-false _ (clear (c .before .before .before .before) .1 .1 .0))
+
+finished-requires : tie.Need-finished-requires
+finished-requires c κs = search needs
+
+returns : tie.Need-returns
+unfolding choiceAnswer
+returns c = when-refused _ _ (c .before .before .before .judge-choice .ensures) refused _ _ (c .before .r .given .1)
+
+returns-2 : tie.Need-returns-2
+returns-2 c = absurd (apart _ _ (sym (ap saysNew (c .before .r2 .given .1)) ∙ made (c .before .before .before)))
+
+returns-3 : tie.Need-returns-3
+unfolding choiceAnswer
+returns-3 c =
+    let a = c .before .before .before .before .before .before .before .before .before .before .args in
+    let b = same-answer _ _ (sym (ap saysNew (c .before .before .before .b .given .1)) ∙ made (c .before .before .before .before .before)) in
+    c .finished .ensures
+    ∙ ap (λ s. stateless (finishAnswer s (a .m))) (c .before .stepped .ensures ∙ ap (λ s. run s (points (now (a .timestamps)) (now (a .values)))) b)
+    ∙ when-passed _ _ (c .before .before .before .before .before .before .before .before .judge-choice .ensures) refused _ (c .before .before .before .before .before .before .enum-told .given .1)
+
+pub choose-model-spec : {M : Type 1} → statement M
+choose-model-spec =
+    tie.close
+    (tie.spec
+    judge-choice-requires
+    enum-known-r
+    enum-told
+    new-requires
+    enum-known-r-2
+    enum-known-b
+    stepped-requires
+    finished-requires
+    returns
+    returns-2
+    returns-3)

@@ -1,0 +1,48 @@
+-- The choice between the two models: 01, "Choice".
+use mathlib.Core.Bool.{Bool, cond, not, _&&_}
+use Prim.Native.Nat.{ℕ, _+_}
+use lib.Ieee as Ieee
+use lib.Ieee.{binary32, ofBits, toBits}
+use Rattle.models.specs.Floats.{isFinite}
+use Rattle.models.specs.Limits.{cost}
+use Rattle.pmc_mean.specs.State.{average}
+use Rattle.pmc_mean.specs.declared.PMCMean.{PMCMean}
+use Rattle.swing.specs.Model.{endsOf}
+use Rattle.swing.specs.declared.Swing.{Swing}
+use Rattle.types.specs.declared.ModelBuilder.{ModelBuilder}
+use Rattle.types.specs.declared.SelectedModel.{SelectedModel}
+
+-- "a segment's model is 0 for PMC or 1 for Swing", its parameters are patterns
+unfoldable pub pmcModel : PMCMean → ℕ → SelectedModel
+pmcModel s m =
+    record {
+      «model_type_id» = 0;
+      length = s .length;
+      «first_value» = toBits binary32 (average s);
+      «last_value» = toBits binary32 (average s);
+      «bytes_per_value» = cost m (s .length);
+    }
+
+unfoldable pub swingModel : Swing → ℕ → SelectedModel
+swingModel s m =
+    record {
+      «model_type_id» = 1;
+      length = s .length;
+      «first_value» = endsOf s .first;
+      «last_value» = endsOf s .last;
+      «bytes_per_value» = cost (m + 1) (s .length);
+    }
+
+-- "the smaller wins and PMC wins a tie"
+unfoldable pub swingWins : SelectedModel → SelectedModel → Bool
+swingWins pmc swing = Ieee.lt (swing .«bytes_per_value») (pmc .«bytes_per_value»)
+
+-- "a finite first and a non-finite last value (both as f32)"
+unfoldable pub endLost : SelectedModel → Bool
+endLost swing = isFinite (ofBits binary32 (swing .«first_value»)) && not (isFinite (ofBits binary32 (swing .«last_value»)))
+
+unfoldable pub chosen : SelectedModel → SelectedModel → SelectedModel
+chosen pmc swing = cond (swingWins pmc swing && not (endLost swing)) swing pmc
+
+unfoldable pub choiceOf : ModelBuilder → ℕ → SelectedModel
+choiceOf b m = chosen (pmcModel (b .«pmc_mean») m) (swingModel (b .swing) m)

@@ -1,0 +1,4 @@
+pub mod Builder
+pub mod Choice
+pub mod Calls
+pub mod Run

@@ -1,0 +1,64 @@
+-- A list of points tried one after the other, and choose_model: the steps over all of them, then the choice.
+use mathlib.Core.Path.{_≡_, refl, ap}
+use mathlib.Core.Bool.{not, _||_}
+use mathlib.Core.List.{List, [], _∷_, foldl}
+use Prim.Native.Nat.{ℕ}
+use lib.Dec.{eqb, ltb}
+use lib.IntN.{ℤ}
+use lib.ListN.{length}
+use Rattle.models.specs.Answers.{Said, answered, refused, SaidOn, answeredOn, refusedOn, stateAfter, Cause, _when_, judge, Injective, told-apart}
+use Rattle.models.specs.Refusals.{number, numbered-number, unsaid}
+use Rattle.models.specs.Bound.{boundAllowed}
+use Rattle.models.specs.Limits.{mostValues, metadataAllowed}
+use Rattle.models.specs.declared.ErrorBound.{ErrorBound}
+use Rattle.lines.specs.Times.{inOrder}
+use Rattle.swing.specs.Run.{Given}
+use Rattle.types.specs.Builder.{fresh}
+use Rattle.types.specs.Calls.{updateAnswer, finishAnswer}
+use Rattle.types.specs.declared.ModelBuilder.{ModelBuilder}
+use Rattle.types.specs.declared.SelectedModel.{SelectedModel}
+use Rattle.types.specs.declared.ChoiceAnswer.{ChoiceAnswer}
+use Rattle.types.specs.declared.ChoiceAnswer.the-variants as OfChoice
+
+-- ---- the builder that try_to_update_models hands back
+abbrev pub next : ModelBuilder → Given → ModelBuilder
+next b g = stateAfter (updateAnswer b (g .time) (g .bits))
+
+abbrev pub run : ModelBuilder → List Given → ModelBuilder
+run b given = foldl next b given
+
+-- timestamps and values side by side
+unfoldable pub points : List ℤ → List ℕ → List Given
+points [] values = []
+points (t ∷ ts) [] = []
+points (t ∷ ts) (v ∷ values) = record { time = t; bits = v } ∷ points ts values
+
+-- ---- choose_model
+abbrev pub saysChoice : ChoiceAnswer → Said SelectedModel
+saysChoice (OfChoice.Answered model) = answered model
+saysChoice (OfChoice.Refused r) = refused (number r)
+
+abbrev pub choiceCauses : List ℤ → List ℕ → ErrorBound → ℕ → List Cause
+choiceCauses ts values b m =
+    1 when not (boundAllowed b)
+    ∷ 3 when (ltb mostValues (length values) || not (metadataAllowed m))
+    ∷ 12 when not (eqb (length ts) (length values))
+    ∷ 10 when not (inOrder ts)
+    ∷ 11 when eqb (length values) 0
+    ∷ []
+
+-- an answer without the state that a refusal hands back
+abbrev pub stateless : {S A : Type 0} → SaidOn S A → Said A
+stateless (answeredOn a) = answered a
+stateless (refusedOn n s) = refused n
+
+unfoldable pub choiceAnswer : List ℤ → List ℕ → ErrorBound → ℕ → Said SelectedModel
+choiceAnswer ts values b m =
+    judge refused (choiceCauses ts values b m) (stateless (finishAnswer (run (fresh b) (points ts values)) m))
+
+choice-told : (r : ChoiceAnswer) → unsaid OfChoice.Answered OfChoice.Refused (saysChoice r) ≡ r
+choice-told (OfChoice.Answered model) = refl
+choice-told (OfChoice.Refused r) = ap OfChoice.Refused (numbered-number r)
+
+pub saysChoice-injective : Injective saysChoice
+saysChoice-injective = told-apart saysChoice (unsaid OfChoice.Answered OfChoice.Refused) choice-told
