@@ -114,7 +114,11 @@ impl ModelBuilder {
     fn judge_update(self, p: Point) -> Verdict
         ensures { λ r. ⌜ saysVerdict r ≡ verdict (updateCauses self (p .time)) ⌝ }
     {
-        let times = models::when(Refusal::TimesNotAllowed, !self.time_fits(p), Verdict::Passed);
+        let times = models::when(
+            Refusal::TimesNotAllowed,
+            !self.time_fits(p),
+            Verdict::Passed,
+        );
         let full = models::when(Refusal::OverLimit, !self.room_left(), times);
         let states = models::when(Refusal::StateNotAllowed, !self.states_allowed(), full);
         models::when(Refusal::BoundNotAllowed, !self.bounds_allowed(), states)
