@@ -14,7 +14,7 @@ use swing::Swing;
 ghost use mathlib.Core.Path.{_≡_};
 ghost use lib.ListN.{length};
 ghost use lib.Ieee.{binary32, toBits};
-ghost use Rattle.models.specs.Answers.{Done, answered, verdict};
+ghost use Rattle.models.specs.Answers.{answered, verdict};
 ghost use Rattle.models.specs.Calls.{saysVerdict};
 ghost use Rattle.pmc_mean.specs.State.{average};
 ghost use Rattle.pmc_mean.specs.Calls.{modelCauses, costCauses};

@@ -18,7 +18,7 @@ ghost use Rattle.models.specs.Calls.{saysVerdict};
 ghost use Rattle.lines.specs.Times.{timeAllowed};
 ghost use Rattle.swing.specs.State.{usable};
 ghost use Rattle.types.specs.Builder.{boundsAllowed, statesAllowed, roomLeft, timeFits, withPmc, withSwing, updatePmc, updateSwing, updated, couldFit};
-ghost use Rattle.types.specs.Calls.{saysNew, newAnswer, updateCauses, saysUpdate, updateAnswer, saysFinish, finishAnswer};
+ghost use Rattle.types.specs.Calls.{saysNew, newAnswer, updateCauses, saysUpdate, updateAnswer};
 
 pub struct ModelBuilder {
     pub pmc_mean: PMCMean,
