@@ -3,4 +3,5 @@ pub mod Said
 pub mod Rooms
 pub mod Runs
 pub mod Parts
+pub mod Costs
 pub mod Chosen

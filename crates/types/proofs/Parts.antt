@@ -1,7 +1,7 @@
 -- Each model of a builder made by steps is that model's own run over some of the values: so both may be used, keep the bound, and stand for no
 -- more values than were tried. Assumes nothing.
 use mathlib.Core.Path.{_≡_, refl, sym, ap, _∙_}
-use mathlib.Core.Bool.{Bool, true, false, not, _&&_}
+use mathlib.Core.Bool.{Bool, true, false, not}
 use mathlib.Core.List.{List, [], _∷_, _++_}
 use Prim.Native.Nat.{ℕ, _+_, _≤_}
 use native.Mathlib.Omega.{arith}
@@ -59,7 +59,6 @@ swing-next b n s g h =
 -- ---- a model that has not failed makes its own step
 judged-too : (ok : Bool) → ok ≡ true → not ok ≡ false
 judged-too ok h = rw h
-
 
 module _ (b : ModelBuilder) (g : Given) (none : NoneHolds (updateCauses b (g .time))) where
   bounds : boundsAllowed b ≡ true
@@ -119,9 +118,10 @@ next-fitted : (bound : ErrorBound) (n : ℕ) (b : ModelBuilder) (g : Given) → 
 unfolding updateAnswer updated
 next-fitted bound n b g h =
     let v = ofBits binary32 (g .bits) in
-    after-judging (Fitted bound (n + 1)) b (updateCauses b (g .time)) (answeredBy (updated b (pointOf (g .time) (g .bits)))) (pmc-longer bound n _ (h .0), swing-longer bound n _ (h .1)) (λ none.
-    (rw (swing-leaves-pmc (updatePmc b v) g _ refl) (pmc-updated bound n b g _ refl none (h .0)),
-    swing-updated bound n b (updatePmc b v) g (b .«swing_could_fit_all») (pmc-leaves-swing b v) (pmc-leaves-flag b v) refl none (h .1)))
+    after-judging (Fitted bound (n + 1)) b (updateCauses b (g .time)) (answeredBy (updated b (pointOf (g .time) (g .bits)))) (pmc-longer bound n _ (h .0), swing-longer bound n _ (h .1)) (λ none. (
+      rw (swing-leaves-pmc (updatePmc b v) g _ refl) (pmc-updated bound n b g _ refl none (h .0)),
+      swing-updated bound n b (updatePmc b v) g (b .«swing_could_fit_all») (pmc-leaves-swing b v) (pmc-leaves-flag b v) refl none (h .1),
+    ))
 
 steps-fitted : (bound : ErrorBound) (n : ℕ) (b : ModelBuilder) (given : List Given) → Fitted bound n b → Fitted bound (n + length given) (run b given)
 steps-fitted bound n b [] h = let e : n ≡ n + 0 = omega arith in rw e at h
@@ -146,9 +146,10 @@ run-usable bound given =
 pub run-bounds : (bound : ErrorBound) (given : List Given) → (run (fresh bound) given .«pmc_mean» .«error_bound» ≡ bound) × (run (fresh bound) given .swing .«error_bound» ≡ bound)
 unfolding Pmc.fresh SwingState.fresh
 run-bounds bound given =
-    let f = run-fitted bound given in
-    (ap (λ (s : PMCMean). s .«error_bound») (f .0 .1) ∙ PmcRuns.run-bound (Pmc.fresh bound) (f .0 .0),
-    ap (λ (s : Swing). s .«error_bound») (f .1 .1) ∙ SwingRuns.run-bound (SwingState.fresh bound) (f .1 .0))
+    let f = run-fitted bound given in (
+      ap (λ (s : PMCMean). s .«error_bound») (f .0 .1) ∙ PmcRuns.run-bound (Pmc.fresh bound) (f .0 .0),
+      ap (λ (s : Swing). s .«error_bound») (f .1 .1) ∙ SwingRuns.run-bound (SwingState.fresh bound) (f .1 .0),
+    )
 
 pub run-lengths : (bound : ErrorBound) (given : List Given) → (run (fresh bound) given .«pmc_mean» .length ≤ length given) × (run (fresh bound) given .swing .length ≤ length given)
 run-lengths bound given =

@@ -1,13 +1,12 @@
 -- A list of points tried one after the other. Assumes nothing.
-use mathlib.Core.Path.{_≡_, refl, sym, ap, _∙_}
-use mathlib.Core.Bool.{Bool, true, false, not, cond, _||_, false≢true, true≢false}
+use mathlib.Core.Path.{_≡_, refl, ap, _∙_}
+use mathlib.Core.Bool.{false}
 use mathlib.Core.List.{List, [], _∷_, _++_, foldl-append}
-use Prim.Native.Nat.{ℕ, suc, _+_, _<_}
+use Prim.Native.Nat.{ℕ, _+_, _<_}
 use native.Mathlib.Numerals.{add-one}
 use lib.IntN.{ℤ, pos}
 use lib.ListN.{length, getD, drop}
 use lib.Seq.{drop-cons, drop-length}
-use Rattle.models.specs.Answers.{SaidOn, answeredOn, refusedOn, Stepped, stateAfter, Cause, judgedOn}
 use Rattle.models.proofs.Judged.{after-judging}
 use Rattle.lines.specs.Line.{pointOf}
 use Rattle.lines.specs.declared.Point.{Point}

@@ -4,7 +4,7 @@ use mathlib.Core.Bool.{Bool, true, false, not, _&&_, _||_, true≢false}
 use mathlib.Core.List.{List, [], _∷_}
 use Prim.Native.Nat.{ℕ}
 use native.Mathlib.Omega.{arith}
-use Rattle.models.specs.Answers.{Said, Done, answered, refused, SaidOn, answeredOn, refusedOn, Cause, _when_, judge, judged, verdict}
+use Rattle.models.specs.Answers.{Said, answered, refused, SaidOn, answeredOn, refusedOn, Cause, _when_, judge, judged, verdict}
 use Rattle.models.proofs.Judged.{NoneHolds}
 
 -- ---- an answer is no refusal, and tells its values

@@ -14,7 +14,7 @@ use swing::Swing;
 ghost use mathlib.Core.Path.{_≡_};
 ghost use lib.ListN.{length};
 ghost use lib.Ieee.{binary32, toBits};
-ghost use Rattle.models.specs.Answers.{Done, answered, verdict};
+ghost use Rattle.models.specs.Answers.{answered, verdict};
 ghost use Rattle.models.specs.Calls.{saysVerdict};
 ghost use Rattle.pmc_mean.specs.State.{average};
 ghost use Rattle.pmc_mean.specs.Calls.{modelCauses, costCauses};
@@ -174,12 +174,7 @@ pub fn choose_model(
     }
 }
 
-fn judge_choice(
-    timestamps: &[i64],
-    values: &[u32],
-    error_bound: ErrorBound,
-    m: usize,
-) -> Verdict
+fn judge_choice(timestamps: &[i64], values: &[u32], error_bound: ErrorBound, m: usize) -> Verdict
     ensures { λ r. ⌜ saysVerdict r ≡ verdict (choiceCauses (now (timestamps .entry)) (now (values .entry)) «error_bound» m) ⌝ }
 {
     let n = values.len();
@@ -189,7 +184,11 @@ fn judge_choice(
     let same = models::when(Refusal::CountsDisagree, !(timestamps.len() == n), times);
     let over = (65536 < n) | !models::metadata_allowed(m);
     let limit = models::when(Refusal::OverLimit, over, same);
-    models::when(Refusal::BoundNotAllowed, !models::bound_allowed(error_bound), limit)
+    models::when(
+        Refusal::BoundNotAllowed,
+        !models::bound_allowed(error_bound),
+        limit,
+    )
 }
 
 fn finished(b: ModelBuilder, m: usize) -> ChoiceAnswer

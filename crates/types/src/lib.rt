@@ -18,7 +18,7 @@ ghost use Rattle.models.specs.Calls.{saysVerdict};
 ghost use Rattle.lines.specs.Times.{timeAllowed};
 ghost use Rattle.swing.specs.State.{usable};
 ghost use Rattle.types.specs.Builder.{boundsAllowed, statesAllowed, roomLeft, timeFits, withPmc, withSwing, updatePmc, updateSwing, updated, couldFit};
-ghost use Rattle.types.specs.Calls.{saysNew, newAnswer, updateCauses, saysUpdate, updateAnswer, saysFinish, finishAnswer};
+ghost use Rattle.types.specs.Calls.{saysNew, newAnswer, updateCauses, saysUpdate, updateAnswer};
 
 pub struct ModelBuilder {
     pub pmc_mean: PMCMean,
@@ -114,7 +114,11 @@ impl ModelBuilder {
     fn judge_update(self, p: Point) -> Verdict
         ensures { λ r. ⌜ saysVerdict r ≡ verdict (updateCauses self (p .time)) ⌝ }
     {
-        let times = models::when(Refusal::TimesNotAllowed, !self.time_fits(p), Verdict::Passed);
+        let times = models::when(
+            Refusal::TimesNotAllowed,
+            !self.time_fits(p),
+            Verdict::Passed,
+        );
         let full = models::when(Refusal::OverLimit, !self.room_left(), times);
         let states = models::when(Refusal::StateNotAllowed, !self.states_allowed(), full);
         models::when(Refusal::BoundNotAllowed, !self.bounds_allowed(), states)

@@ -3,8 +3,6 @@ use borrow.Author.Needs.{needs}
 use Rattle.lines.specs.Times.{timeAllowed}
 use Rattle.types.proofs.in_limits.Statement.{statement}
 use Rattle.types.proofs.in_limits.Tie as tie
-use Rattle.types.proofs.in_limits.Reads as reads
-use Rattle.types.proofs.in_limits.Lts as lts
 
 returns : tie.Need-returns
 unfolding timeAllowed

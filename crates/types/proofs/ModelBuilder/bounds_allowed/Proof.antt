@@ -3,9 +3,6 @@ use Rattle.types.specs.Builder.{boundsAllowed}
 use borrow.Author.Needs.{needs}
 use Rattle.types.proofs.ModelBuilder.bounds_allowed.Statement.{statement}
 use Rattle.types.proofs.ModelBuilder.bounds_allowed.Tie as tie
-use Rattle.types.proofs.ModelBuilder.bounds_allowed.Reads as reads
-use Rattle.types.proofs.ModelBuilder.bounds_allowed.Lts as lts
-use Rattle.models.proofs.bound_allowed.Reads as bound-allowed-reads
 
 bound-allowed-requires : tie.Need-bound-allowed-requires
 bound-allowed-requires c κs = search needs

@@ -1,17 +1,13 @@
 -- `ModelBuilder::finish` meets its contract. Assumes nothing.
-use mathlib.Core.Path.{_≡_, refl, sym, ap, _∙_}
+use mathlib.Core.Path.{sym, ap, _∙_}
 use Prim.Native.Nat.{ℕ}
-use Rattle.models.specs.Answers.{refusedOn, answeredOn, answered}
+use Rattle.models.specs.Answers.{refusedOn}
 use Rattle.models.specs.Calls.{saysVerdict}
 use Rattle.models.proofs.Judged.{when-passed, when-refused}
 use Rattle.types.specs.Calls.{finishAnswer}
 use borrow.Author.Needs.{needs}
 use Rattle.types.proofs.ModelBuilder.finish.Statement.{statement}
 use Rattle.types.proofs.ModelBuilder.finish.Tie as tie
-use Rattle.types.proofs.ModelBuilder.finish.Reads as reads
-use Rattle.types.proofs.ModelBuilder.finish.Lts as lts
-use Rattle.types.proofs.ModelBuilder.judge_finish.Reads as judge-finish-reads
-use Rattle.types.proofs.ModelBuilder.selected.Reads as selected-reads
 
 judge-finish-requires : tie.Need-judge-finish-requires
 judge-finish-requires c κs = search needs

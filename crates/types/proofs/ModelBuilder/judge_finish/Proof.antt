@@ -3,13 +3,6 @@ use Rattle.models.specs.Answers.{judge}
 use borrow.Author.Needs.{needs}
 use Rattle.types.proofs.ModelBuilder.judge_finish.Statement.{statement}
 use Rattle.types.proofs.ModelBuilder.judge_finish.Tie as tie
-use Rattle.types.proofs.ModelBuilder.judge_finish.Reads as reads
-use Rattle.types.proofs.ModelBuilder.judge_finish.Lts as lts
-use Rattle.models.proofs.bound_allowed.Reads as bound-allowed-reads
-use Rattle.models.proofs.metadata_allowed.Reads as metadata-allowed-reads
-use Rattle.models.proofs.when.Reads as when-reads
-use Rattle.pmc_mean.proofs.PMCMean.usable.Reads as PMCMean-usable-reads
-use Rattle.swing.proofs.Swing.usable.Reads as Swing-usable-reads
 
 when-requires : tie.Need-when-requires
 when-requires c κs = search needs

@@ -3,13 +3,6 @@ use Rattle.models.specs.Answers.{judge}
 use borrow.Author.Needs.{needs}
 use Rattle.types.proofs.ModelBuilder.judge_update.Statement.{statement}
 use Rattle.types.proofs.ModelBuilder.judge_update.Tie as tie
-use Rattle.types.proofs.ModelBuilder.judge_update.Reads as reads
-use Rattle.types.proofs.ModelBuilder.judge_update.Lts as lts
-use Rattle.models.proofs.when.Reads as when-reads
-use Rattle.types.proofs.ModelBuilder.bounds_allowed.Reads as bounds-allowed-reads
-use Rattle.types.proofs.ModelBuilder.room_left.Reads as room-left-reads
-use Rattle.types.proofs.ModelBuilder.states_allowed.Reads as states-allowed-reads
-use Rattle.types.proofs.ModelBuilder.time_fits.Reads as time-fits-reads
 
 time-fits-requires : tie.Need-time-fits-requires
 time-fits-requires c κs = search needs

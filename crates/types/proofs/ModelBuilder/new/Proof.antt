@@ -1,8 +1,7 @@
 -- `ModelBuilder::new` meets its contract. The two models judge the same bound. Assumes nothing.
-use mathlib.Core.Path.{_≡_, refl, sym, ap, _∙_}
+use mathlib.Core.Path.{sym, ap, _∙_}
 use Rattle.models.specs.Answers.{answered, refused}
 use Rattle.models.proofs.Judged.{accepted, turned-back}
-use Rattle.models.specs.Calls.{saysVerdict}
 use Rattle.pmc_mean.specs.Calls as OfPmc
 use Rattle.swing.specs.Calls as OfSwing
 use Rattle.types.specs.Builder.{fresh}
@@ -11,10 +10,6 @@ use Rattle.types.proofs.Said.{told, turned}
 use borrow.Author.Needs.{needs}
 use Rattle.types.proofs.ModelBuilder.new.Statement.{statement}
 use Rattle.types.proofs.ModelBuilder.new.Tie as tie
-use Rattle.types.proofs.ModelBuilder.new.Reads as reads
-use Rattle.types.proofs.ModelBuilder.new.Lts as lts
-use Rattle.pmc_mean.proofs.PMCMean.new.Reads as PMCMean-new-reads
-use Rattle.swing.proofs.Swing.new.Reads as Swing-new-reads
 
 new-requires : tie.Need-new-requires
 new-requires c κs = search needs

@@ -1,5 +1,5 @@
 -- `ModelBuilder::next` meets its contract. Assumes nothing.
-use mathlib.Core.Path.{_≡_, refl, sym, ap, _∙_}
+use mathlib.Core.Path.{sym, ap, _∙_}
 use mir.Syntax.{w64}
 use mir.ValLaws.{toZ-ofZ}
 use Rattle.models.specs.Answers.{stateAfter}
@@ -7,9 +7,6 @@ use Rattle.types.specs.Calls.{saysUpdate}
 use borrow.Author.Needs.{needs}
 use Rattle.types.proofs.ModelBuilder.next.Statement.{statement}
 use Rattle.types.proofs.ModelBuilder.next.Tie as tie
-use Rattle.types.proofs.ModelBuilder.next.Reads as reads
-use Rattle.types.proofs.ModelBuilder.next.Lts as lts
-use Rattle.types.proofs.ModelBuilder.try_to_update_models.Reads as try-to-update-models-reads
 
 try-to-update-models-requires : tie.Need-try-to-update-models-requires
 try-to-update-models-requires c κs = search needs

@@ -3,8 +3,6 @@ use borrow.Author.Needs.{needs}
 use Rattle.types.specs.Builder.{roomLeft}
 use Rattle.types.proofs.ModelBuilder.room_left.Statement.{statement}
 use Rattle.types.proofs.ModelBuilder.room_left.Tie as tie
-use Rattle.types.proofs.ModelBuilder.room_left.Reads as reads
-use Rattle.types.proofs.ModelBuilder.room_left.Lts as lts
 
 returns : tie.Need-returns
 unfolding roomLeft

@@ -1,11 +1,9 @@
 -- `ModelBuilder::selected` meets its contract. What the builder passes, each model passes. Assumes nothing.
-use mathlib.Core.Path.{_≡_, refl, sym, ap, _∙_}
-use mathlib.Core.Bool.{Bool, not, _&&_, _||_, true, false}
+use mathlib.Core.Path.{sym}
 use lib.Dec.{eqb}
-use borrow.Author.Tests.{not-false}
 use Rattle.models.specs.Answers.{refused, answered}
 use Rattle.models.specs.Bound.{boundAllowed}
-use Rattle.models.proofs.Judged.{NoneHolds, none, accepted}
+use Rattle.models.proofs.Judged.{none, accepted}
 use Rattle.pmc_mean.specs.State as Pmc
 use Rattle.swing.specs.State as SwingState
 use Rattle.pmc_mean.specs.Calls as OfPmc
@@ -16,11 +14,6 @@ use Rattle.types.proofs.Said.{both-left, both-right, neither}
 use borrow.Author.Needs.{needs}
 use Rattle.types.proofs.ModelBuilder.selected.Statement.{statement}
 use Rattle.types.proofs.ModelBuilder.selected.Tie as tie
-use Rattle.types.proofs.ModelBuilder.selected.Reads as reads
-use Rattle.types.proofs.ModelBuilder.selected.Lts as lts
-use Rattle.types.proofs.choice.choose.Reads as choose-reads
-use Rattle.types.proofs.choice.select_pmc_mean.Reads as select-pmc-mean-reads
-use Rattle.types.proofs.choice.select_swing.Reads as select-swing-reads
 
 select-pmc-mean-requires : tie.Need-select-pmc-mean-requires
 select-pmc-mean-requires c κs =

@@ -3,10 +3,6 @@ use Rattle.types.specs.Builder.{statesAllowed}
 use borrow.Author.Needs.{needs}
 use Rattle.types.proofs.ModelBuilder.states_allowed.Statement.{statement}
 use Rattle.types.proofs.ModelBuilder.states_allowed.Tie as tie
-use Rattle.types.proofs.ModelBuilder.states_allowed.Reads as reads
-use Rattle.types.proofs.ModelBuilder.states_allowed.Lts as lts
-use Rattle.pmc_mean.proofs.PMCMean.usable.Reads as PMCMean-usable-reads
-use Rattle.swing.proofs.Swing.usable.Reads as Swing-usable-reads
 
 usable-requires : tie.Need-usable-requires
 usable-requires c κs = search needs

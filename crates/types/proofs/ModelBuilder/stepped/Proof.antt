@@ -1,6 +1,6 @@
 -- `ModelBuilder::stepped` meets its contract. The points from i on are left to step over. Assumes nothing.
 use mathlib.Core.Path.{_≡_, refl, sym, ap, _∙_}
-use Prim.Native.Nat.{ℕ, _+_, _≤_, _-_}
+use Prim.Native.Nat.{_+_, _≤_, _-_}
 use native.Mathlib.Omega.{arith}
 use mir.Syntax.{w64}
 use mir.ValLaws.{toZ-ofZ}
@@ -13,10 +13,6 @@ use Rattle.types.specs.Run.{run, points}
 use Rattle.types.proofs.Runs.{run-failed, points-here, points-done}
 use Rattle.types.proofs.ModelBuilder.stepped.Statement.{statement}
 use Rattle.types.proofs.ModelBuilder.stepped.Tie as tie
-use Rattle.types.proofs.ModelBuilder.stepped.Reads as reads
-use Rattle.types.proofs.ModelBuilder.stepped.Lts as lts
-use Rattle.types.proofs.ModelBuilder.could_fit.Reads as could-fit-reads
-use Rattle.types.proofs.ModelBuilder.next.Reads as next-reads
 
 abbrev Inv-loop : tie.InvT-loop
 Inv-loop timestamps values b₀ i₀ b i =

@@ -3,10 +3,6 @@ use Rattle.types.specs.Builder.{timeFits}
 use borrow.Author.Needs.{needs}
 use Rattle.types.proofs.ModelBuilder.time_fits.Statement.{statement}
 use Rattle.types.proofs.ModelBuilder.time_fits.Tie as tie
-use Rattle.types.proofs.ModelBuilder.time_fits.Reads as reads
-use Rattle.types.proofs.ModelBuilder.time_fits.Lts as lts
-use Rattle.swing.proofs.Swing.follows.Reads as follows-reads
-use Rattle.types.proofs.in_limits.Reads as in-limits-reads
 
 in-limits-requires : tie.Need-in-limits-requires
 in-limits-requires c κs = search needs

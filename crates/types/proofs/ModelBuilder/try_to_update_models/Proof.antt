@@ -1,5 +1,5 @@
 -- `ModelBuilder::try_to_update_models` meets its contract: refused by the first cause that holds, else the step. Assumes nothing.
-use mathlib.Core.Path.{_≡_, refl, sym, ap, _∙_}
+use mathlib.Core.Path.{_≡_, sym, ap, _∙_}
 use Prim.Native.Nat.{ℕ}
 use mir.Syntax.{w64}
 use mir.ValLaws.{toZ-ofZ}
@@ -9,18 +9,11 @@ use Rattle.models.specs.Answers.{refusedOn, answeredOn, verdict}
 use Rattle.models.proofs.Judged.{NoneHolds, none-holds, when-passed, when-refused}
 use Rattle.models.proofs.Laws.{and-left}
 use Rattle.lines.specs.Line.{pointOf}
-use Rattle.types.specs.Builder.{timeFits, updated, couldFit, answeredBy}
+use Rattle.types.specs.Builder.{timeFits, updated, answeredBy}
 use Rattle.types.specs.Calls.{updateCauses, updateAnswer}
 use borrow.Author.Needs.{needs}
 use Rattle.types.proofs.ModelBuilder.try_to_update_models.Statement.{statement}
 use Rattle.types.proofs.ModelBuilder.try_to_update_models.Tie as tie
-use Rattle.types.proofs.ModelBuilder.try_to_update_models.Reads as reads
-use Rattle.types.proofs.ModelBuilder.try_to_update_models.Lts as lts
-use Rattle.lines.proofs.point_of.Reads as point-of-reads
-use Rattle.numbers.proofs.value_of_f32.Reads as value-of-f32-reads
-use Rattle.types.proofs.ModelBuilder.could_fit.Reads as could-fit-reads
-use Rattle.types.proofs.ModelBuilder.judge_update.Reads as judge-update-reads
-use Rattle.types.proofs.ModelBuilder.updated.Reads as updated-reads
 
 point : (c : tie.After-point-of) → c .point-of .result ≡ pointOf (c .before .args .timestamp) (c .before .args .value)
 point c = rw (toZ-ofZ w64 (c .before .args .timestamp) (c .before .fits .timestamp)) at (c .point-of .ensures)

@@ -1,5 +1,5 @@
 -- `ModelBuilder::update_pmc_mean` meets its contract. A model that has failed is not tried. Assumes nothing.
-use mathlib.Core.Path.{_≡_, refl, sym, ap, _∙_}
+use mathlib.Core.Path.{sym, ap, _∙_}
 use borrow.Author.Tests.{not-true, not-false}
 use Rattle.pmc_mean.specs.Calls.{saysFit}
 use Rattle.types.specs.Builder.{updatePmc}
@@ -8,10 +8,6 @@ use Rattle.types.proofs.Rooms.{pmc-live}
 use borrow.Author.Needs.{needs}
 use Rattle.types.proofs.ModelBuilder.update_pmc_mean.Statement.{statement}
 use Rattle.types.proofs.ModelBuilder.update_pmc_mean.Tie as tie
-use Rattle.types.proofs.ModelBuilder.update_pmc_mean.Reads as reads
-use Rattle.types.proofs.ModelBuilder.update_pmc_mean.Lts as lts
-use Rattle.pmc_mean.proofs.PMCMean.tried.Reads as tried-reads
-use Rattle.types.proofs.ModelBuilder.with_pmc_mean.Reads as with-pmc-mean-reads
 
 returns : tie.Need-returns
 unfolding updatePmc

@@ -1,5 +1,5 @@
 -- `ModelBuilder::update_swing` meets its contract. A model that has failed is not tried. Assumes nothing.
-use mathlib.Core.Path.{_≡_, refl, sym, ap, _∙_}
+use mathlib.Core.Path.{sym, ap, _∙_}
 use borrow.Author.Tests.{not-true, not-false}
 use Rattle.swing.specs.Calls.{saysFit}
 use Rattle.types.specs.Builder.{updateSwing}
@@ -8,10 +8,6 @@ use Rattle.types.proofs.Rooms.{swing-live}
 use borrow.Author.Needs.{needs}
 use Rattle.types.proofs.ModelBuilder.update_swing.Statement.{statement}
 use Rattle.types.proofs.ModelBuilder.update_swing.Tie as tie
-use Rattle.types.proofs.ModelBuilder.update_swing.Reads as reads
-use Rattle.types.proofs.ModelBuilder.update_swing.Lts as lts
-use Rattle.swing.proofs.Swing.tried.Reads as tried-reads
-use Rattle.types.proofs.ModelBuilder.with_swing.Reads as with-swing-reads
 
 returns : tie.Need-returns
 unfolding updateSwing

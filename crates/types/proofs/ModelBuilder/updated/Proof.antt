@@ -3,10 +3,6 @@ use Rattle.types.specs.Builder.{updated}
 use Rattle.types.proofs.Rooms.{pmc-room, swing-room, pmc-leaves-swing, pmc-leaves-flag}
 use Rattle.types.proofs.ModelBuilder.updated.Statement.{statement}
 use Rattle.types.proofs.ModelBuilder.updated.Tie as tie
-use Rattle.types.proofs.ModelBuilder.updated.Reads as reads
-use Rattle.types.proofs.ModelBuilder.updated.Lts as lts
-use Rattle.types.proofs.ModelBuilder.update_pmc_mean.Reads as update-pmc-mean-reads
-use Rattle.types.proofs.ModelBuilder.update_swing.Reads as update-swing-reads
 
 update-pmc-mean-requires : tie.Need-update-pmc-mean-requires
 update-pmc-mean-requires c κs = pmc-room _ (c .pre .0) (c .pre .1 .0)

@@ -3,8 +3,6 @@ use borrow.Author.Needs.{needs}
 use Rattle.types.specs.Builder.{withPmc}
 use Rattle.types.proofs.ModelBuilder.with_pmc_mean.Statement.{statement}
 use Rattle.types.proofs.ModelBuilder.with_pmc_mean.Tie as tie
-use Rattle.types.proofs.ModelBuilder.with_pmc_mean.Reads as reads
-use Rattle.types.proofs.ModelBuilder.with_pmc_mean.Lts as lts
 
 returns : tie.Need-returns
 unfolding withPmc

@@ -3,8 +3,6 @@ use borrow.Author.Needs.{needs}
 use Rattle.types.specs.Builder.{withSwing}
 use Rattle.types.proofs.ModelBuilder.with_swing.Statement.{statement}
 use Rattle.types.proofs.ModelBuilder.with_swing.Tie as tie
-use Rattle.types.proofs.ModelBuilder.with_swing.Reads as reads
-use Rattle.types.proofs.ModelBuilder.with_swing.Lts as lts
 
 returns : tie.Need-returns
 unfolding withSwing

@@ -1,16 +1,13 @@
 -- `choice::average` meets its contract: a state that no cause refuses has a model. Assumes nothing.
-use mathlib.Core.Path.{_≡_, refl, sym, ap, _∙_}
+use mathlib.Core.Path.{sym, ap, _∙_}
 use Prim.Native.Nat.{ℕ}
-use Rattle.models.specs.Answers.{answeredOn, refusedOn}
+use Rattle.models.specs.Answers.{refusedOn}
 use Rattle.models.proofs.Judged.{none, accepted}
 use Rattle.pmc_mean.specs.Calls.{saysModel, modelAnswer}
 use Rattle.types.proofs.Said.{apart-on, same-answer-on}
 use borrow.Author.Needs.{needs}
 use Rattle.types.proofs.choice.average.Statement.{statement}
 use Rattle.types.proofs.choice.average.Tie as tie
-use Rattle.types.proofs.choice.average.Reads as reads
-use Rattle.types.proofs.choice.average.Lts as lts
-use Rattle.pmc_mean.proofs.PMCMean.model.Reads as model-reads
 
 model-requires : tie.Need-model-requires
 model-requires c κs = search needs

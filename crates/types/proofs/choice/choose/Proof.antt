@@ -3,10 +3,6 @@ use Rattle.types.specs.Choice.{chosen}
 use borrow.Author.Needs.{needs}
 use Rattle.types.proofs.choice.choose.Statement.{statement}
 use Rattle.types.proofs.choice.choose.Tie as tie
-use Rattle.types.proofs.choice.choose.Reads as reads
-use Rattle.types.proofs.choice.choose.Lts as lts
-use Rattle.types.proofs.choice.end_lost.Reads as end-lost-reads
-use Rattle.types.proofs.choice.swing_wins.Reads as swing-wins-reads
 
 swing-wins-requires : tie.Need-swing-wins-requires
 swing-wins-requires c κs = search needs

@@ -1,5 +1,5 @@
 -- `choice::choose_model` meets its contract: refused by the first cause that holds, else the steps and the choice. Assumes nothing.
-use mathlib.Core.Path.{_≡_, refl, sym, ap, _∙_}
+use mathlib.Core.Path.{_≡_, sym, ap, _∙_}
 use borrow.Author.Tests.{eqb-true, not-false}
 use lib.ListN.{length}
 use denote.Ref.{now}
@@ -12,12 +12,6 @@ use Rattle.types.proofs.Said.{apart, same-answer}
 use borrow.Author.Needs.{needs}
 use Rattle.types.proofs.choice.choose_model.Statement.{statement}
 use Rattle.types.proofs.choice.choose_model.Tie as tie
-use Rattle.types.proofs.choice.choose_model.Reads as reads
-use Rattle.types.proofs.choice.choose_model.Lts as lts
-use Rattle.types.proofs.ModelBuilder.new.Reads as new-reads
-use Rattle.types.proofs.ModelBuilder.stepped.Reads as stepped-reads
-use Rattle.types.proofs.choice.finished.Reads as finished-reads
-use Rattle.types.proofs.choice.judge_choice.Reads as judge-choice-reads
 
 -- past the verdict no cause holds, and the builder is fresh
 clear : (c : tie.After-enum-told) → NoneHolds (choiceCauses (now (c .before .before .before .before .args .timestamps)) (now (c .before .before .before .before .args .values)) (c .before .before .before .before .args .error-bound) (c .before .before .before .before .args .m))

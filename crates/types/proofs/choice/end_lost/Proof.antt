@@ -3,10 +3,6 @@ use Rattle.types.specs.Choice.{endLost}
 use borrow.Author.Needs.{needs}
 use Rattle.types.proofs.choice.end_lost.Statement.{statement}
 use Rattle.types.proofs.choice.end_lost.Tie as tie
-use Rattle.types.proofs.choice.end_lost.Reads as reads
-use Rattle.types.proofs.choice.end_lost.Lts as lts
-use Rattle.models.proofs.is_finite_f32.Reads as is-finite-f32-reads
-use Rattle.numbers.proofs.value_of_f32.Reads as value-of-f32-reads
 
 value-of-f32-requires : tie.Need-value-of-f32-requires
 value-of-f32-requires c κs = search needs

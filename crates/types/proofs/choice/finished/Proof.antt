@@ -1,13 +1,10 @@
 -- `choice::finished` meets its contract. Assumes nothing.
-use mathlib.Core.Path.{_≡_, refl, sym, ap, _∙_}
-use Rattle.types.specs.Calls.{saysFinish, finishAnswer}
+use mathlib.Core.Path.{sym, ap, _∙_}
+use Rattle.types.specs.Calls.{saysFinish}
 use Rattle.types.specs.Run.{stateless}
 use borrow.Author.Needs.{needs}
 use Rattle.types.proofs.choice.finished.Statement.{statement}
 use Rattle.types.proofs.choice.finished.Tie as tie
-use Rattle.types.proofs.choice.finished.Reads as reads
-use Rattle.types.proofs.choice.finished.Lts as lts
-use Rattle.types.proofs.ModelBuilder.finish.Reads as finish-reads
 
 finish-requires : tie.Need-finish-requires
 finish-requires c κs = search needs

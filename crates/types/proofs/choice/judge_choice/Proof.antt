@@ -3,12 +3,6 @@ use Rattle.models.specs.Answers.{judge}
 use borrow.Author.Needs.{needs}
 use Rattle.types.proofs.choice.judge_choice.Statement.{statement}
 use Rattle.types.proofs.choice.judge_choice.Tie as tie
-use Rattle.types.proofs.choice.judge_choice.Reads as reads
-use Rattle.types.proofs.choice.judge_choice.Lts as lts
-use Rattle.lines.proofs.times.in_order.Reads as in-order-reads
-use Rattle.models.proofs.bound_allowed.Reads as bound-allowed-reads
-use Rattle.models.proofs.metadata_allowed.Reads as metadata-allowed-reads
-use Rattle.models.proofs.when.Reads as when-reads
 
 in-order-requires : tie.Need-in-order-requires
 in-order-requires c κs = search needs

@@ -1,20 +1,15 @@
 -- `choice::select_pmc_mean` meets its contract. Assumes nothing.
-use mathlib.Core.Path.{_≡_, refl, sym, ap, _∙_}
-use Prim.Native.Nat.{ℕ}
+use mathlib.Core.Path.{sym}
 use native.Mathlib.Omega.{arith}
-use borrow.Author.Tests.{leb-true, not-false, eqb-false}
+use borrow.Author.Tests.{leb-true, not-false}
 use lib.Dec.{leb}
 use Rattle.models.specs.Answers.{refused, answered}
-use Rattle.models.proofs.Judged.{NoneHolds, none, accepted}
+use Rattle.models.proofs.Judged.{none, accepted}
 use Rattle.models.proofs.Laws.{and-right}
 use Rattle.pmc_mean.specs.Calls.{costCauses, modelCauses}
 use Rattle.types.specs.Choice.{pmcModel}
 use Rattle.types.proofs.choice.select_pmc_mean.Statement.{statement}
 use Rattle.types.proofs.choice.select_pmc_mean.Tie as tie
-use Rattle.types.proofs.choice.select_pmc_mean.Reads as reads
-use Rattle.types.proofs.choice.select_pmc_mean.Lts as lts
-use Rattle.models.proofs.cost.Reads as cost-reads
-use Rattle.types.proofs.choice.average.Reads as average-reads
 
 average-requires : tie.Need-average-requires
 average-requires c κs =

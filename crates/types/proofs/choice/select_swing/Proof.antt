@@ -1,11 +1,11 @@
 -- `choice::select_swing` meets its contract. Assumes nothing.
-use mathlib.Core.Path.{_≡_, refl, sym, ap, _∙_}
+use mathlib.Core.Path.{_≡_}
 use Prim.Native.Nat.{ℕ}
 use native.Mathlib.Omega.{arith}
 use borrow.Author.Tests.{leb-true, not-false, eqb-false}
 use lib.Dec.{leb}
-use Rattle.models.specs.Answers.{refused, answered}
-use Rattle.models.proofs.Judged.{NoneHolds, none, accepted}
+use Rattle.models.specs.Answers.{answered}
+use Rattle.models.proofs.Judged.{none}
 use Rattle.models.proofs.Laws.{and-right}
 use Rattle.swing.specs.Calls.{costCauses}
 use Rattle.swing.specs.declared.Swing.{Swing}
@@ -16,11 +16,6 @@ use Rattle.types.specs.Choice.{swingModel}
 use borrow.Author.Needs.{needs}
 use Rattle.types.proofs.choice.select_swing.Statement.{statement}
 use Rattle.types.proofs.choice.select_swing.Tie as tie
-use Rattle.types.proofs.choice.select_swing.Reads as reads
-use Rattle.types.proofs.choice.select_swing.Lts as lts
-use Rattle.lines.proofs.answered.Reads as answered-reads
-use Rattle.models.proofs.cost.Reads as cost-reads
-use Rattle.swing.proofs.Swing.last_value.Reads as last-value-reads
 
 small : (s : Swing) (m : ℕ) → verdict (costCauses s m) ≡ answered tt → m ≤ 65535
 small s m h = leb-true m 65535 (and-right (leb 1 m) _ (not-false _ (none (costCauses s m) h .1 .1 .0)))

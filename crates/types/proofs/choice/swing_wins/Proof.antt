@@ -3,8 +3,6 @@ use borrow.Author.Needs.{needs}
 use Rattle.types.specs.Choice.{swingWins}
 use Rattle.types.proofs.choice.swing_wins.Statement.{statement}
 use Rattle.types.proofs.choice.swing_wins.Tie as tie
-use Rattle.types.proofs.choice.swing_wins.Reads as reads
-use Rattle.types.proofs.choice.swing_wins.Lts as lts
 
 returns : tie.Need-returns
 unfolding swingWins
