@@ -33,7 +33,7 @@ fn bits_of(b: ErrorBound) -> u64
 }
 
 // The state's words to the front of the row.
-pub fn put_writer(row: &mut [u64], m: MacaqueV)
+fn put_writer(row: &mut [u64], m: MacaqueV)
     requires { ⌜ 10 ≤ length (now row) ⌝ }
     ensures { λ _. ⌜ now (row .exit) ≡ rowOf m ++ drop 10 (now (row .entry)) ⌝ }
 {
@@ -85,7 +85,7 @@ fn stands_for_state(row: &[u64]) -> bool
 }
 
 // The state that a row stands for.
-pub fn writer_of(row: &[u64]) -> MacaqueV
+fn writer_of(row: &[u64]) -> MacaqueV
     requires { ⌜ 10 ≤ length (now row) ⌝ }
     ensures { λ r. ⌜ r ≡ writerIn (now (row .entry)) ⌝ }
 {
