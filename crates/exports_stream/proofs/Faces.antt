@@ -1,4 +1,4 @@
--- What a call on a writer's row answers and leaves, case by case. Assumes nothing.
+-- What the calls on a writer's row answer and leave, case by case. Assumes nothing.
 use mathlib.Core.Path.{_≡_, refl, sym, ap, _∙_}
 use mathlib.Core.Bool.{Bool, true, false, cond}
 use mathlib.Core.List.{List, _++_}
@@ -6,11 +6,52 @@ use Prim.Native.Nat.{ℕ, _≤_, _<_}
 use borrow.Author.Tests.{le-leb, lt-leb}
 use lib.Dec.{leb}
 use lib.ListN.{length, drop}
-use Rattle.models.specs.Answers.{SaidOn, answeredOn, refusedOn}
+use Rattle.models.specs.Answers.{Said, answered, SaidOn, answeredOn, refusedOn, verdict}
+use Rattle.models.specs.Refusals.{number}
+use Rattle.models.specs.Calls.{saysVerdict}
+use Rattle.models.specs.declared.Refusal.{Refusal}
+use Rattle.models.specs.declared.Verdict.{Verdict}
+use Rattle.models.specs.declared.Verdict.the-variants.{Passed, Refused}
+use Rattle.models.proofs.Judged.{when-passed, when-refused}
 use Rattle.macaque_v.specs.Calls.{writeAnswer, writeMemory}
 use Rattle.macaque_v.specs.declared.MacaqueV.{MacaqueV}
+use Rattle.exports.specs.Face.{numberOf, rowAfter}
 use Rattle.exports_stream.specs.Row.{rowOf, writerIn}
-use Rattle.exports_stream.specs.Calls.{numberOn, rowOn, writeNumber, writeRow, writeBuffer}
+use Rattle.exports_stream.specs.Calls.{openNumber, openRow, numberOn, rowOn, writeNumber, writeRow, writeBuffer}
+use Rattle.exports_stream.specs.Calls.{reopenFaceCauses, reopenSaid, reopenLeft, reopenNumber, reopenRow, reopenBuffer}
+
+-- ---- a state for a row that holds it
+
+pub state-row : (row : List ℕ) (said : Said MacaqueV) (m : MacaqueV) → said ≡ answered m → 10 ≤ length row → (0 ≡ openNumber said row) × (rowOf m ++ drop 10 row ≡ openRow said row)
+unfolding numberOf rowAfter rowOf
+state-row row said m e h =
+    let holds : leb 10 (length row) ≡ true = le-leb 10 (length row) h in (
+      sym (ap (numberOf 10 (length row)) e ∙ ap (λ (b : Bool). cond b 0 4) holds),
+      sym (ap (rowAfter 10 rowOf row) e ∙ ap (λ (b : Bool). cond b (rowOf m ++ drop 10 row) row) holds),
+    )
+
+-- ---- reopen, by the verdict on its causes
+
+module _ (buf : List ℕ) (used count k mode opening kind bound : ℕ) (row : List ℕ) (v : Verdict) (says : saysVerdict v ≡ verdict (reopenFaceCauses buf used count k mode kind bound row)) where
+  pub reopen-refused : (r : Refusal) → v ≡ Refused r
+      → (number r ≡ reopenNumber buf used count k mode opening kind bound row)
+      × (row ≡ reopenRow buf used count k mode opening kind bound row)
+      × (buf ≡ reopenBuffer buf used count k mode opening kind bound row)
+  unfolding reopenNumber reopenRow reopenBuffer
+  reopen-refused r e =
+      let causes = reopenFaceCauses buf used count k mode kind bound row in
+      (when-refused causes v says (λ (n : ℕ). n) _ r e, when-refused causes v says (λ (n : ℕ). row) _ r e, when-refused causes v says (λ (n : ℕ). buf) _ r e)
+
+  pub reopen-passed : v ≡ Passed
+      → (openNumber (reopenSaid buf used count k mode opening kind bound) row ≡ reopenNumber buf used count k mode opening kind bound row)
+      × (openRow (reopenSaid buf used count k mode opening kind bound) row ≡ reopenRow buf used count k mode opening kind bound row)
+      × (reopenLeft buf used count k mode opening kind bound ≡ reopenBuffer buf used count k mode opening kind bound row)
+  unfolding reopenNumber reopenRow reopenBuffer
+  reopen-passed e =
+      let causes = reopenFaceCauses buf used count k mode kind bound row in
+      (when-passed causes v says (λ (n : ℕ). n) _ e, when-passed causes v says (λ (n : ℕ). row) _ e, when-passed causes v says (λ (n : ℕ). buf) _ e)
+
+-- ---- compress_values
 
 module _ (row xs buf : List ℕ) where
   pub too-short : length row < 10 → (4 ≡ writeNumber row xs buf) × (row ≡ writeRow row xs buf) × (buf ≡ writeBuffer row xs buf)

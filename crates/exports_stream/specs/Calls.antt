@@ -30,10 +30,10 @@ ofMode mode (answered m) = cond (leb mode 1) (answered m) (refused 3)
 
 -- ---- a state for the row: the number, and the row
 
-unfoldable pub openNumber : Said MacaqueV → List ℕ → ℕ
+abbrev pub openNumber : Said MacaqueV → List ℕ → ℕ
 openNumber said row = numberOf rowLength (length row) said
 
-unfoldable pub openRow : Said MacaqueV → List ℕ → List ℕ
+abbrev pub openRow : Said MacaqueV → List ℕ → List ℕ
 openRow said row = rowAfter rowLength rowOf row said
 
 -- ---- new
@@ -71,21 +71,26 @@ writeBuffer row xs buf = cond (leb rowLength (length row)) (writeMemory (writerI
 abbrev pub rowCauses : ErrorBound → ℕ → ℕ → ℕ → ℕ → ℕ → List Cause
 rowCauses b room used count k words = reopenCauses b room used count k ++ (4 when ltb words rowLength ∷ [])
 
-module _ (buf : List ℕ) (used count k mode opening kind bound : ℕ) (row : List ℕ) where
-  abbrev pub reopenFaceCauses : List Cause
-  reopenFaceCauses = rowCauses (boundOf kind bound) (length buf) used (countIn mode count) k (length row)
+abbrev pub reopenFaceCauses : List ℕ → ℕ → ℕ → ℕ → ℕ → ℕ → ℕ → List ℕ → List Cause
+reopenFaceCauses buf used count k mode kind bound row = rowCauses (boundOf kind bound) (length buf) used (countIn mode count) k (length row)
 
-  abbrev pub reopenSaid : Said MacaqueV
-  reopenSaid = reopenAnswer buf used (countIn mode count) k (openingOf mode opening) (boundOf kind bound)
+abbrev pub reopenSaid : List ℕ → ℕ → ℕ → ℕ → ℕ → ℕ → ℕ → ℕ → Said MacaqueV
+reopenSaid buf used count k mode opening kind bound = reopenAnswer buf used (countIn mode count) k (openingOf mode opening) (boundOf kind bound)
 
-  unfoldable pub reopenNumber : ℕ
-  reopenNumber = judge (λ (n : ℕ). n) reopenFaceCauses (openNumber reopenSaid row)
+abbrev pub reopenLeft : List ℕ → ℕ → ℕ → ℕ → ℕ → ℕ → ℕ → ℕ → List ℕ
+reopenLeft buf used count k mode opening kind bound = reopenMemory buf used (countIn mode count) k (openingOf mode opening) (boundOf kind bound)
 
-  unfoldable pub reopenRow : List ℕ
-  reopenRow = judgedMemory row reopenFaceCauses (openRow reopenSaid row)
+unfoldable pub reopenNumber : List ℕ → ℕ → ℕ → ℕ → ℕ → ℕ → ℕ → ℕ → List ℕ → ℕ
+reopenNumber buf used count k mode opening kind bound row =
+    judge (λ (n : ℕ). n) (reopenFaceCauses buf used count k mode kind bound row) (openNumber (reopenSaid buf used count k mode opening kind bound) row)
 
-  unfoldable pub reopenBuffer : List ℕ
-  reopenBuffer = judgedMemory buf reopenFaceCauses (reopenMemory buf used (countIn mode count) k (openingOf mode opening) (boundOf kind bound))
+unfoldable pub reopenRow : List ℕ → ℕ → ℕ → ℕ → ℕ → ℕ → ℕ → ℕ → List ℕ → List ℕ
+reopenRow buf used count k mode opening kind bound row =
+    judgedMemory row (reopenFaceCauses buf used count k mode kind bound row) (openRow (reopenSaid buf used count k mode opening kind bound) row)
+
+unfoldable pub reopenBuffer : List ℕ → ℕ → ℕ → ℕ → ℕ → ℕ → ℕ → ℕ → List ℕ → List ℕ
+reopenBuffer buf used count k mode opening kind bound row =
+    judgedMemory buf (reopenFaceCauses buf used count k mode kind bound row) (reopenLeft buf used count k mode opening kind bound)
 
 -- ---- grid: the number and the output
 

@@ -130,11 +130,11 @@ pub extern "C" fn modelardb_macaque_v_sum(
 {
     match read::sum(bytes, count_in(mode, count), opening_of(mode, opening)) {
         ValueAnswer::Refused(r) => exports::number_with(r, 1, out.len()),
-        ValueAnswer::Answered(sum) => {
+        ValueAnswer::Answered(bits) => {
             if out.len() < 1 {
                 return 4;
             }
-            out[0] = sum;
+            out[0] = bits;
             0
         }
     }
