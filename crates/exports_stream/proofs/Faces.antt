@@ -6,29 +6,35 @@ use Prim.Native.Nat.{ℕ, _≤_, _<_}
 use borrow.Author.Tests.{le-leb, lt-leb}
 use lib.Dec.{leb}
 use lib.ListN.{length, drop}
-use Rattle.models.specs.Answers.{Said, answered, SaidOn, answeredOn, refusedOn, verdict}
+use Rattle.models.specs.Answers.{Said, SaidOn, answeredOn, refusedOn, verdict}
 use Rattle.models.specs.Refusals.{number}
 use Rattle.models.specs.Calls.{saysVerdict}
 use Rattle.models.specs.declared.Refusal.{Refusal}
 use Rattle.models.specs.declared.Verdict.{Verdict}
 use Rattle.models.specs.declared.Verdict.the-variants.{Passed, Refused}
 use Rattle.models.proofs.Judged.{when-passed, when-refused}
-use Rattle.macaque_v.specs.Calls.{writeAnswer, writeMemory}
+use Rattle.macaque_v.specs.Calls.{newAnswer, writeAnswer, writeMemory}
 use Rattle.macaque_v.specs.declared.MacaqueV.{MacaqueV}
-use Rattle.exports.specs.Face.{numberOf, rowAfter}
+use Rattle.exports.specs.Face.{boundOf}
 use Rattle.exports_stream.specs.Row.{rowOf, writerIn}
-use Rattle.exports_stream.specs.Calls.{openNumber, openRow, numberOn, rowOn, writeNumber, writeRow, writeBuffer}
+use Rattle.exports_stream.specs.Calls.{openingOf, numberIn, rowIn, newCauses, newNumber, newRow, numberOn, rowOn, writeNumber, writeRow, writeBuffer}
 use Rattle.exports_stream.specs.Calls.{reopenFaceCauses, reopenSaid, reopenLeft, reopenNumber, reopenRow, reopenBuffer}
 
--- ---- a state for a row that holds it
+-- ---- new, by the verdict on its causes
 
-pub state-row : (row : List ℕ) (said : Said MacaqueV) (m : MacaqueV) → said ≡ answered m → 10 ≤ length row → (0 ≡ openNumber said row) × (rowOf m ++ drop 10 row ≡ openRow said row)
-unfolding numberOf rowAfter rowOf
-state-row row said m e h =
-    let holds : leb 10 (length row) ≡ true = le-leb 10 (length row) h in (
-      sym (ap (numberOf 10 (length row)) e ∙ ap (λ (b : Bool). cond b 0 4) holds),
-      sym (ap (rowAfter 10 rowOf row) e ∙ ap (λ (b : Bool). cond b (rowOf m ++ drop 10 row) row) holds),
-    )
+module _ (kind bound mode opening : ℕ) (row : List ℕ) (v : Verdict) (says : saysVerdict v ≡ verdict (newCauses (boundOf kind bound) mode (length row))) where
+  pub new-refused : (r : Refusal) → v ≡ Refused r → (number r ≡ newNumber kind bound mode opening row) × (row ≡ newRow kind bound mode opening row)
+  unfolding newNumber newRow
+  new-refused r e =
+      let causes = newCauses (boundOf kind bound) mode (length row) in
+      (when-refused causes v says (λ (n : ℕ). n) _ r e, when-refused causes v says (λ (n : ℕ). row) _ r e)
+
+  pub new-passed : (said : Said MacaqueV) → said ≡ newAnswer (boundOf kind bound) (openingOf mode opening) → v ≡ Passed
+      → (numberIn said ≡ newNumber kind bound mode opening row) × (rowIn row said ≡ newRow kind bound mode opening row)
+  unfolding newNumber newRow
+  new-passed said q e =
+      let causes = newCauses (boundOf kind bound) mode (length row) in
+      (ap numberIn q ∙ when-passed causes v says (λ (n : ℕ). n) _ e, ap (rowIn row) q ∙ when-passed causes v says (λ (n : ℕ). row) _ e)
 
 -- ---- reopen, by the verdict on its causes
 
@@ -42,14 +48,17 @@ module _ (buf : List ℕ) (used count k mode opening kind bound : ℕ) (row : Li
       let causes = reopenFaceCauses buf used count k mode kind bound row in
       (when-refused causes v says (λ (n : ℕ). n) _ r e, when-refused causes v says (λ (n : ℕ). row) _ r e, when-refused causes v says (λ (n : ℕ). buf) _ r e)
 
-  pub reopen-passed : v ≡ Passed
-      → (openNumber (reopenSaid buf used count k mode opening kind bound) row ≡ reopenNumber buf used count k mode opening kind bound row)
-      × (openRow (reopenSaid buf used count k mode opening kind bound) row ≡ reopenRow buf used count k mode opening kind bound row)
+  pub reopen-passed : (said : Said MacaqueV) → said ≡ reopenSaid buf used count k mode opening kind bound → v ≡ Passed
+      → (numberIn said ≡ reopenNumber buf used count k mode opening kind bound row)
+      × (rowIn row said ≡ reopenRow buf used count k mode opening kind bound row)
       × (reopenLeft buf used count k mode opening kind bound ≡ reopenBuffer buf used count k mode opening kind bound row)
   unfolding reopenNumber reopenRow reopenBuffer
-  reopen-passed e =
-      let causes = reopenFaceCauses buf used count k mode kind bound row in
-      (when-passed causes v says (λ (n : ℕ). n) _ e, when-passed causes v says (λ (n : ℕ). row) _ e, when-passed causes v says (λ (n : ℕ). buf) _ e)
+  reopen-passed said q e =
+      let causes = reopenFaceCauses buf used count k mode kind bound row in (
+        ap numberIn q ∙ when-passed causes v says (λ (n : ℕ). n) _ e,
+        ap (rowIn row) q ∙ when-passed causes v says (λ (n : ℕ). row) _ e,
+        when-passed causes v says (λ (n : ℕ). buf) _ e,
+      )
 
 -- ---- compress_values
 

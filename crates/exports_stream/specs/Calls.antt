@@ -1,10 +1,11 @@
 -- What the calls of MacaqueV's C face answer and leave: the number, and the lent memory afterwards, by what the call behind says. Assumes nothing.
-use mathlib.Core.Bool.{cond}
+use mathlib.Core.Bool.{cond, not}
 use mathlib.Core.List.{List, [], _∷_, _++_}
 use Prim.Native.Nat.{ℕ}
 use lib.Dec.{eqb, leb, ltb}
 use lib.ListN.{length, drop}
-use Rattle.models.specs.Answers.{Said, answered, refused, SaidOn, answeredOn, refusedOn, Cause, _when_, judge, judged, judgedMemory}
+use Rattle.models.specs.Answers.{Said, answered, refused, SaidOn, answeredOn, refusedOn, Cause, _when_, judge, judgedMemory}
+use Rattle.models.specs.Bound.{boundAllowed}
 use Rattle.models.specs.declared.ErrorBound.{ErrorBound}
 use Rattle.macaque_v.specs.Calls.{newAnswer, writeAnswer, writeMemory}
 use Rattle.macaque_v.specs.Read.{gridAnswer, gridMemory, sumAnswer, reopenCauses, reopenAnswer, reopenMemory}
@@ -23,29 +24,28 @@ openingOf mode opening = cond (eqb mode 0) First (On opening)
 abbrev pub countIn : ℕ → ℕ → ℕ
 countIn mode count = cond (leb mode 1) count 65537
 
--- The same of a call without a count, whose only cause, the bound, comes before.
-abbrev pub ofMode : ℕ → Said MacaqueV → Said MacaqueV
-ofMode mode (refused n) = refused n
-ofMode mode (answered m) = cond (leb mode 1) (answered m) (refused 3)
+-- ---- of what a call says: the number, and the row that it hands a state out in
 
--- ---- a state for the row: the number, and the row
+abbrev pub numberIn : {A : Type 0} → Said A → ℕ
+numberIn (answered x) = 0
+numberIn (refused n) = n
 
-abbrev pub openNumber : Said MacaqueV → List ℕ → ℕ
-openNumber said row = numberOf rowLength (length row) said
+abbrev pub rowIn : List ℕ → Said MacaqueV → List ℕ
+rowIn row (answered m) = rowOf m ++ drop rowLength row
+rowIn row (refused n) = row
 
-abbrev pub openRow : Said MacaqueV → List ℕ → List ℕ
-openRow said row = rowAfter rowLength rowOf row said
+-- ---- new: its causes in 01's order, then what the call behind says
 
--- ---- new
-
-unfoldable pub newSaid : ℕ → ℕ → ℕ → ℕ → Said MacaqueV
-newSaid kind bound mode opening = ofMode mode (newAnswer (boundOf kind bound) (openingOf mode opening))
+abbrev pub newCauses : ErrorBound → ℕ → ℕ → List Cause
+newCauses b mode words = 1 when not (boundAllowed b) ∷ 3 when ltb 1 mode ∷ 4 when ltb words rowLength ∷ []
 
 unfoldable pub newNumber : ℕ → ℕ → ℕ → ℕ → List ℕ → ℕ
-newNumber kind bound mode opening row = openNumber (newSaid kind bound mode opening) row
+newNumber kind bound mode opening row =
+    judge (λ (n : ℕ). n) (newCauses (boundOf kind bound) mode (length row)) (numberIn (newAnswer (boundOf kind bound) (openingOf mode opening)))
 
 unfoldable pub newRow : ℕ → ℕ → ℕ → ℕ → List ℕ → List ℕ
-newRow kind bound mode opening row = openRow (newSaid kind bound mode opening) row
+newRow kind bound mode opening row =
+    judgedMemory row (newCauses (boundOf kind bound) mode (length row)) (rowIn row (newAnswer (boundOf kind bound) (openingOf mode opening)))
 
 -- ---- compress_values: the number, the row and the buffer. The row is read before anything is judged, so a row that is too short is 4 first.
 
@@ -66,13 +66,13 @@ writeRow row xs buf = cond (leb rowLength (length row)) (rowOn row (writeAnswer 
 unfoldable pub writeBuffer : List ℕ → List ℕ → List ℕ → List ℕ
 writeBuffer row xs buf = cond (leb rowLength (length row)) (writeMemory (writerIn row) xs buf) buf
 
--- ---- reopen: 1, 3, 12, then 4 for the row, and only then what the stream gives
+-- ---- reopen: 1, 3, 12, then 4 for the row, and only then what the stream gives. Till then the buffer is untouched.
 
-abbrev pub rowCauses : ErrorBound → ℕ → ℕ → ℕ → ℕ → ℕ → List Cause
-rowCauses b room used count k words = reopenCauses b room used count k ++ (4 when ltb words rowLength ∷ [])
+abbrev pub reopenCausesWith : ErrorBound → ℕ → ℕ → ℕ → ℕ → ℕ → List Cause
+reopenCausesWith b room used count k words = reopenCauses b room used count k ++ (4 when ltb words rowLength ∷ [])
 
 abbrev pub reopenFaceCauses : List ℕ → ℕ → ℕ → ℕ → ℕ → ℕ → ℕ → List ℕ → List Cause
-reopenFaceCauses buf used count k mode kind bound row = rowCauses (boundOf kind bound) (length buf) used (countIn mode count) k (length row)
+reopenFaceCauses buf used count k mode kind bound row = reopenCausesWith (boundOf kind bound) (length buf) used (countIn mode count) k (length row)
 
 abbrev pub reopenSaid : List ℕ → ℕ → ℕ → ℕ → ℕ → ℕ → ℕ → ℕ → Said MacaqueV
 reopenSaid buf used count k mode opening kind bound = reopenAnswer buf used (countIn mode count) k (openingOf mode opening) (boundOf kind bound)
@@ -82,21 +82,17 @@ reopenLeft buf used count k mode opening kind bound = reopenMemory buf used (cou
 
 unfoldable pub reopenNumber : List ℕ → ℕ → ℕ → ℕ → ℕ → ℕ → ℕ → ℕ → List ℕ → ℕ
 reopenNumber buf used count k mode opening kind bound row =
-    judge (λ (n : ℕ). n) (reopenFaceCauses buf used count k mode kind bound row) (openNumber (reopenSaid buf used count k mode opening kind bound) row)
+    judge (λ (n : ℕ). n) (reopenFaceCauses buf used count k mode kind bound row) (numberIn (reopenSaid buf used count k mode opening kind bound))
 
 unfoldable pub reopenRow : List ℕ → ℕ → ℕ → ℕ → ℕ → ℕ → ℕ → ℕ → List ℕ → List ℕ
 reopenRow buf used count k mode opening kind bound row =
-    judgedMemory row (reopenFaceCauses buf used count k mode kind bound row) (openRow (reopenSaid buf used count k mode opening kind bound) row)
+    judgedMemory row (reopenFaceCauses buf used count k mode kind bound row) (rowIn row (reopenSaid buf used count k mode opening kind bound))
 
 unfoldable pub reopenBuffer : List ℕ → ℕ → ℕ → ℕ → ℕ → ℕ → ℕ → ℕ → List ℕ → List ℕ
 reopenBuffer buf used count k mode opening kind bound row =
     judgedMemory buf (reopenFaceCauses buf used count k mode kind bound row) (reopenLeft buf used count k mode opening kind bound)
 
 -- ---- grid: the number and the output
-
-abbrev pub numberIn : {A : Type 0} → Said A → ℕ
-numberIn (answered x) = 0
-numberIn (refused n) = n
 
 unfoldable pub gridNumber : List ℕ → ℕ → ℕ → ℕ → List ℕ → ℕ
 gridNumber bytes count mode opening out = numberIn (gridAnswer bytes (countIn mode count) (openingOf mode opening) (length out))

@@ -2,13 +2,12 @@
 // opens as a mode and a value (specs/Calls.antt). A call answers 0 or the number of its refusal, and a
 // refusal changes nothing that was lent.
 ghost use mathlib.Core.Path.{_≡_};
-ghost use mathlib.Core.List.{[], _∷_, _++_};
-ghost use lib.Dec.{ltb};
+ghost use Prim.Native.Nat.{_≤_};
 ghost use lib.ListN.{length};
-ghost use Rattle.models.specs.Answers.{_when_, verdict};
+ghost use Rattle.models.specs.Answers.{verdict};
 ghost use Rattle.models.specs.Calls.{saysVerdict};
 ghost use Rattle.macaque_v.specs.Read.{saysOpen};
-ghost use Rattle.exports_stream.specs.Calls.{openingOf, countIn, ofMode, openNumber, openRow, rowCauses};
+ghost use Rattle.exports_stream.specs.Calls.{openingOf, countIn, numberIn, rowIn, newCauses, reopenCausesWith};
 ghost use Rattle.exports_stream.specs.Calls.{newNumber, newRow, writeNumber, writeRow, writeBuffer};
 ghost use Rattle.exports_stream.specs.Calls.{reopenNumber, reopenRow, reopenBuffer, gridNumber, gridOut, sumNumber, sumOut};
 use macaque_v::MacaqueV;
@@ -39,8 +38,11 @@ pub extern "C" fn modelardb_macaque_v_new(
     ensures number { λ r. ⌜ r ≡ newNumber kind bound mode opening (now (state .entry)) ⌝ }
     ensures row { λ r. ⌜ now (state .exit) ≡ newRow kind bound mode opening (now (state .entry)) ⌝ }
 {
-    let writer = MacaqueV::new(exports::bound_of(kind, bound), opening_of(mode, opening));
-    put_opened(judge_mode(mode, writer), state)
+    let b = exports::bound_of(kind, bound);
+    match judge_new(b, mode, state.len()) {
+        Verdict::Refused(r) => models::number_of(r),
+        Verdict::Passed => put_opened(MacaqueV::new(b, opening_of(mode, opening)), state),
+    }
 }
 
 // Writes the values behind the state's place; the row becomes the state after them.
@@ -87,7 +89,7 @@ pub extern "C" fn modelardb_macaque_v_reopen(
 {
     let b = exports::bound_of(kind, bound);
     let n = count_in(mode, count);
-    match judge_row(b, buffer.len(), used, n, k, state.len()) {
+    match judge_reopen(b, buffer.len(), used, n, k, state.len()) {
         Verdict::Refused(r) => models::number_of(r),
         Verdict::Passed => {
             let writer = MacaqueV::reopen(buffer, used, n, k, opening_of(mode, opening), b);
@@ -159,26 +161,22 @@ fn count_in(mode: u32, count: usize) -> usize
     if mode <= 1 { count } else { 65537 }
 }
 
-// The same where there is no count.
-fn judge_mode(mode: u32, writer: OpenAnswer) -> OpenAnswer
-    ensures { λ r. ⌜ saysOpen r ≡ ofMode mode (saysOpen writer) ⌝ }
+// ---- the causes of refusal of a call that hands out a state: the row has to hold it
+
+fn judge_new(error_bound: ErrorBound, mode: u32, words: usize) -> Verdict
+    ensures { λ r. ⌜ saysVerdict r ≡ verdict (newCauses «error_bound» mode words) ⌝ }
 {
-    match writer {
-        OpenAnswer::Refused(r) => OpenAnswer::Refused(r),
-        OpenAnswer::Opened(m) => {
-            if mode <= 1 {
-                OpenAnswer::Opened(m)
-            } else {
-                OpenAnswer::Refused(Refusal::OverLimit)
-            }
-        }
-    }
+    let short = models::when(Refusal::OutputTooShort, words < 10, Verdict::Passed);
+    let no_mode = models::when(Refusal::OverLimit, 1 < mode, short);
+    models::when(
+        Refusal::BoundNotAllowed,
+        !models::bound_allowed(error_bound),
+        no_mode,
+    )
 }
 
-// ---- a row for the answer
-
-// What is judged before the buffer is touched: with the call's own causes whether the row holds a state.
-fn judge_row(
+// What is judged before the buffer is touched.
+fn judge_reopen(
     error_bound: ErrorBound,
     room: usize,
     used: usize,
@@ -186,7 +184,7 @@ fn judge_row(
     k: usize,
     words: usize,
 ) -> Verdict
-    ensures { λ r. ⌜ saysVerdict r ≡ verdict (rowCauses «error_bound» room used count k words) ⌝ }
+    ensures { λ r. ⌜ saysVerdict r ≡ verdict (reopenCausesWith «error_bound» room used count k words) ⌝ }
 {
     match read::judge_reopen(error_bound, room, used, count, k) {
         Verdict::Refused(r) => Verdict::Refused(r),
@@ -196,15 +194,13 @@ fn judge_row(
 
 // The state's words to the front of the row, where there is one.
 fn put_opened(writer: OpenAnswer, state: &mut [u64]) -> u32
-    ensures number { λ r. ⌜ r ≡ openNumber (saysOpen writer) (now (state .entry)) ⌝ }
-    ensures row { λ r. ⌜ now (state .exit) ≡ openRow (saysOpen writer) (now (state .entry)) ⌝ }
+    requires { ⌜ 10 ≤ length (now state) ⌝ }
+    ensures number { λ r. ⌜ r ≡ numberIn (saysOpen writer) ⌝ }
+    ensures row { λ r. ⌜ now (state .exit) ≡ rowIn (now (state .entry)) (saysOpen writer) ⌝ }
 {
     match writer {
-        OpenAnswer::Refused(r) => exports::number_with(r, 10, state.len()),
+        OpenAnswer::Refused(r) => models::number_of(r),
         OpenAnswer::Opened(m) => {
-            if state.len() < 10 {
-                return 4;
-            }
             row::put_writer(state, m);
             0
         }

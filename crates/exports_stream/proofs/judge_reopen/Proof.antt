@@ -1,4 +1,4 @@
--- `exports_stream::judge_row` meets its contract: the causes of the call behind, then the row's. Assumes nothing.
+-- `exports_stream::judge_reopen` meets its contract: the causes of the call behind, then the row's. Assumes nothing.
 use borrow.Author.Needs.{needs}
 use mathlib.Core.Path.{_≡_, sym, ap, _∙_}
 use mathlib.Core.List.{[], _∷_}
@@ -8,8 +8,8 @@ use Rattle.models.specs.Calls.{saysVerdict}
 use Rattle.models.proofs.Judged.{refused-first, passed-first}
 use Rattle.macaque_v.specs.Read.{reopenCauses}
 use Rattle.exports_stream.specs.Row.{rowLength}
-use Rattle.exports_stream.proofs.judge_row.Statement.{statement}
-use Rattle.exports_stream.proofs.judge_row.Tie as tie
+use Rattle.exports_stream.proofs.judge_reopen.Statement.{statement}
+use Rattle.exports_stream.proofs.judge_reopen.Tie as tie
 
 judge-reopen-requires : tie.Need-judge-reopen-requires
 judge-reopen-requires c κs = search needs
@@ -39,7 +39,7 @@ returns-2 c =
     (passed-first (reopenCauses (a .error-bound) (a .room) (a .used) (a .count) (a .k)) (4 when ltb (a .words) rowLength ∷ [])
     (sym (c .before .before .before .judge-reopen .ensures) ∙ ap saysVerdict (c .before .enum-told .given .1)))
 
-pub judge-row-spec : {M : Type 1} → statement M
-judge-row-spec =
+pub judge-reopen-spec : {M : Type 1} → statement M
+judge-reopen-spec =
     tie.close
     (tie.spec judge-reopen-requires enum-known-r enum-told when-requires returns returns-2)
