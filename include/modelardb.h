@@ -51,8 +51,10 @@ uint32_t modelardb_maximum_allowed_deviation(uint32_t kind, uint32_t bound, uint
  *    4  the last value kept           9  the length: how many values are written
  *
  * Words 1 to 4 are bits of an f32; the least and the greatest value are 7FC00000 before any value, and a
- * Lossless bound's word 1 is written as 0. A row that stands for no state is refused with 2: a word of 2 to
- * 6 of more than 32 bits, a word 7 above 1, or a state that 01 does not allow.
+ * Lossless bound's word 1 is written as 0. A row may be used, else 2, if words 2 to 6 have at most 32 bits
+ * each, word 7 is 0 or 1, the place lies within the buffer, the length is at most 65,536 and is 0 exactly
+ * where the place is 0, and the window is 255 and 0 or, at length 1 or more, has at most 31 zero bits in all.
+ * A bound in words of more than 32 bits is refused with 1, as any that is not allowed.
  */
 
 /* state: a writer before any value. Refusals: 1; 3 (mode); 4 (a row under ten words). */
