@@ -1,9 +1,9 @@
--- `exports_stream::put_writer` meets its contract: the ten words are those of the state. Assumes nothing.
+-- `exports_stream::row::put_writer` meets its contract: the ten words are those of the state. Assumes nothing.
 use borrow.Author.Needs.{needs}
 use mathlib.Core.Path.{_≡_, sym, ap, ap₂, _∙_}
 use Rattle.exports_stream.specs.Row.{rowOf}
-use Rattle.exports_stream.proofs.put_writer.Statement.{statement}
-use Rattle.exports_stream.proofs.put_writer.Tie as tie
+use Rattle.exports_stream.proofs.row.put_writer.Statement.{statement}
+use Rattle.exports_stream.proofs.row.put_writer.Tie as tie
 
 kind-of-requires : tie.Need-kind-of-requires
 kind-of-requires c κs = search needs

@@ -1,4 +1,4 @@
--- `exports_stream::writer_of` meets its contract. Assumes nothing.
+-- `exports_stream::row::writer_of` meets its contract. Assumes nothing.
 use borrow.Author.Needs.{needs}
 use mathlib.Core.Path.{_≡_, sym, ap, ap₂, _∙_}
 use mathlib.Core.Bool.{true, false}
@@ -8,8 +8,8 @@ use lib.ListN.{getD}
 use Rattle.models.specs.declared.ErrorBound.{ErrorBound}
 use Rattle.exports_stream.specs.Row.{spoiled, standsForState}
 use Rattle.exports_stream.proofs.Words.{stateWith, no-state, a-state}
-use Rattle.exports_stream.proofs.writer_of.Statement.{statement}
-use Rattle.exports_stream.proofs.writer_of.Tie as tie
+use Rattle.exports_stream.proofs.row.writer_of.Statement.{statement}
+use Rattle.exports_stream.proofs.row.writer_of.Tie as tie
 
 shared-slice-read-bound-in : tie.Need-shared-slice-read-bound-in
 shared-slice-read-bound-in c = search needs

@@ -1,4 +1,4 @@
--- `exports_stream::bound_in` meets its contract. Assumes nothing.
+-- `exports_stream::row::bound_in` meets its contract. Assumes nothing.
 use borrow.Author.Needs.{needs}
 use mathlib.Core.Path.{_≡_, sym, ap, ap₂, _∙_}
 use mathlib.Core.Bool.{_&&_}
@@ -6,8 +6,8 @@ use lib.Ieee as Ieee
 use Rattle.exports.specs.Face.{boundOf}
 use Rattle.exports_stream.specs.Row.{boundIn}
 use Rattle.exports_stream.proofs.Words.{bound-small}
-use Rattle.exports_stream.proofs.bound_in.Statement.{statement}
-use Rattle.exports_stream.proofs.bound_in.Tie as tie
+use Rattle.exports_stream.proofs.row.bound_in.Statement.{statement}
+use Rattle.exports_stream.proofs.row.bound_in.Tie as tie
 
 is-small-requires : tie.Need-is-small-requires
 is-small-requires c κs = search needs

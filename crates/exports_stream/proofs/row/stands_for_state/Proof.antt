@@ -1,8 +1,8 @@
--- `exports_stream::stands_for_state` meets its contract, word by word. Assumes nothing.
+-- `exports_stream::row::stands_for_state` meets its contract, word by word. Assumes nothing.
 use borrow.Author.Needs.{needs}
 use Rattle.exports_stream.specs.Row.{standsForState}
-use Rattle.exports_stream.proofs.stands_for_state.Statement.{statement}
-use Rattle.exports_stream.proofs.stands_for_state.Tie as tie
+use Rattle.exports_stream.proofs.row.stands_for_state.Statement.{statement}
+use Rattle.exports_stream.proofs.row.stands_for_state.Tie as tie
 
 shared-slice-read-is-small : tie.Need-shared-slice-read-is-small
 shared-slice-read-is-small c = search needs

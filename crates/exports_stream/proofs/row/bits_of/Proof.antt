@@ -1,9 +1,9 @@
--- `exports_stream::bits_of` meets its contract, case by case. Assumes nothing.
+-- `exports_stream::row::bits_of` meets its contract, case by case. Assumes nothing.
 use borrow.Author.Needs.{needs}
 use mathlib.Core.Path.{sym, ap, _∙_}
 use Rattle.exports_stream.specs.Row.{bitsOf}
-use Rattle.exports_stream.proofs.bits_of.Statement.{statement}
-use Rattle.exports_stream.proofs.bits_of.Tie as tie
+use Rattle.exports_stream.proofs.row.bits_of.Statement.{statement}
+use Rattle.exports_stream.proofs.row.bits_of.Tie as tie
 
 enum-told : tie.Need-enum-told
 enum-told c = search needs
