@@ -74,12 +74,12 @@ rustsForSwing first last low high =
     let min = minBits first last in
     let max = maxBits first last in
     cond (lower low min)
-        (cond (lower max high)
-            (cond rises (Both min max) (Both max min))
-            (cond rises (Flagged 0 min) (Flagged 1 min)))
-        (cond (lower max high)
-            (cond rises (Flagged 2 max) (Flagged 3 max))
-            (cond rises Nothing (One 0)))
+    (cond (lower max high)
+    (cond rises (Both min max) (Both max min))
+    (cond rises (Flagged 0 min) (Flagged 1 min)))
+    (cond (lower max high)
+    (cond rises (Flagged 2 max) (Flagged 3 max))
+    (cond rises Nothing (One 0)))
 
 -- ---- what is written: "if the Rust's form, read against the finished minimum and maximum, doesn't give the model's parameters bit for bit (each NaN taken
 -- as 7FC00000 first), the 4 or 8 byte form is written"

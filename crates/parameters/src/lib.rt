@@ -61,7 +61,12 @@ pub fn encode_values_for_swing(
     ensures output { λ r. ⌜ now (out .exit) ≡ bytesAfter (formBytes (swingForm «first_value» «last_value» «residuals_min_value» «residuals_max_value»)) (now (out .entry)) ⌝ }
 {
     hand_out(
-        form_for_swing(first_value, last_value, residuals_min_value, residuals_max_value),
+        form_for_swing(
+            first_value,
+            last_value,
+            residuals_min_value,
+            residuals_max_value,
+        ),
         out,
     )
 }
@@ -91,13 +96,7 @@ pub fn form_for_pmc_mean(value: u32, residuals_min_value: u32, residuals_max_val
     let max = models::max_bits(v, residuals_max_value);
     match pmc_mean_in(form, min, max) {
         ValueAnswer::Refused(_) => Form::Value(v),
-        ValueAnswer::Answered(read) => {
-            if read == v {
-                form
-            } else {
-                Form::Value(v)
-            }
-        }
+        ValueAnswer::Answered(read) => { if read == v { form } else { Form::Value(v) } }
     }
 }
 

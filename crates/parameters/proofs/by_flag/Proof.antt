@@ -1,11 +1,9 @@
+-- `parameters::by_flag` meets its contract. Assumes nothing.
 use borrow.Author.Needs.{needs}
 use borrow.Author.Tests.{eq-eqb, ne-eqb}
 use Rattle.parameters.specs.Forms.{byFlag}
 use Rattle.parameters.proofs.by_flag.Statement.{statement}
 use Rattle.parameters.proofs.by_flag.Tie as tie
-use Rattle.parameters.proofs.by_flag.Reads as reads
-use Rattle.parameters.proofs.by_flag.Lts as lts
-use Rattle.parameters.proofs.ends.Reads as ends-reads
 
 ends-requires : tie.Need-ends-requires
 ends-requires c κs = search needs

@@ -1,3 +1,4 @@
+-- `parameters::decode_values_for_pmc_mean` meets its contract. Assumes nothing.
 use borrow.Author.Needs.{needs}
 use Rattle.parameters.specs.Forms.{pmcMeanIn}
 use Rattle.models.specs.Floats.{plain}
@@ -8,10 +9,6 @@ use borrow.Author.Tests.{eq-eqb, ne-eqb}
 use mathlib.Core.Path.{ap, _∙_}
 use Rattle.parameters.proofs.decode_values_for_pmc_mean.Statement.{statement}
 use Rattle.parameters.proofs.decode_values_for_pmc_mean.Tie as tie
-use Rattle.parameters.proofs.decode_values_for_pmc_mean.Reads as reads
-use Rattle.parameters.proofs.decode_values_for_pmc_mean.Lts as lts
-use Rattle.models.proofs.plain.Reads as plain-reads
-use Rattle.parameters.proofs.value_at.Reads as value-at-reads
 
 plain-requires : tie.Need-plain-requires
 plain-requires c κs = search needs

@@ -1,18 +1,11 @@
+-- `parameters::decode_values_for_swing` meets its contract. Assumes nothing.
 use borrow.Author.Needs.{needs}
 use Rattle.parameters.specs.Forms.{swingIn}
-use Rattle.models.specs.Floats.{plain}
-use Rattle.models.specs.Answers.{answered}
 use denote.Ref.{now}
 use lib.ListN.{length}
 use borrow.Author.Tests.{eq-eqb, ne-eqb}
-use mathlib.Core.Path.{ap, _∙_}
 use Rattle.parameters.proofs.decode_values_for_swing.Statement.{statement}
 use Rattle.parameters.proofs.decode_values_for_swing.Tie as tie
-use Rattle.parameters.proofs.decode_values_for_swing.Reads as reads
-use Rattle.parameters.proofs.decode_values_for_swing.Lts as lts
-use Rattle.parameters.proofs.by_flag.Reads as by-flag-reads
-use Rattle.parameters.proofs.ends.Reads as ends-reads
-use Rattle.parameters.proofs.value_at.Reads as value-at-reads
 
 ends-requires : tie.Need-ends-requires
 ends-requires c κs = search needs

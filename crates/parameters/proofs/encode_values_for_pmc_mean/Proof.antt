@@ -1,10 +1,7 @@
+-- `parameters::encode_values_for_pmc_mean` meets its contract. Assumes nothing.
 use borrow.Author.Needs.{needs}
 use Rattle.parameters.proofs.encode_values_for_pmc_mean.Statement.{statement}
 use Rattle.parameters.proofs.encode_values_for_pmc_mean.Tie as tie
-use Rattle.parameters.proofs.encode_values_for_pmc_mean.Reads as reads
-use Rattle.parameters.proofs.encode_values_for_pmc_mean.Lts as lts
-use Rattle.parameters.proofs.form_for_pmc_mean.Reads as form-for-pmc-mean-reads
-use Rattle.parameters.proofs.hand_out.Reads as hand-out-reads
 
 form-for-pmc-mean-requires : tie.Need-form-for-pmc-mean-requires
 form-for-pmc-mean-requires c κs = search needs

@@ -1,10 +1,7 @@
+-- `parameters::encode_values_for_swing` meets its contract. Assumes nothing.
 use borrow.Author.Needs.{needs}
 use Rattle.parameters.proofs.encode_values_for_swing.Statement.{statement}
 use Rattle.parameters.proofs.encode_values_for_swing.Tie as tie
-use Rattle.parameters.proofs.encode_values_for_swing.Reads as reads
-use Rattle.parameters.proofs.encode_values_for_swing.Lts as lts
-use Rattle.parameters.proofs.form_for_swing.Reads as form-for-swing-reads
-use Rattle.parameters.proofs.hand_out.Reads as hand-out-reads
 
 form-for-swing-requires : tie.Need-form-for-swing-requires
 form-for-swing-requires c κs = search needs

@@ -1,9 +1,7 @@
+-- `parameters::ends` meets its contract. Assumes nothing.
 use borrow.Author.Needs.{needs}
 use Rattle.parameters.proofs.ends.Statement.{statement}
 use Rattle.parameters.proofs.ends.Tie as tie
-use Rattle.parameters.proofs.ends.Reads as reads
-use Rattle.parameters.proofs.ends.Lts as lts
-use Rattle.models.proofs.plain.Reads as plain-reads
 
 plain-requires : tie.Need-plain-requires
 plain-requires c κs = search needs

@@ -1,15 +1,9 @@
+-- `parameters::form_for_pmc_mean` meets its contract. Assumes nothing.
 use borrow.Author.Needs.{needs}
 use Rattle.parameters.specs.Forms.{pmcMeanForm}
 use borrow.Author.Tests.{eq-eqb, ne-eqb}
 use Rattle.parameters.proofs.form_for_pmc_mean.Statement.{statement}
 use Rattle.parameters.proofs.form_for_pmc_mean.Tie as tie
-use Rattle.parameters.proofs.form_for_pmc_mean.Reads as reads
-use Rattle.parameters.proofs.form_for_pmc_mean.Lts as lts
-use Rattle.models.proofs.max_bits.Reads as max-bits-reads
-use Rattle.models.proofs.min_bits.Reads as min-bits-reads
-use Rattle.models.proofs.plain.Reads as plain-reads
-use Rattle.parameters.proofs.pmc_mean_in.Reads as pmc-mean-in-reads
-use Rattle.parameters.proofs.rusts_for_pmc_mean.Reads as rusts-for-pmc-mean-reads
 
 plain-requires : tie.Need-plain-requires
 plain-requires c κs = search needs

@@ -1,15 +1,8 @@
+-- `parameters::form_for_swing` meets its contract. Assumes nothing.
 use borrow.Author.Needs.{needs}
 use Rattle.parameters.specs.Forms.{swingForm}
-use borrow.Author.Tests.{eq-eqb, ne-eqb}
 use Rattle.parameters.proofs.form_for_swing.Statement.{statement}
 use Rattle.parameters.proofs.form_for_swing.Tie as tie
-use Rattle.parameters.proofs.form_for_swing.Reads as reads
-use Rattle.parameters.proofs.form_for_swing.Lts as lts
-use Rattle.models.proofs.max_bits.Reads as max-bits-reads
-use Rattle.models.proofs.min_bits.Reads as min-bits-reads
-use Rattle.models.proofs.plain.Reads as plain-reads
-use Rattle.parameters.proofs.rusts_for_swing.Reads as rusts-for-swing-reads
-use Rattle.parameters.proofs.swing_in.Reads as swing-in-reads
 
 plain-requires : tie.Need-plain-requires
 plain-requires c κs = search needs

@@ -1,3 +1,4 @@
+-- `parameters::hand_out` meets its contract. Assumes nothing.
 use borrow.Author.Needs.{needs}
 use Rattle.parameters.specs.Calls.{lengthAnswer, bytesAfter}
 use Rattle.parameters.specs.Forms.{formBytes}
@@ -9,10 +10,6 @@ use native.Mathlib.Omega.{arith}
 use mathlib.Core.Path.{refl, ap}
 use Rattle.parameters.proofs.hand_out.Statement.{statement}
 use Rattle.parameters.proofs.hand_out.Tie as tie
-use Rattle.parameters.proofs.hand_out.Reads as reads
-use Rattle.parameters.proofs.hand_out.Lts as lts
-use Rattle.parameters.proofs.length_of.Reads as length-of-reads
-use Rattle.parameters.proofs.put.Reads as put-reads
 
 length-of-requires : tie.Need-length-of-requires
 length-of-requires c κs = search needs

@@ -1,9 +1,7 @@
+-- `parameters::is_lower` meets its contract. Assumes nothing.
 use borrow.Author.Needs.{needs}
 use Rattle.parameters.proofs.is_lower.Statement.{statement}
 use Rattle.parameters.proofs.is_lower.Tie as tie
-use Rattle.parameters.proofs.is_lower.Reads as reads
-use Rattle.parameters.proofs.is_lower.Lts as lts
-use Rattle.numbers.proofs.value_of_f32.Reads as value-of-f32-reads
 
 value-of-f32-requires : tie.Need-value-of-f32-requires
 value-of-f32-requires c κs = search needs

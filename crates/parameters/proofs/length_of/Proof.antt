@@ -1,9 +1,8 @@
+-- `parameters::length_of` meets its contract. Assumes nothing.
 use borrow.Author.Needs.{needs}
 use Rattle.parameters.specs.Bytes.{littleEndian}
 use Rattle.parameters.proofs.length_of.Statement.{statement}
 use Rattle.parameters.proofs.length_of.Tie as tie
-use Rattle.parameters.proofs.length_of.Reads as reads
-use Rattle.parameters.proofs.length_of.Lts as lts
 
 enum-told : tie.Need-enum-told
 enum-told c = search needs

@@ -1,3 +1,4 @@
+-- `parameters::pmc_mean_in` meets its contract. Assumes nothing.
 use borrow.Author.Needs.{needs}
 use Rattle.parameters.proofs.Read.{value-read}
 use native.Mathlib.Omega.{arith}
@@ -6,9 +7,6 @@ use Rattle.parameters.specs.Bytes.{littleEndian}
 use Rattle.parameters.specs.Forms.{pmcMeanIn}
 use Rattle.parameters.proofs.pmc_mean_in.Statement.{statement}
 use Rattle.parameters.proofs.pmc_mean_in.Tie as tie
-use Rattle.parameters.proofs.pmc_mean_in.Reads as reads
-use Rattle.parameters.proofs.pmc_mean_in.Lts as lts
-use Rattle.models.proofs.plain.Reads as plain-reads
 
 enum-told : tie.Need-enum-told
 enum-told c = search needs

@@ -1,12 +1,8 @@
+-- `parameters::put` meets its contract. Assumes nothing.
 use borrow.Author.Needs.{needs}
 use mathlib.Core.Path.{_∙_}
 use Rattle.parameters.proofs.put.Statement.{statement}
 use Rattle.parameters.proofs.put.Tie as tie
-use Rattle.parameters.proofs.put.Reads as reads
-use Rattle.parameters.proofs.put.Lts as lts
-use Rattle.parameters.proofs.length_of.Reads as length-of-reads
-use Rattle.parameters.proofs.put_bytes.Reads as put-bytes-reads
-use Rattle.parameters.proofs.word_of.Reads as word-of-reads
 
 word-of-requires : tie.Need-word-of-requires
 word-of-requires c κs = search needs

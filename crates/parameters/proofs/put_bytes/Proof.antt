@@ -49,7 +49,7 @@ loop-again c =
     let l = c .before .loop in
     let bytes : List ℕ = littleEndian (a .n) (a .word) in
     let byte : l .rest % 256 ≡ getD bytes (l .i) 0 =
-        ap (λ (k : ℕ). k % 256) (l .inv .2) ∙ sym (byte-at (a .n) (l .i) (a .word) (omega arith)) in (
+    ap (λ (k : ℕ). k % 256) (l .inv .2) ∙ sym (byte-at (a .n) (l .i) (a .word) (omega arith)) in (
       omega arith,
       l .inv .1,
       ap (λ (k : ℕ). k / 256) (l .inv .2) ∙ sym (after-suc (l .i) (a .word)) ∙ ap (λ (k : ℕ). after k (a .word)) (sym (add-one (l .i))),

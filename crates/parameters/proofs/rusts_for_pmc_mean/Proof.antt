@@ -1,11 +1,8 @@
+-- `parameters::rusts_for_pmc_mean` meets its contract. Assumes nothing.
 use borrow.Author.Needs.{needs}
 use Rattle.parameters.specs.Forms.{rustsForPmcMean}
 use Rattle.parameters.proofs.rusts_for_pmc_mean.Statement.{statement}
 use Rattle.parameters.proofs.rusts_for_pmc_mean.Tie as tie
-use Rattle.parameters.proofs.rusts_for_pmc_mean.Reads as reads
-use Rattle.parameters.proofs.rusts_for_pmc_mean.Lts as lts
-use Rattle.numbers.proofs.value_of_f32.Reads as value-of-f32-reads
-use Rattle.parameters.proofs.is_lower.Reads as is-lower-reads
 
 is-lower-requires : tie.Need-is-lower-requires
 is-lower-requires c κs = search needs

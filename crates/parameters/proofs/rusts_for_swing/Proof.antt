@@ -1,12 +1,8 @@
+-- `parameters::rusts_for_swing` meets its contract. Assumes nothing.
 use borrow.Author.Needs.{needs}
 use Rattle.parameters.specs.Forms.{rustsForSwing}
 use Rattle.parameters.proofs.rusts_for_swing.Statement.{statement}
 use Rattle.parameters.proofs.rusts_for_swing.Tie as tie
-use Rattle.parameters.proofs.rusts_for_swing.Reads as reads
-use Rattle.parameters.proofs.rusts_for_swing.Lts as lts
-use Rattle.models.proofs.max_bits.Reads as max-bits-reads
-use Rattle.models.proofs.min_bits.Reads as min-bits-reads
-use Rattle.parameters.proofs.is_lower.Reads as is-lower-reads
 
 is-lower-requires : tie.Need-is-lower-requires
 is-lower-requires c κs = search needs

@@ -1,3 +1,4 @@
+-- `parameters::swing_in` meets its contract. Assumes nothing.
 use borrow.Author.Needs.{needs}
 use Rattle.parameters.specs.Bytes.{littleEndian}
 use Rattle.parameters.proofs.Read.{flagged-read, both-read}
@@ -6,10 +7,6 @@ use native.Mathlib.Omega.{arith}
 use mathlib.Core.Path.{sym, _∙_}
 use Rattle.parameters.proofs.swing_in.Statement.{statement}
 use Rattle.parameters.proofs.swing_in.Tie as tie
-use Rattle.parameters.proofs.swing_in.Reads as reads
-use Rattle.parameters.proofs.swing_in.Lts as lts
-use Rattle.parameters.proofs.by_flag.Reads as by-flag-reads
-use Rattle.parameters.proofs.ends.Reads as ends-reads
 
 enum-told : tie.Need-enum-told
 enum-told c = search needs

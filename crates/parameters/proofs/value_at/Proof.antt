@@ -1,11 +1,9 @@
+-- `parameters::value_at` meets its contract. Assumes nothing.
 use borrow.Author.Needs.{needs}
 use Rattle.parameters.proofs.Bytes.{four-bytes}
 use mathlib.Core.Path.{_∙_}
 use Rattle.parameters.proofs.value_at.Statement.{statement}
 use Rattle.parameters.proofs.value_at.Tie as tie
-use Rattle.parameters.proofs.value_at.Reads as reads
-use Rattle.parameters.proofs.value_at.Lts as lts
-use Rattle.parameters.proofs.joined.Reads as joined-reads
 
 shared-slice-read-joined : tie.Need-shared-slice-read-joined
 shared-slice-read-joined c = search needs

@@ -1,3 +1,4 @@
+-- `parameters::word_of` meets its contract. Assumes nothing.
 use borrow.Author.Needs.{needs}
 use Rattle.parameters.proofs.Bytes.{byte-first, two-parts}
 use Rattle.parameters.specs.Bytes.{littleEndian}
@@ -8,8 +9,6 @@ use mathlib.Core.List.{[], _∷_}
 use mathlib.Core.Path.{ap}
 use Rattle.parameters.proofs.word_of.Statement.{statement}
 use Rattle.parameters.proofs.word_of.Tie as tie
-use Rattle.parameters.proofs.word_of.Reads as reads
-use Rattle.parameters.proofs.word_of.Lts as lts
 
 enum-told : tie.Need-enum-told
 enum-told c = search needs
