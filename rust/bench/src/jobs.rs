@@ -4,6 +4,10 @@ use crate::series::VALUES;
 use modelardb_rattle::{self as library, MacaqueV, Opening};
 use oracle::paper::models::ErrorBound;
 use oracle::rust::Direct;
+use std::ops::Range;
+
+/// How many lists a part has: they divide [`crate::series::STREAMS`].
+const PART: usize = 250;
 
 /// What is timed.
 #[derive(Clone, Copy, PartialEq)]
@@ -11,16 +15,6 @@ pub enum Job {
     Written,
     Read,
     Summed,
-}
-
-impl Job {
-    pub fn name(self) -> &'static str {
-        match self {
-            Job::Written => "written",
-            Job::Read => "read",
-            Job::Summed => "summed",
-        }
-    }
 }
 
 /// What a job is done on: lists of values, the bound, and the streams that the library makes of them.
@@ -39,6 +33,12 @@ impl<'a> Lists<'a> {
             streams: streams.collect(),
         }
     }
+
+    /// The lists in parts that take a few milliseconds.
+    pub fn parts(&self) -> Vec<Range<usize>> {
+        let starts = (0..self.rooms.len()).step_by(PART);
+        starts.map(|start| start..start + PART).collect()
+    }
 }
 
 /// What a job makes of one list or stream.
@@ -49,23 +49,29 @@ pub enum Made<'a> {
     Sum(f32),
 }
 
-/// Does a job on every list or stream; each result goes to `take`.
-pub fn run(side: &dyn Side, job: Job, lists: &Lists, take: &mut dyn FnMut(Made)) {
+/// Does a job on a part of the lists or streams; each result goes to `take`.
+pub fn run(
+    side: &dyn Side,
+    job: Job,
+    lists: &Lists,
+    part: Range<usize>,
+    take: &mut dyn FnMut(Made),
+) {
     let mut out = vec![0.0; VALUES];
     match job {
         Job::Written => {
-            for values in lists.rooms {
+            for values in &lists.rooms[part] {
                 take(Made::Bytes(&side.write(lists.bound, values)));
             }
         }
         Job::Read => {
-            for bytes in &lists.streams {
+            for bytes in &lists.streams[part] {
                 side.read(bytes, &mut out);
                 take(Made::Values(&out));
             }
         }
         Job::Summed => {
-            for bytes in &lists.streams {
+            for bytes in &lists.streams[part] {
                 take(Made::Sum(side.sum(bytes)));
             }
         }
@@ -75,7 +81,7 @@ pub fn run(side: &dyn Side, job: Job, lists: &Lists, take: &mut dyn FnMut(Made))
 /// All that a job makes, in bytes.
 pub fn results(side: &dyn Side, job: Job, lists: &Lists) -> Vec<Vec<u8>> {
     let mut all = vec![];
-    run(side, job, lists, &mut |made| {
+    run(side, job, lists, 0..lists.rooms.len(), &mut |made| {
         all.push(match made {
             Made::Bytes(bytes) => bytes.to_vec(),
             Made::Values(values) => values.iter().flat_map(|v| v.to_le_bytes()).collect(),
