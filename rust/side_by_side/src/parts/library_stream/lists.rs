@@ -39,7 +39,7 @@ pub fn lists(context: &mut Context) {
             every_way(context, bound, opening, &values);
         }
     }
-    for _ in 0..context.rounds(1_500) {
+    for _ in 0..context.rounds(4_000) {
         let most = context.inputs.pick(&[8, 64, 1000]);
         let count = context.inputs.below(most + 1) as usize;
         let values = context.inputs.values(count);
@@ -139,7 +139,9 @@ fn just_enough(context: &mut Context, stream: &Stream) {
 fn in_pieces(context: &mut Context, stream: &Stream) {
     let (mut row, mut buffer) = (stream.fresh.clone(), vec![0xFF; stream.bytes.len()]);
     let mut rest = &stream.values[..];
-    let most = context.inputs.pick(&[1, 8, 1 + stream.values.len() / 2]) as u64;
+    let count = stream.count() as u64;
+    // A long list goes in pieces that are not too many: each is compared with all that is lent.
+    let most = context.inputs.pick(&[1, 8, 1 + count / 2]) + count / 1000;
     while !rest.is_empty() {
         let length = context.inputs.below(most + 2).min(rest.len() as u64);
         let (piece, others) = rest.split_at(length as usize);
