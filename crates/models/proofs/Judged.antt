@@ -1,15 +1,20 @@
 -- What a verdict on a call's causes tells of all that the call judges by them: its answer, the state, lent memory. Assumes nothing.
 use mathlib.Core.Path.{_≡_, refl, sym, ap, _∙_}
-use mathlib.Core.Bool.{Bool, true, false, cond}
+use mathlib.Core.Bool.{Bool, true, false, cond, _&&_}
 use mathlib.Core.List.{List, [], _∷_, _++_}
-use Prim.Native.Nat.{ℕ}
+use Prim.Native.Nat.{ℕ, _≤_}
 use native.Mathlib.Omega.{arith}
+use borrow.Author.Tests.{leb-true, eqb-false, not-false}
+use lib.Dec.{leb}
 use Rattle.models.specs.Answers.{Said, Done, answered, refused, SaidOn, answeredOn, refusedOn, Cause, _when_, judge, verdict, Stepped, stateAfter, judgedOn}
 use Rattle.models.specs.Refusals.{number}
+use Rattle.models.specs.Causes.{stepCauses, modelCauses, costCauses}
 use Rattle.models.specs.Calls.{saysVerdict}
+use Rattle.models.specs.declared.ErrorBound.{ErrorBound}
 use Rattle.models.specs.declared.Refusal.{Refusal}
 use Rattle.models.specs.declared.Verdict.{Verdict}
 use Rattle.models.specs.declared.Verdict.the-variants.{Passed, Refused}
+use Rattle.models.proofs.Laws.{and-right}
 
 -- every cause of a list fails
 abbrev pub NoneHolds : List Cause → Type 0
@@ -76,6 +81,19 @@ module _ (causes : List Cause) (v : Verdict) (says : saysVerdict v ≡ verdict c
 
   pub when-refused : {X : Type 0} (refuse : ℕ → X) (x : X) (r : Refusal) → v ≡ Refused r → refuse (number r) ≡ judge refuse causes x
   when-refused refuse x r e = turned-back refuse x causes (number r) (sym says ∙ ap saysVerdict e)
+
+-- ---- what the calls on a model's state judge, where nothing refuses them: its bound b, whether it may be used, its length n
+module _ (b : ErrorBound) (usable : Bool) (n : ℕ) where
+  pub steps : (later : List Cause) → NoneHolds (stepCauses b usable n later) → (usable ≡ true) × (n ≡ 65536 → ⊥) × NoneHolds later
+  steps later none = (not-false usable (none .1 .0), eqb-false n 65536 (none .1 .1 .0), none .1 .1 .1)
+
+  pub has-model : NoneHolds (modelCauses b usable n) → (usable ≡ true) × (n ≡ 0 → ⊥)
+  has-model none = (not-false usable (none .1 .0), eqb-false n 0 (none .1 .1 .0))
+
+  pub has-cost : (m : ℕ) → NoneHolds (costCauses b usable n m) → (usable ≡ true) × (n ≡ 0 → ⊥) × (m ≤ 65535)
+  has-cost m none =
+      let size = not-false (leb 1 m && leb m 65535) (none .1 .1 .0) in
+      (not-false usable (none .1 .0), eqb-false n 0 (none .1 .1 .1 .0), leb-true m 65535 (and-right (leb 1 m) (leb m 65535) size))
 
 -- ---- what a state has, and has after a step that nothing refuses, it has after the call
 module _ {S : Type 0} (P : S → Type 0) where

@@ -1,9 +1,10 @@
 -- The number that 01, "Refusal numbers", gives to each cause, and the result that is told from what was said of it.
 use mathlib.Core.Path.{_≡_, refl}
+use mathlib.Core.Bool.{cond}
 use mathlib.Core.List.{List, [], _∷_}
 use Prim.Native.Nat.{ℕ, _-_}
 use lib.ListN.{getD}
-use Rattle.models.specs.Answers.{Said, answered, refused, SaidOn, answeredOn, refusedOn, Injective, told-apart}
+use Rattle.models.specs.Answers.{Said, answered, refused, SaidOn, answeredOn, refusedOn, Stepped, Injective, told-apart}
 use Rattle.models.specs.declared.Refusal.{Refusal}
 use Rattle.models.specs.declared.Refusal.the-variants.{BoundNotAllowed, StateNotAllowed, OverLimit, OutputTooShort, EndsEarly, NoWindow, WindowNotAllowed, Leftover, FormNotAllowed, TimesNotAllowed, NoModel, CountsDisagree}
 
@@ -67,3 +68,8 @@ unsaid answer refuse (refused n) = refuse (numbered n)
 abbrev pub unsaidOn : {S A R : Type 0} → (A → R) → (Refusal → S → R) → SaidOn S A → R
 unsaidOn answer refuse (answeredOn a) = answer a
 unsaidOn answer refuse (refusedOn n s) = refuse (numbered n) s
+
+-- back from what is said of a step
+abbrev pub unsaidStep : {S R : Type 0} → (S → R) → (S → R) → (Refusal → S → R) → SaidOn S (Stepped S) → R
+unsaidStep fits fails refuse (answeredOn t) = cond (t .fits) (fits (t .state)) (fails (t .state))
+unsaidStep fits fails refuse (refusedOn n s) = refuse (numbered n) s

@@ -5,10 +5,11 @@ use mathlib.Core.Bool.{true}
 use mathlib.Core.List.{List, _++_, foldl-append}
 use Prim.Native.Nat.{ℕ, _+_, _≤_, _<_}
 use native.Mathlib.Omega.{arith}
-use borrow.Author.Tests.{leb-true, le-leb, eqb-false, not-false}
+use borrow.Author.Tests.{leb-true, le-leb, eqb-false, ne-eqb, not-false}
 use lib.ListN.{length}
 use lib.Ieee.{binary32, ofBits}
-use Rattle.models.proofs.Judged.{after-judging, after-test}
+use Rattle.models.specs.Bound.{boundAllowed}
+use Rattle.models.proofs.Judged.{NoneHolds, after-judging, after-test}
 use Rattle.models.proofs.Folds.{steps-keep, steps-raise}
 use Rattle.models.specs.declared.ErrorBound.{ErrorBound}
 use Rattle.pmc_mean.specs.State.{fresh, usable, taken, fits, tried}
@@ -49,3 +50,10 @@ one-more s value = kept (λ (t : PMCMean). t .length ≤ s .length + 1) s value 
 pub run-length : (b : ErrorBound) (values : List ℕ) → run (fresh b) values .length ≤ length values
 unfolding fresh
 run-length b values = omega (arith, steps-raise next (λ (s : PMCMean). s .length) one-more (fresh b) values)
+
+-- a step on it is refused by nothing but a full state
+pub run-steps : (b : ErrorBound) (values : List ℕ) → boundAllowed b ≡ true → run (fresh b) values .length < 65536 → NoneHolds (fitCauses (run (fresh b) values))
+unfolding fresh
+run-steps b values allowed room =
+    let s = run (fresh b) values in
+    (rw (run-bound (fresh b) values, allowed), (rw (run-usable b values), (ne-eqb (s .length) 65536 (λ e. absurd (omega arith)), tt)))

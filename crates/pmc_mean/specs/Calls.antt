@@ -1,14 +1,14 @@
 -- What the calls on a state say and answer: for each, its causes of refusal in 01's order, the answer, and the law that its results are told apart.
 use mathlib.Core.Path.{_≡_, refl, ap}
-use mathlib.Core.Bool.{cond, not}
+use mathlib.Core.Bool.{not}
 use mathlib.Core.List.{List, [], _∷_}
 use Prim.Native.Nat.{ℕ}
-use lib.Dec.{eqb}
 use lib.Ieee.{Float, binary32, ofBits, toBits}
 use Rattle.models.specs.Answers.{Said, answered, refused, SaidOn, answeredOn, refusedOn, Stepped, fitting, failing, Cause, _when_, judged, judgedOn, Injective, told-apart}
-use Rattle.models.specs.Refusals.{number, numbered-number, unsaid, unsaidOn}
+use Rattle.models.specs.Refusals.{number, numbered-number, unsaid, unsaidOn, unsaidStep}
 use Rattle.models.specs.Bound.{boundAllowed}
-use Rattle.models.specs.Limits.{mostValues, metadataAllowed, cost}
+use Rattle.models.specs.Limits.{cost}
+use Rattle.models.specs.Causes as Shared
 use Rattle.models.specs.declared.ErrorBound.{ErrorBound}
 use Rattle.pmc_mean.specs.State.{fresh, usable, average, tried}
 use Rattle.pmc_mean.specs.declared.PMCMean.{PMCMean}
@@ -43,25 +43,18 @@ saysFit (OfFit.NoFit s) = answeredOn (failing s)
 saysFit (OfFit.Refused r s) = refusedOn (number r) s
 
 abbrev pub fitCauses : PMCMean → List Cause
-fitCauses s =
-    1 when not (boundAllowed (s .«error_bound»))
-    ∷ 2 when not (usable s)
-    ∷ 3 when eqb (s .length) mostValues
-    ∷ []
+fitCauses s = Shared.stepCauses (s .«error_bound») (usable s) (s .length) []
 
 unfoldable pub fitAnswer : PMCMean → ℕ → SaidOn PMCMean (Stepped PMCMean)
 fitAnswer s value = judgedOn s (fitCauses s) (tried s (ofBits binary32 value))
 
-abbrev step-back : Stepped PMCMean → FitAnswer
-step-back t = cond (t .fits) (OfFit.Fits (t .state)) (OfFit.NoFit (t .state))
-
-fit-told : (r : FitAnswer) → unsaidOn step-back OfFit.Refused (saysFit r) ≡ r
+fit-told : (r : FitAnswer) → unsaidStep OfFit.Fits OfFit.NoFit OfFit.Refused (saysFit r) ≡ r
 fit-told (OfFit.Fits s) = refl
 fit-told (OfFit.NoFit s) = refl
 fit-told (OfFit.Refused r s) = rw (numbered-number r)
 
 pub saysFit-injective : Injective saysFit
-saysFit-injective = told-apart saysFit (unsaidOn step-back OfFit.Refused) fit-told
+saysFit-injective = told-apart saysFit (unsaidStep OfFit.Fits OfFit.NoFit OfFit.Refused) fit-told
 
 -- ---- PMCMean::bytes_per_value, with metadata of m bytes
 abbrev pub saysCost : CostAnswer → SaidOn PMCMean Float
@@ -69,12 +62,7 @@ saysCost (OfCost.Answered x) = answeredOn x
 saysCost (OfCost.Refused r s) = refusedOn (number r) s
 
 abbrev pub costCauses : PMCMean → ℕ → List Cause
-costCauses s m =
-    1 when not (boundAllowed (s .«error_bound»))
-    ∷ 2 when not (usable s)
-    ∷ 3 when not (metadataAllowed m)
-    ∷ 11 when eqb (s .length) 0
-    ∷ []
+costCauses s m = Shared.costCauses (s .«error_bound») (usable s) (s .length) m
 
 unfoldable pub costAnswer : PMCMean → ℕ → SaidOn PMCMean Float
 costAnswer s m = judgedOn s (costCauses s m) (cost m (s .length))
@@ -92,11 +80,7 @@ saysModel (OfModel.Answered bits) = answeredOn bits
 saysModel (OfModel.Refused r s) = refusedOn (number r) s
 
 abbrev pub modelCauses : PMCMean → List Cause
-modelCauses s =
-    1 when not (boundAllowed (s .«error_bound»))
-    ∷ 2 when not (usable s)
-    ∷ 11 when eqb (s .length) 0
-    ∷ []
+modelCauses s = Shared.modelCauses (s .«error_bound») (usable s) (s .length)
 
 unfoldable pub modelAnswer : PMCMean → SaidOn PMCMean ℕ
 modelAnswer s = judgedOn s (modelCauses s) (toBits binary32 (average s))

@@ -12,6 +12,7 @@ use Rattle.models.specs.Bound.{within}
 use Rattle.models.specs.Limits.{mostValues}
 use Rattle.models.specs.declared.ErrorBound.{ErrorBound}
 use Rattle.pmc_mean.specs.declared.PMCMean.{PMCMean}
+use Rattle.pmc_mean.specs.declared.Tried.{Tried}
 
 -- before any value: the minimum and the maximum are NaN, the sum is +0
 unfoldable pub fresh : ErrorBound → PMCMean
@@ -41,6 +42,10 @@ unfoldable pub fits : PMCMean → Bool
 fits s =
     within (s .«error_bound») (s .«min_value») (average s)
     && within (s .«error_bound») (s .«max_value») (average s)
+
+-- what the code of a step gives, in the paper's terms
+abbrev pub stepOf : Tried → Stepped PMCMean
+stepOf t = record { fits = t .fits; state = t .state }
 
 -- "a failed fit changes nothing"
 unfoldable pub tried : PMCMean → Float → Stepped PMCMean

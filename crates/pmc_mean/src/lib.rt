@@ -9,10 +9,10 @@ use models::Verdict;
 ghost use mathlib.Core.Path.{_≡_};
 ghost use Prim.Native.Nat.{_<_, _≤_};
 ghost use lib.ListN.{length};
-ghost use Rattle.models.specs.Answers.{answeredOn, verdict};
+ghost use Rattle.models.specs.Answers.{verdict};
 ghost use Rattle.models.specs.Calls.{saysVerdict, saysValue, saysGrid};
-ghost use Rattle.pmc_mean.specs.State.{usable, taken, average, fits, tried};
-ghost use Rattle.pmc_mean.specs.Calls.{saysNew, newAnswer, fitCauses, saysFit, fitAnswer, costCauses, saysCost, costAnswer, modelCauses, saysModel, modelAnswer};
+ghost use Rattle.pmc_mean.specs.State.{usable, taken, average, fits, stepOf, tried};
+ghost use Rattle.pmc_mean.specs.Calls.{saysNew, newAnswer, fitCauses, saysFit, fitAnswer, saysCost, costAnswer, saysModel, modelAnswer};
 ghost use Rattle.pmc_mean.specs.Grid.{sumAnswer, gridCauses, filled, gridMemory};
 
 pub struct PMCMean {
@@ -23,6 +23,12 @@ pub struct PMCMean {
     pub sum_of_values: f64,
     // How many values the model stands for.
     pub length: usize,
+}
+
+// What a step that nothing refuses gives: whether the value fits, and the state after it.
+pub struct Tried {
+    pub fits: bool,
+    pub state: PMCMean,
 }
 
 // ---- answers: a refusal hands back the state passed in
@@ -76,7 +82,15 @@ impl PMCMean {
     {
         match self.judge_fit() {
             Verdict::Refused(r) => FitAnswer::Refused(r, self),
-            Verdict::Passed => self.tried(numbers::value_of_f32(value)),
+            Verdict::Passed => {
+                let t = self.tried(numbers::value_of_f32(value));
+                let s = t.state;
+                if t.fits {
+                    FitAnswer::Fits(s)
+                } else {
+                    FitAnswer::NoFit(s)
+                }
+            }
         }
     }
 
@@ -91,7 +105,8 @@ impl PMCMean {
     pub fn bytes_per_value(self, m: usize) -> CostAnswer
         ensures { λ r. ⌜ saysCost r ≡ costAnswer self m ⌝ }
     {
-        match self.judge_cost(m) {
+        let b = self.error_bound;
+        match models::judge_cost(b, self.usable(), self.length, m) {
             Verdict::Refused(r) => CostAnswer::Refused(r, self),
             Verdict::Passed => CostAnswer::Answered(models::cost(m, self.length)),
         }
@@ -101,13 +116,14 @@ impl PMCMean {
     pub fn model(self) -> ModelAnswer
         ensures { λ r. ⌜ saysModel r ≡ modelAnswer self ⌝ }
     {
-        match self.judge_model() {
+        let b = self.error_bound;
+        match models::judge_model(b, self.usable(), self.length) {
             Verdict::Refused(r) => ModelAnswer::Refused(r, self),
             Verdict::Passed => ModelAnswer::Answered(numbers::bits_of_f32(self.average())),
         }
     }
 
-    // ---- the causes of refusal, the last of them first
+    // ---- the causes of refusal
 
     // Whether a call may use the state.
     pub fn usable(self) -> bool
@@ -120,45 +136,27 @@ impl PMCMean {
         ensures { λ r. ⌜ saysVerdict r ≡ verdict (fitCauses self) ⌝ }
     {
         let b = self.error_bound;
-        let n = self.length;
-        let full = models::when(Refusal::OverLimit, n == 65536, Verdict::Passed);
-        let state = models::when(Refusal::StateNotAllowed, !self.usable(), full);
-        models::when(Refusal::BoundNotAllowed, !models::bound_allowed(b), state)
-    }
-
-    fn judge_cost(self, m: usize) -> Verdict
-        ensures { λ r. ⌜ saysVerdict r ≡ verdict (costCauses self m) ⌝ }
-    {
-        let b = self.error_bound;
-        let n = self.length;
-        let none = models::when(Refusal::NoModel, n == 0, Verdict::Passed);
-        let size = models::when(Refusal::OverLimit, !models::metadata_allowed(m), none);
-        let state = models::when(Refusal::StateNotAllowed, !self.usable(), size);
-        models::when(Refusal::BoundNotAllowed, !models::bound_allowed(b), state)
-    }
-
-    fn judge_model(self) -> Verdict
-        ensures { λ r. ⌜ saysVerdict r ≡ verdict (modelCauses self) ⌝ }
-    {
-        let b = self.error_bound;
-        let n = self.length;
-        let none = models::when(Refusal::NoModel, n == 0, Verdict::Passed);
-        let state = models::when(Refusal::StateNotAllowed, !self.usable(), none);
-        models::when(Refusal::BoundNotAllowed, !models::bound_allowed(b), state)
+        models::judge_step(b, self.usable(), self.length, Verdict::Passed)
     }
 
     // ---- the step
 
     // The step, once nothing refuses it.
-    pub fn tried(self, value: f32) -> FitAnswer
+    pub fn tried(self, value: f32) -> Tried
         requires { ⌜ self .length < 65536 ⌝ }
-        ensures { λ r. ⌜ saysFit r ≡ answeredOn (tried self value) ⌝ }
+        ensures { λ r. ⌜ stepOf r ≡ tried self value ⌝ }
     {
         let next = self.taken(value);
         if next.fits() {
-            FitAnswer::Fits(next)
+            Tried {
+                fits: true,
+                state: next,
+            }
         } else {
-            FitAnswer::NoFit(self)
+            Tried {
+                fits: false,
+                state: self,
+            }
         }
     }
 
@@ -176,7 +174,7 @@ impl PMCMean {
     }
 
     // The average, in f64, rounded to f32.
-    fn average(self) -> f32
+    pub fn average(self) -> f32
         requires { ⌜ self .length ≤ 65536 ⌝ }
         ensures { λ r. ⌜ r ≡ average self ⌝ }
     {

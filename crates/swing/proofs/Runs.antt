@@ -5,14 +5,15 @@ use mathlib.Core.Bool.{true, not, _||_}
 use mathlib.Core.List.{List, _++_, foldl-append}
 use Prim.Native.Nat.{_+_, _≤_, _<_}
 use native.Mathlib.Omega.{arith}
-use borrow.Author.Tests.{le-leb, eqb-true, eqb-false, not-false}
+use borrow.Author.Tests.{le-leb, eqb-true, eqb-false, ne-eqb, not-false}
 use lib.Dec.{eqb}
+use lib.IntN.{ℤ}
 use lib.ListN.{length}
 use lib.Ieee as Ieee
 use Rattle.models.specs.Floats.{equalOrNan}
-use Rattle.models.specs.Bound.{deviation}
+use Rattle.models.specs.Bound.{boundAllowed, deviation}
 use Rattle.models.specs.declared.ErrorBound.{ErrorBound}
-use Rattle.models.proofs.Judged.{after-judging, after-test}
+use Rattle.models.proofs.Judged.{NoneHolds, after-judging, after-test}
 use Rattle.models.proofs.Laws.{and-both}
 use Rattle.models.proofs.Folds.{steps-keep, steps-raise}
 use Rattle.lines.specs.Times.{timeAllowed}
@@ -28,7 +29,7 @@ use Rattle.lines.specs.declared.Terms.{Terms}
 use Rattle.swing.proofs.Allowed.{length-below, follows-allowed, follows-start, start-allowed, one-time, two-times}
 
 -- what a state has, with p as its first point too, or moved on to p with whatever lines and sums, it has after the step
-stepped : (P : Swing → Type 0) (s : Swing) (p : Point) → P s → (s .length ≡ 0 → P (opened s p)) → ((s .length ≡ 0 → ⊥) → (upper lower : Line) (sums : Terms) → P (moved s p upper lower sums)) → P (tried s p .state)
+pub stepped : (P : Swing → Type 0) (s : Swing) (p : Point) → P s → (s .length ≡ 0 → P (opened s p)) → ((s .length ≡ 0 → ⊥) → (upper lower : Line) (sums : Terms) → P (moved s p upper lower sums)) → P (tried s p .state)
 unfolding tried flat second later laterAt swung
 stepped P s p stays opens moves =
     let d = deviation (s .«error_bound») (p .value) in
@@ -86,3 +87,10 @@ one-more s g =
 pub run-length : (b : ErrorBound) (given : List Given) → run (fresh b) given .length ≤ length given
 unfolding fresh
 run-length b given = omega (arith, steps-raise next (λ (s : Swing). s .length) one-more (fresh b) given)
+
+-- a step on it is refused by nothing but a full state, or a time that does not follow
+pub run-steps : (b : ErrorBound) (given : List Given) (t : ℤ) → boundAllowed b ≡ true → run (fresh b) given .length < 65536 → timeFollows (run (fresh b) given) t ≡ true → NoneHolds (fitCauses (run (fresh b) given) t)
+unfolding fresh
+run-steps b given t allowed room follows =
+    let s = run (fresh b) given in
+    (rw (run-bound (fresh b) given, allowed), (rw (run-usable b given), (ne-eqb (s .length) 65536 (λ e. absurd (omega arith)), (rw follows, tt))))

@@ -1,15 +1,15 @@
 -- What the calls on a state say and answer: for each, its causes of refusal in 01's order, the answer, and the law that its results are told apart.
 use mathlib.Core.Path.{_≡_, refl, ap}
-use mathlib.Core.Bool.{cond, not}
+use mathlib.Core.Bool.{not}
 use mathlib.Core.List.{List, [], _∷_}
 use Prim.Native.Nat.{ℕ, _+_}
-use lib.Dec.{eqb}
 use lib.IntN.{ℤ}
 use lib.Ieee.{Float}
 use Rattle.models.specs.Answers.{Said, answered, refused, SaidOn, answeredOn, refusedOn, Stepped, fitting, failing, Cause, _when_, judged, judgedOn, Injective, told-apart}
-use Rattle.models.specs.Refusals.{number, numbered-number, unsaid, unsaidOn}
+use Rattle.models.specs.Refusals.{number, numbered-number, unsaid, unsaidOn, unsaidStep}
 use Rattle.models.specs.Bound.{boundAllowed}
-use Rattle.models.specs.Limits.{mostValues, metadataAllowed, cost}
+use Rattle.models.specs.Limits.{cost}
+use Rattle.models.specs.Causes as Shared
 use Rattle.models.specs.declared.ErrorBound.{ErrorBound}
 use Rattle.lines.specs.Line.{pointOf}
 use Rattle.swing.specs.State.{fresh, usable, timeFollows}
@@ -47,26 +47,18 @@ saysFit (OfFit.NoFit s) = answeredOn (failing s)
 saysFit (OfFit.Refused r s) = refusedOn (number r) s
 
 abbrev pub fitCauses : Swing → ℤ → List Cause
-fitCauses s t =
-    1 when not (boundAllowed (s .«error_bound»))
-    ∷ 2 when not (usable s)
-    ∷ 3 when eqb (s .length) mostValues
-    ∷ 10 when not (timeFollows s t)
-    ∷ []
+fitCauses s t = Shared.stepCauses (s .«error_bound») (usable s) (s .length) (10 when not (timeFollows s t) ∷ [])
 
 unfoldable pub fitAnswer : Swing → ℤ → ℕ → SaidOn Swing (Stepped Swing)
 fitAnswer s t value = judgedOn s (fitCauses s t) (tried s (pointOf t value))
 
-abbrev step-back : Stepped Swing → FitAnswer
-step-back t = cond (t .fits) (OfFit.Fits (t .state)) (OfFit.NoFit (t .state))
-
-fit-told : (r : FitAnswer) → unsaidOn step-back OfFit.Refused (saysFit r) ≡ r
+fit-told : (r : FitAnswer) → unsaidStep OfFit.Fits OfFit.NoFit OfFit.Refused (saysFit r) ≡ r
 fit-told (OfFit.Fits s) = refl
 fit-told (OfFit.NoFit s) = refl
 fit-told (OfFit.Refused r s) = rw (numbered-number r)
 
 pub saysFit-injective : Injective saysFit
-saysFit-injective = told-apart saysFit (unsaidOn step-back OfFit.Refused) fit-told
+saysFit-injective = told-apart saysFit (unsaidStep OfFit.Fits OfFit.NoFit OfFit.Refused) fit-told
 
 -- ---- Swing::bytes_per_value: metadata of m bytes, and one more
 abbrev pub saysCost : CostAnswer → SaidOn Swing Float
@@ -74,12 +66,7 @@ saysCost (OfCost.Answered x) = answeredOn x
 saysCost (OfCost.Refused r s) = refusedOn (number r) s
 
 abbrev pub costCauses : Swing → ℕ → List Cause
-costCauses s m =
-    1 when not (boundAllowed (s .«error_bound»))
-    ∷ 2 when not (usable s)
-    ∷ 3 when not (metadataAllowed m)
-    ∷ 11 when eqb (s .length) 0
-    ∷ []
+costCauses s m = Shared.costCauses (s .«error_bound») (usable s) (s .length) m
 
 unfoldable pub costAnswer : Swing → ℕ → SaidOn Swing Float
 costAnswer s m = judgedOn s (costCauses s m) (cost (m + 1) (s .length))
@@ -97,11 +84,7 @@ saysModel (OfModel.Answered first last) = answeredOn (record { first = first; la
 saysModel (OfModel.Refused r s) = refusedOn (number r) s
 
 abbrev pub modelCauses : Swing → List Cause
-modelCauses s =
-    1 when not (boundAllowed (s .«error_bound»))
-    ∷ 2 when not (usable s)
-    ∷ 11 when eqb (s .length) 0
-    ∷ []
+modelCauses s = Shared.modelCauses (s .«error_bound») (usable s) (s .length)
 
 unfoldable pub modelAnswer : Swing → SaidOn Swing Ends
 modelAnswer s = judgedOn s (modelCauses s) (endsOf s)

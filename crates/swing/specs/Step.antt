@@ -10,9 +10,14 @@ use Rattle.models.specs.Bound.{deviation}
 use Rattle.lines.specs.Line.{_+f_, _-f_, bothFinite, raised, lowered, level, lineThrough, valueAt, termsOf, added}
 use Rattle.swing.specs.State.{firstPoint, upperLine, lowerLine, sumsOf}
 use Rattle.swing.specs.declared.Swing.{Swing}
+use Rattle.swing.specs.declared.Tried.{Tried}
 use Rattle.lines.specs.declared.Point.{Point}
 use Rattle.lines.specs.declared.Line.{Line}
 use Rattle.lines.specs.declared.Terms.{Terms}
+
+-- what the code of a step gives, in the paper's terms
+abbrev pub stepOf : Tried → Stepped Swing
+stepOf t = record { fits = t .fits; state = t .state }
 
 -- ---- the states that a step gives
 

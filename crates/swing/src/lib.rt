@@ -14,7 +14,7 @@ ghost use lib.ListN.{length};
 ghost use Rattle.models.specs.Answers.{verdict};
 ghost use Rattle.models.specs.Calls.{saysVerdict, saysValue, saysGrid};
 ghost use Rattle.lines.specs.Line.{pointOf};
-ghost use Rattle.swing.specs.Calls.{saysNew, newAnswer, fitCauses, saysFit, fitAnswer, costCauses, saysCost, costAnswer, modelCauses, saysModel, modelAnswer};
+ghost use Rattle.swing.specs.Calls.{saysNew, newAnswer, fitCauses, saysFit, fitAnswer, saysCost, costAnswer, saysModel, modelAnswer};
 ghost use Rattle.swing.specs.Grid.{averageCauses, averageAnswer, sumCauses, sumAnswer, gridCauses, gridMemory};
 
 pub struct Swing {
@@ -33,6 +33,12 @@ pub struct Swing {
     pub slope_with_minimum_mse_denominator: f64,
     // How many points the model stands for.
     pub length: usize,
+}
+
+// What a step that nothing refuses gives: whether the point fits, and the state after it.
+pub struct Tried {
+    pub fits: bool,
+    pub state: Swing,
 }
 
 // ---- answers: a refusal hands back the state passed in
@@ -93,7 +99,15 @@ impl Swing {
         let p = lines::point_of(timestamp, value);
         match self.judge_fit(p) {
             Verdict::Refused(r) => FitAnswer::Refused(r, self),
-            Verdict::Passed => self.tried(p),
+            Verdict::Passed => {
+                let t = self.tried(p);
+                let s = t.state;
+                if t.fits {
+                    FitAnswer::Fits(s)
+                } else {
+                    FitAnswer::NoFit(s)
+                }
+            }
         }
     }
 
@@ -108,7 +122,8 @@ impl Swing {
     pub fn bytes_per_value(self, m: usize) -> CostAnswer
         ensures { λ r. ⌜ saysCost r ≡ costAnswer self m ⌝ }
     {
-        match self.judge_cost(m) {
+        let b = self.error_bound;
+        match models::judge_cost(b, self.usable(), self.length, m) {
             Verdict::Refused(r) => CostAnswer::Refused(r, self),
             Verdict::Passed => CostAnswer::Answered(models::cost(m + 1, self.length)),
         }
@@ -118,7 +133,8 @@ impl Swing {
     pub fn model(self) -> ModelAnswer
         ensures { λ r. ⌜ saysModel r ≡ modelAnswer self ⌝ }
     {
-        match self.judge_model() {
+        let b = self.error_bound;
+        match models::judge_model(b, self.usable(), self.length) {
             Verdict::Refused(r) => ModelAnswer::Refused(r, self),
             Verdict::Passed => {
                 let first = lines::answered(self.first_value);
@@ -127,38 +143,13 @@ impl Swing {
         }
     }
 
-    // ---- the causes of refusal, the last of them first
-
+    // The causes of refusal of a step.
     fn judge_fit(self, p: Point) -> Verdict
         ensures { λ r. ⌜ saysVerdict r ≡ verdict (fitCauses self (p .time)) ⌝ }
     {
-        let b = self.error_bound;
-        let n = self.length;
         let times = models::when(Refusal::TimesNotAllowed, !self.follows(p), Verdict::Passed);
-        let full = models::when(Refusal::OverLimit, n == 65536, times);
-        let state = models::when(Refusal::StateNotAllowed, !self.usable(), full);
-        models::when(Refusal::BoundNotAllowed, !models::bound_allowed(b), state)
-    }
-
-    fn judge_cost(self, m: usize) -> Verdict
-        ensures { λ r. ⌜ saysVerdict r ≡ verdict (costCauses self m) ⌝ }
-    {
         let b = self.error_bound;
-        let n = self.length;
-        let none = models::when(Refusal::NoModel, n == 0, Verdict::Passed);
-        let size = models::when(Refusal::OverLimit, !models::metadata_allowed(m), none);
-        let state = models::when(Refusal::StateNotAllowed, !self.usable(), size);
-        models::when(Refusal::BoundNotAllowed, !models::bound_allowed(b), state)
-    }
-
-    fn judge_model(self) -> Verdict
-        ensures { λ r. ⌜ saysVerdict r ≡ verdict (modelCauses self) ⌝ }
-    {
-        let b = self.error_bound;
-        let n = self.length;
-        let none = models::when(Refusal::NoModel, n == 0, Verdict::Passed);
-        let state = models::when(Refusal::StateNotAllowed, !self.usable(), none);
-        models::when(Refusal::BoundNotAllowed, !models::bound_allowed(b), state)
+        models::judge_step(b, self.usable(), self.length, times)
     }
 }
 

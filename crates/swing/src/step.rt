@@ -1,20 +1,20 @@
 // A step of Swing, in the order of swing.rs, and the last value of the line that a state stands for.
 
-use crate::FitAnswer;
 use crate::Swing;
+use crate::Tried;
 use lines::Line;
 use lines::Point;
 use lines::Terms;
 use lines::times;
 ghost use mathlib.Core.Path.{_≡_};
-ghost use mathlib.Core.Bool.{true};
+ghost use mathlib.Core.Bool.{true, cond};
 ghost use Prim.Native.Nat.{_<_};
-ghost use Rattle.models.specs.Answers.{answeredOn};
+ghost use Rattle.models.specs.Answers.{fitting};
 ghost use Rattle.lines.specs.Times.{timeAllowed};
+ghost use Rattle.lines.specs.Line.{lineThrough};
 ghost use Rattle.swing.specs.State.{usable, timeFollows, firstPoint, upperLine, lowerLine, sumsOf};
-ghost use Rattle.swing.specs.Step.{opened, moved, flat, second, upperSwung, lowerSwung, swung, later, tried};
+ghost use Rattle.swing.specs.Step.{stepOf, opened, moved, flat, second, swung, later, tried};
 ghost use Rattle.swing.specs.Model.{lastValue};
-ghost use Rattle.swing.specs.Calls.{saysFit};
 
 impl Swing {
     // ---- what a state holds
@@ -79,21 +79,21 @@ impl Swing {
     // ---- the step
 
     // The step, once nothing refuses it.
-    pub fn tried(self, p: Point) -> FitAnswer
+    pub fn tried(self, p: Point) -> Tried
         requires { ⌜ self .length < 65536 ⌝ ∗ ⌜ usable self ≡ true ⌝ ∗ ⌜ timeAllowed (p .time) ≡ true ⌝ }
-        ensures { λ r. ⌜ saysFit r ≡ answeredOn (tried self p) ⌝ }
+        ensures { λ r. ⌜ stepOf r ≡ tried self p ⌝ }
     {
         let n = self.length;
         let b = self.error_bound;
         if n == 0 {
-            return FitAnswer::Fits(self.opened(p));
+            return fitting(self.opened(p));
         }
         if !lines::both_finite(self.first_value, p.value) {
             return self.flat(p);
         }
         let d = models::deviation(b, p.value);
         if n == 1 {
-            FitAnswer::Fits(self.second(p, d))
+            fitting(self.second(p, d))
         } else {
             self.later(p, d)
         }
@@ -129,18 +129,21 @@ impl Swing {
     }
 
     // One point more where the first value or this one is not finite: it fits if they are the same.
-    fn flat(self, p: Point) -> FitAnswer
+    fn flat(self, p: Point) -> Tried
         requires { ⌜ self .length < 65536 ⌝ }
-        ensures { λ r. ⌜ saysFit r ≡ answeredOn (flat self p) ⌝ }
+        ensures { λ r. ⌜ stepOf r ≡ flat self p ⌝ }
     {
         if models::equal_or_nan(self.first_value, p.value) {
             let l = Line {
                 slope: p.value,
                 intercept: p.value,
             };
-            FitAnswer::Fits(self.moved(p, l, l, self.sums()))
+            fitting(self.moved(p, l, l, self.sums()))
         } else {
-            FitAnswer::NoFit(self)
+            Tried {
+                fits: false,
+                state: self,
+            }
         }
     }
 
@@ -156,16 +159,19 @@ impl Swing {
     }
 
     // A third or later point.
-    fn later(self, p: Point, d: f64) -> FitAnswer
+    fn later(self, p: Point, d: f64) -> Tried
         requires { ⌜ self .length < 65536 ⌝ ∗ ⌜ timeAllowed (self .«start_time») ≡ true ⌝ ∗ ⌜ timeAllowed (p .time) ≡ true ⌝ }
-        ensures { λ r. ⌜ saysFit r ≡ answeredOn (later self p d) ⌝ }
+        ensures { λ r. ⌜ stepOf r ≡ later self p d ⌝ }
     {
         let high = lines::value_at(self.upper_line(), p.time);
         let low = lines::value_at(self.lower_line(), p.time);
         if (high + d < p.value) | (low - d > p.value) {
-            FitAnswer::NoFit(self)
+            Tried {
+                fits: false,
+                state: self,
+            }
         } else {
-            FitAnswer::Fits(self.swung(p, d, high, low))
+            fitting(self.swung(p, d, high, low))
         }
     }
 
@@ -174,33 +180,21 @@ impl Swing {
         requires { ⌜ self .length < 65536 ⌝ ∗ ⌜ timeAllowed (self .«start_time») ≡ true ⌝ ∗ ⌜ timeAllowed (p .time) ≡ true ⌝ }
         ensures { λ r. ⌜ r ≡ swung self p d high low ⌝ }
     {
-        let upper = self.upper_swung(p, d, high);
-        let lower = self.lower_swung(p, d, low);
+        let upper = self.swung_to(high - d > p.value, lines::raised(p, d), self.upper_line());
+        let lower = self.swung_to(low + d < p.value, lines::lowered(p, d), self.lower_line());
         let sums = lines::added(self.sums(), lines::terms_of(self.first_point(), p));
         self.moved(p, upper, lower, sums)
     }
 
-    // The upper line, swung down where the point asks for it.
-    fn upper_swung(self, p: Point, d: f64, high: f64) -> Line
-        requires { ⌜ timeAllowed (self .«start_time») ≡ true ⌝ ∗ ⌜ timeAllowed (p .time) ≡ true ⌝ }
-        ensures { λ r. ⌜ r ≡ upperSwung self p d high ⌝ }
+    // A bounding line or, where the point asks for it, the one from the first point through `to`.
+    fn swung_to(self, asked: bool, to: Point, line: Line) -> Line
+        requires { ⌜ timeAllowed (self .«start_time») ≡ true ⌝ ∗ ⌜ timeAllowed (to .time) ≡ true ⌝ }
+        ensures { λ r. ⌜ r ≡ cond asked (lineThrough (firstPoint self) to) line ⌝ }
     {
-        if high - d > p.value {
-            lines::line_through(self.first_point(), lines::raised(p, d))
+        if asked {
+            lines::line_through(self.first_point(), to)
         } else {
-            self.upper_line()
-        }
-    }
-
-    // The lower line, swung up where the point asks for it.
-    fn lower_swung(self, p: Point, d: f64, low: f64) -> Line
-        requires { ⌜ timeAllowed (self .«start_time») ≡ true ⌝ ∗ ⌜ timeAllowed (p .time) ≡ true ⌝ }
-        ensures { λ r. ⌜ r ≡ lowerSwung self p d low ⌝ }
-    {
-        if low + d < p.value {
-            lines::line_through(self.first_point(), lines::lowered(p, d))
-        } else {
-            self.lower_line()
+            line
         }
     }
 
@@ -216,5 +210,14 @@ impl Swing {
         let under = models::min_f64(projected, self.upper_bound_slope);
         let slope = models::max_f64(self.lower_bound_slope, under);
         slope * lines::span(self.start_time, self.end_time) + self.first_value
+    }
+}
+
+fn fitting(s: Swing) -> Tried
+    ensures { λ r. ⌜ stepOf r ≡ fitting s ⌝ }
+{
+    Tried {
+        fits: true,
+        state: s,
     }
 }

@@ -5,3 +5,4 @@ pub mod Runs
 pub mod Parts
 pub mod Costs
 pub mod Chosen
+pub mod Accepted

@@ -1,12 +1,12 @@
 -- What the calls on a builder say and answer: for each, its causes of refusal in 01's order, the answer, and the law that its results are told apart.
 use mathlib.Core.Path.{_≡_, refl, ap}
-use mathlib.Core.Bool.{cond, not, _&&_, _||_}
+use mathlib.Core.Bool.{not, _&&_, _||_}
 use mathlib.Core.List.{List, [], _∷_}
 use Prim.Native.Nat.{ℕ}
 use lib.Dec.{eqb}
 use lib.IntN.{ℤ}
 use Rattle.models.specs.Answers.{Said, answered, refused, SaidOn, answeredOn, refusedOn, Stepped, fitting, failing, Cause, _when_, judged, judgedOn, Injective, told-apart}
-use Rattle.models.specs.Refusals.{number, numbered-number, unsaid, unsaidOn}
+use Rattle.models.specs.Refusals.{number, numbered-number, unsaid, unsaidOn, unsaidStep}
 use Rattle.models.specs.Bound.{boundAllowed}
 use Rattle.models.specs.Limits.{metadataAllowed}
 use Rattle.models.specs.declared.ErrorBound.{ErrorBound}
@@ -56,16 +56,13 @@ updateCauses b t =
 unfoldable pub updateAnswer : ModelBuilder → ℤ → ℕ → SaidOn ModelBuilder (Stepped ModelBuilder)
 updateAnswer b t value = judgedOn b (updateCauses b t) (answeredBy (updated b (pointOf t value)))
 
-abbrev update-back : Stepped ModelBuilder → UpdateAnswer
-update-back t = cond (t .fits) (OfUpdate.Fits (t .state)) (OfUpdate.NoFit (t .state))
-
-update-told : (r : UpdateAnswer) → unsaidOn update-back OfUpdate.Refused (saysUpdate r) ≡ r
+update-told : (r : UpdateAnswer) → unsaidStep OfUpdate.Fits OfUpdate.NoFit OfUpdate.Refused (saysUpdate r) ≡ r
 update-told (OfUpdate.Fits b) = refl
 update-told (OfUpdate.NoFit b) = refl
 update-told (OfUpdate.Refused r b) = rw (numbered-number r)
 
 pub saysUpdate-injective : Injective saysUpdate
-saysUpdate-injective = told-apart saysUpdate (unsaidOn update-back OfUpdate.Refused) update-told
+saysUpdate-injective = told-apart saysUpdate (unsaidStep OfUpdate.Fits OfUpdate.NoFit OfUpdate.Refused) update-told
 
 -- ---- ModelBuilder::finish, with metadata of m bytes: both models are judged, whatever failed
 abbrev pub saysFinish : FinishAnswer → SaidOn ModelBuilder SelectedModel

@@ -13,11 +13,9 @@ use pmc_mean::PMCMean;
 use swing::Swing;
 ghost use mathlib.Core.Path.{_≡_};
 ghost use lib.ListN.{length};
-ghost use lib.Ieee.{binary32, toBits};
 ghost use Rattle.models.specs.Answers.{answered, verdict};
 ghost use Rattle.models.specs.Calls.{saysVerdict};
-ghost use Rattle.pmc_mean.specs.State.{average};
-ghost use Rattle.pmc_mean.specs.Calls.{modelCauses, costCauses};
+ghost use Rattle.pmc_mean.specs.Calls.{costCauses};
 ghost use Rattle.swing.specs.Calls as OfSwing;
 ghost use Rattle.types.specs.Choice.{pmcModel, swingModel, swingWins, endLost, chosen, choiceOf};
 ghost use Rattle.types.specs.Calls.{finishCauses, saysFinish, finishAnswer};
@@ -95,24 +93,13 @@ fn select_pmc_mean(s: PMCMean, m: usize) -> SelectedModel
     requires { ⌜ verdict (costCauses s m) ≡ answered tt ⌝ }
     ensures { λ r. ⌜ r ≡ pmcModel s m ⌝ }
 {
-    let value = average(s);
+    let value = numbers::bits_of_f32(s.average());
     SelectedModel {
         model_type_id: 0,
         length: s.length,
         first_value: value,
         last_value: value,
         bytes_per_value: models::cost(m, s.length),
-    }
-}
-
-// The bits of the average of a state that has one.
-fn average(s: PMCMean) -> u32
-    requires { ⌜ verdict (modelCauses s) ≡ answered tt ⌝ }
-    ensures { λ r. ⌜ r ≡ toBits binary32 (average s) ⌝ }
-{
-    match s.model() {
-        pmc_mean::ModelAnswer::Answered(bits) => bits,
-        pmc_mean::ModelAnswer::Refused(_, _) => models::FRESH_BITS,
     }
 }
 

@@ -179,11 +179,9 @@ impl ModelBuilder {
             return self;
         }
         let s = self.pmc_mean;
-        match s.tried(value) {
-            pmc_mean::FitAnswer::Fits(n) => self.with_pmc_mean(n, true),
-            pmc_mean::FitAnswer::NoFit(n) => self.with_pmc_mean(n, false),
-            pmc_mean::FitAnswer::Refused(_, n) => self.with_pmc_mean(n, false),
-        }
+        let t = s.tried(value);
+        let n = t.state;
+        self.with_pmc_mean(n, t.fits)
     }
 
     fn update_swing(self, p: Point) -> ModelBuilder
@@ -194,11 +192,9 @@ impl ModelBuilder {
             return self;
         }
         let s = self.swing;
-        match s.tried(p) {
-            swing::FitAnswer::Fits(n) => self.with_swing(n, true),
-            swing::FitAnswer::NoFit(n) => self.with_swing(n, false),
-            swing::FitAnswer::Refused(_, n) => self.with_swing(n, false),
-        }
+        let t = s.tried(p);
+        let n = t.state;
+        self.with_swing(n, t.fits)
     }
 
     fn with_pmc_mean(self, s: PMCMean, fits: bool) -> ModelBuilder

@@ -1,19 +1,23 @@
 -- `PMCMean::bytes_per_value` meets its contract. Assumes nothing.
+use mathlib.Core.Path.{_≡_}
 use Prim.Native.Nat.{ℕ}
-use Rattle.models.specs.Answers.{refusedOn}
-use Rattle.models.proofs.Judged.{NoneHolds, none-holds, when-passed, when-refused}
 use native.Mathlib.Omega.{arith}
-use borrow.Author.Tests.{leb-true, not-false}
-use lib.Dec.{leb}
-use Rattle.models.proofs.Laws.{and-right}
+use borrow.Author.Tests.{leb-true}
+use Rattle.models.specs.Answers.{refusedOn, verdict}
+use Rattle.models.specs.Calls.{saysVerdict}
+use Rattle.models.proofs.Judged.{none-holds, when-passed, when-refused, has-cost}
+use Rattle.pmc_mean.specs.State.{usable}
 use Rattle.pmc_mean.specs.Calls.{costCauses, costAnswer}
 use borrow.Author.Needs.{needs}
 use Rattle.pmc_mean.proofs.PMCMean.bytes_per_value.Statement.{statement}
 use Rattle.pmc_mean.proofs.PMCMean.bytes_per_value.Tie as tie
 
--- past the verdict no cause holds
-clear : (c : tie.After-enum-told) → NoneHolds (costCauses (c .before .before .before .args .self) (c .before .before .before .args .m))
-clear c = none-holds _ _ (c .before .before .judge-cost .ensures) (c .enum-told .given .1)
+-- the verdict is on the causes of the call
+says : (c : tie.After-judge-cost) → saysVerdict (c .judge-cost .result) ≡ verdict (costCauses (c .before .before .args .self) (c .before .before .args .m))
+says c = rw (c .before .usable .ensures) at (c .judge-cost .ensures)
+
+usable-requires : tie.Need-usable-requires
+usable-requires c κs = search needs
 
 judge-cost-requires : tie.Need-judge-cost-requires
 judge-cost-requires c κs = search needs
@@ -26,24 +30,28 @@ enum-told c = search needs
 
 cost-requires : tie.Need-cost-requires
 cost-requires c κs =
-    let a = c .before .before .before .args in
-    let none = clear c in
-    let small = leb-true (a .self .length) 65536 (not-false _ (none .1 .0)) in
-    let size = leb-true (a .m) 65535 (and-right (leb 1 (a .m)) _ (not-false _ (none .1 .1 .0))) in
-    (omega arith, small)
+    let a = c .before .before .before .before .args in
+    let s = a .self in
+    let ok = has-cost (s .«error_bound») (usable s) (s .length) (a .m) (none-holds _ _ (says (c .before .before)) (c .enum-told .given .1)) in
+    let small = leb-true (s .length) 65536 (ok .0) in
+    (omega (arith, ok .2), small)
 
 returns : tie.Need-returns
 unfolding costAnswer
-returns c =
-    let s = c .before .before .before .before .args .self in
-    when-refused _ _ (c .before .before .before .judge-cost .ensures) (λ (n : ℕ). refusedOn n s) _ _ (c .before .r .given .1)
+returns c = when-refused _ _ (says (c .before .before .before)) (λ (n : ℕ). refusedOn n (c .before .before .before .before .before .args .self)) _ _ (c .before .r .given .1)
 
 returns-2 : tie.Need-returns-2
 unfolding costAnswer
-returns-2 c =
-    let s = c .before .before .before .before .args .self in
-    rw (c .cost .ensures) (when-passed _ _ (c .before .before .before .judge-cost .ensures) (λ (n : ℕ). refusedOn n s) _ (c .before .enum-told .given .1))
+returns-2 c = rw (c .cost .ensures) (when-passed _ _ (says (c .before .before .before)) (λ (n : ℕ). refusedOn n (c .before .before .before .before .before .args .self)) _ (c .before .enum-told .given .1))
 
 pub bytes-per-value-spec : {M : Type 1} → statement M
 bytes-per-value-spec =
-    tie.close (tie.spec judge-cost-requires enum-known-r enum-told cost-requires returns returns-2)
+    tie.close
+    (tie.spec
+    usable-requires
+    judge-cost-requires
+    enum-known-r
+    enum-told
+    cost-requires
+    returns
+    returns-2)

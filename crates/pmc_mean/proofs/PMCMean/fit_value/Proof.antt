@@ -1,21 +1,23 @@
 -- `PMCMean::fit_value` meets its contract: refused by the first cause that holds, else the step. Assumes nothing.
-use mathlib.Core.Path.{_∙_}
+use mathlib.Core.Path.{_≡_, ap, _∙_}
+use mathlib.Core.List.{[]}
 use Prim.Native.Nat.{ℕ}
-use Rattle.models.specs.Answers.{refusedOn}
-use Rattle.models.proofs.Judged.{NoneHolds, none-holds, when-passed, when-refused}
-use Rattle.pmc_mean.specs.Calls.{fitCauses, fitAnswer}
-use mathlib.Core.Path.{_∙_}
-use Rattle.models.specs.Answers.{refusedOn}
 use native.Mathlib.Omega.{arith}
-use borrow.Author.Tests.{leb-true, eqb-false, not-false}
-use Rattle.pmc_mean.specs.State.{tried}
+use borrow.Author.Tests.{leb-true}
+use Rattle.models.specs.Answers.{answeredOn, refusedOn}
+use Rattle.models.proofs.Judged.{none-holds, when-passed, when-refused, steps}
+use Rattle.pmc_mean.specs.State.{usable, stepOf}
+use Rattle.pmc_mean.specs.Calls.{fitAnswer}
 use borrow.Author.Needs.{needs}
 use Rattle.pmc_mean.proofs.PMCMean.fit_value.Statement.{statement}
 use Rattle.pmc_mean.proofs.PMCMean.fit_value.Tie as tie
 
--- past the verdict no cause holds
-clear : (c : tie.After-enum-told) → NoneHolds (fitCauses (c .before .before .before .args .self))
-clear c = none-holds _ _ (c .before .before .judge-fit .ensures) (c .enum-told .given .1)
+-- the step that nothing refuses is the answer
+stepped : (c : tie.After-tried) → answeredOn (stepOf (c .tried .result)) ≡ fitAnswer (c .before .before .before .before .before .args .self) (c .before .before .before .before .before .args .value)
+unfolding fitAnswer
+stepped c =
+    let s = c .before .before .before .before .before .args .self in
+    ap answeredOn (c .tried .ensures) ∙ rw (c .before .value-of-f32 .ensures) (when-passed _ _ (c .before .before .before .before .judge-fit .ensures) (λ (n : ℕ). refusedOn n s) _ (c .before .before .enum-told .given .1))
 
 judge-fit-requires : tie.Need-judge-fit-requires
 judge-fit-requires c κs = search needs
@@ -32,22 +34,19 @@ value-of-f32-requires c κs = search needs
 tried-requires : tie.Need-tried-requires
 tried-requires c κs =
     let s = c .before .before .before .before .args .self in
-    let none = clear (c .before) in
-    let small = leb-true (s .length) 65536 (not-false _ (none .1 .0)) in
-    let room = eqb-false (s .length) 65536 (none .1 .1 .0) in
-    omega arith
+    let ok = steps (s .«error_bound») (usable s) (s .length) [] (none-holds _ _ (c .before .before .before .judge-fit .ensures) (c .before .enum-told .given .1)) in
+    let small = leb-true (s .length) 65536 (ok .0) in
+    omega (arith, ok .1)
 
 returns : tie.Need-returns
 unfolding fitAnswer
-returns c =
-    let s = c .before .before .before .before .args .self in
-    when-refused _ _ (c .before .before .before .judge-fit .ensures) (λ (n : ℕ). refusedOn n s) _ _ (c .before .r .given .1)
+returns c = when-refused _ _ (c .before .before .before .judge-fit .ensures) (λ (n : ℕ). refusedOn n (c .before .before .before .before .args .self)) _ _ (c .before .r .given .1)
 
 returns-2 : tie.Need-returns-2
-unfolding fitAnswer
-returns-2 c =
-    let s = c .before .before .before .before .before .args .self in
-    c .tried .ensures ∙ rw (c .before .value-of-f32 .ensures) (when-passed _ _ (c .before .before .before .before .judge-fit .ensures) (λ (n : ℕ). refusedOn n s) _ (c .before .before .enum-told .given .1))
+returns-2 c = rw (c .if1 .taken) at (stepped (c .before .before))
+
+returns-3 : tie.Need-returns-3
+returns-3 c = rw (c .if1 .left) at (stepped (c .before .before))
 
 pub fit-value-spec : {M : Type 1} → statement M
 fit-value-spec =
@@ -59,4 +58,5 @@ fit-value-spec =
     value-of-f32-requires
     tried-requires
     returns
-    returns-2)
+    returns-2
+    returns-3)

@@ -1,35 +1,18 @@
--- `PMCMean::judge_fit` meets its contract: the tests are those of the list of causes. Assumes nothing.
+-- `PMCMean::judge_fit` meets its contract. Assumes nothing.
 use Rattle.models.specs.Answers.{judge}
 use borrow.Author.Needs.{needs}
 use Rattle.pmc_mean.proofs.PMCMean.judge_fit.Statement.{statement}
 use Rattle.pmc_mean.proofs.PMCMean.judge_fit.Tie as tie
 
-when-requires : tie.Need-when-requires
-when-requires c κs = search needs
-
 usable-requires : tie.Need-usable-requires
 usable-requires c κs = search needs
 
-when-requires-2 : tie.Need-when-requires-2
-when-requires-2 c κs = search needs
-
-bound-allowed-requires : tie.Need-bound-allowed-requires
-bound-allowed-requires c κs = search needs
-
-when-requires-3 : tie.Need-when-requires-3
-when-requires-3 c κs = search needs
+judge-step-requires : tie.Need-judge-step-requires
+judge-step-requires c κs = search needs
 
 returns : tie.Need-returns
 unfolding judge
-returns c = rw (c .when3 .ensures, c .before .bound-allowed .ensures, c .before .before .when2 .ensures, c .before .before .before .usable .ensures, c .before .before .before .before .when .ensures)
+returns c = rw (c .judge-step .ensures, c .before .usable .ensures)
 
 pub judge-fit-spec : {M : Type 1} → statement M
-judge-fit-spec =
-    tie.close
-    (tie.spec
-    when-requires
-    usable-requires
-    when-requires-2
-    bound-allowed-requires
-    when-requires-3
-    returns)
+judge-fit-spec = tie.close (tie.spec usable-requires judge-step-requires returns)

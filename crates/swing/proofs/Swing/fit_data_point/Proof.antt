@@ -1,16 +1,20 @@
 -- `Swing::fit_data_point` meets its contract: refused by the first cause that holds, else the step. Assumes nothing.
-use mathlib.Core.Path.{_∙_, _≡_}
+use mathlib.Core.Path.{_≡_, ap, _∙_}
+use mathlib.Core.Bool.{not}
+use mathlib.Core.List.{[], _∷_}
 use Prim.Native.Nat.{ℕ}
 use mir.Syntax.{w64}
 use mir.ValLaws.{toZ-ofZ}
-use borrow.Author.Needs.{needs}
-use borrow.Author.Tests.{eqb-false, not-false}
+use borrow.Author.Tests.{not-false}
 use Rattle.models.specs.Calls.{saysVerdict}
-use Rattle.models.specs.Answers.{refusedOn, verdict}
-use Rattle.models.proofs.Judged.{NoneHolds, none-holds, when-passed, when-refused}
+use Rattle.models.specs.Answers.{answeredOn, refusedOn, verdict, _when_}
+use Rattle.models.proofs.Judged.{none-holds, when-passed, when-refused, steps}
 use Rattle.lines.specs.Line.{pointOf}
+use Rattle.swing.specs.State.{usable, timeFollows}
+use Rattle.swing.specs.Step.{stepOf}
 use Rattle.swing.specs.Calls.{fitCauses, fitAnswer}
 use Rattle.swing.proofs.Allowed.{length-below, follows-allowed}
+use borrow.Author.Needs.{needs}
 use Rattle.swing.proofs.Swing.fit_data_point.Statement.{statement}
 use Rattle.swing.proofs.Swing.fit_data_point.Tie as tie
 
@@ -20,9 +24,11 @@ point c = rw (toZ-ofZ w64 (c .before .args .timestamp) (c .before .fits .timesta
 says : (c : tie.After-judge-fit) → saysVerdict (c .judge-fit .result) ≡ verdict (fitCauses (c .before .before .args .self) (c .before .before .args .timestamp))
 says c = rw (point (c .before)) at (c .judge-fit .ensures)
 
--- past the verdict no cause holds
-clear : (c : tie.After-enum-told) → NoneHolds (fitCauses (c .before .before .before .before .args .self) (c .before .before .before .point-of .result .time))
-clear c = none-holds _ _ (c .before .before .judge-fit .ensures) (c .enum-told .given .1)
+-- the step that nothing refuses is the answer
+stepped : (c : tie.After-tried) → answeredOn (stepOf (c .tried .result)) ≡ fitAnswer (c .before .before .before .before .before .args .self) (c .before .before .before .before .before .args .timestamp) (c .before .before .before .before .before .args .value)
+unfolding fitAnswer
+stepped c =
+    ap answeredOn (c .tried .ensures) ∙ rw (point (c .before .before .before .before)) (when-passed _ _ (says (c .before .before .before)) (λ (n : ℕ). refusedOn n (c .before .before .before .before .before .args .self)) _ (c .before .enum-told .given .1))
 
 point-of-requires : tie.Need-point-of-requires
 point-of-requires c κs = search needs
@@ -39,21 +45,19 @@ enum-told c = search needs
 tried-requires : tie.Need-tried-requires
 tried-requires c κs =
     let s = c .before .before .before .before .args .self in
-    let none = clear c in
-    let ok = not-false _ (none .1 .0) in
-    (length-below s ok (eqb-false (s .length) 65536 (none .1 .1 .0)), (ok, follows-allowed s _ (not-false _ (none .1 .1 .1 .0))))
+    let t = c .before .before .before .point-of .result .time in
+    let ok = steps (s .«error_bound») (usable s) (s .length) (10 when not (timeFollows s t) ∷ []) (none-holds _ _ (c .before .before .judge-fit .ensures) (c .enum-told .given .1)) in
+    (length-below s (ok .0) (ok .1), (ok .0, follows-allowed s t (not-false (timeFollows s t) (ok .2 .0))))
 
 returns : tie.Need-returns
 unfolding fitAnswer
-returns c =
-    let s = c .before .before .before .before .before .args .self in
-    when-refused _ _ (says (c .before .before .before)) (λ (n : ℕ). refusedOn n s) _ _ (c .before .r .given .1)
+returns c = when-refused _ _ (says (c .before .before .before)) (λ (n : ℕ). refusedOn n (c .before .before .before .before .before .args .self)) _ _ (c .before .r .given .1)
 
 returns-2 : tie.Need-returns-2
-unfolding fitAnswer
-returns-2 c =
-    let s = c .before .before .before .before .before .args .self in
-    c .tried .ensures ∙ rw (point (c .before .before .before .before)) (when-passed _ _ (says (c .before .before .before)) (λ (n : ℕ). refusedOn n s) _ (c .before .enum-told .given .1))
+returns-2 c = rw (c .if1 .taken) at (stepped (c .before .before))
+
+returns-3 : tie.Need-returns-3
+returns-3 c = rw (c .if1 .left) at (stepped (c .before .before))
 
 pub fit-data-point-spec : {M : Type 1} → statement M
 fit-data-point-spec =
@@ -65,4 +69,5 @@ fit-data-point-spec =
     enum-told
     tried-requires
     returns
-    returns-2)
+    returns-2
+    returns-3)

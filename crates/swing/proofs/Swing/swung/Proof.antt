@@ -1,14 +1,26 @@
 -- `Swing::swung` meets its contract. Assumes nothing.
+use Rattle.swing.specs.Step.{upperSwung, lowerSwung, swung}
 use borrow.Author.Needs.{needs}
-use Rattle.swing.specs.Step.{swung}
 use Rattle.swing.proofs.Swing.swung.Statement.{statement}
 use Rattle.swing.proofs.Swing.swung.Tie as tie
 
-upper-swung-requires : tie.Need-upper-swung-requires
-upper-swung-requires c κs = search needs
+raised-requires : tie.Need-raised-requires
+raised-requires c κs = search needs
 
-lower-swung-requires : tie.Need-lower-swung-requires
-lower-swung-requires c κs = search needs
+upper-line-requires : tie.Need-upper-line-requires
+upper-line-requires c κs = search needs
+
+swung-to-requires : tie.Need-swung-to-requires
+swung-to-requires c κs = rw (c .before .raised .ensures) (c .before .before .before .pre .1 .0, c .before .before .before .pre .1 .1)
+
+lowered-requires : tie.Need-lowered-requires
+lowered-requires c κs = search needs
+
+lower-line-requires : tie.Need-lower-line-requires
+lower-line-requires c κs = search needs
+
+swung-to-requires-2 : tie.Need-swung-to-requires-2
+swung-to-requires-2 c κs = rw (c .before .lowered .ensures) (c .before .before .before .before .before .before .before .pre .1 .0, c .before .before .before .before .before .before .before .pre .1 .1)
 
 sums-requires : tie.Need-sums-requires
 sums-requires c κs = search needs
@@ -17,24 +29,28 @@ first-point-requires : tie.Need-first-point-requires
 first-point-requires c κs = search needs
 
 terms-of-requires : tie.Need-terms-of-requires
-terms-of-requires c κs = rw (c .first-point .ensures) (c .before .before .before .before .pre .1 .0, c .before .before .before .before .pre .1 .1)
+terms-of-requires c κs = rw (c .first-point .ensures) (c .before .before .before .before .before .before .before .before .before .before .pre .1 .0, c .before .before .before .before .before .before .before .before .before .before .pre .1 .1)
 
 added-requires : tie.Need-added-requires
 added-requires c κs = search needs
 
 moved-requires : tie.Need-moved-requires
-moved-requires c κs = search needs
+moved-requires c κs = c .before .before .before .before .before .before .before .before .before .before .before .before .pre .0
 
 returns : tie.Need-returns
-unfolding swung
-returns c = rw (c .moved .ensures, c .before .before .before .before .before .before .upper-swung .ensures, c .before .before .before .before .before .lower-swung .ensures, c .before .added .ensures, c .before .before .before .before .sums .ensures, c .before .before .terms-of .ensures, c .before .before .before .first-point .ensures)
+unfolding swung upperSwung lowerSwung
+returns c = rw (c .moved .ensures, c .before .before .before .before .before .before .before .before .before .swung-to .ensures, c .before .before .before .before .before .swung-to2 .ensures, c .before .before .before .before .before .before .before .before .before .before .before .raised .ensures, c .before .before .before .before .before .before .before .before .before .before .upper-line .ensures, c .before .before .before .before .before .before .before .lowered .ensures, c .before .before .before .before .before .before .lower-line .ensures, c .before .added .ensures, c .before .before .before .before .sums .ensures, c .before .before .terms-of .ensures, c .before .before .before .first-point .ensures)
 
 pub swung-spec : {M : Type 1} → statement M
 swung-spec =
     tie.close
     (tie.spec
-    upper-swung-requires
-    lower-swung-requires
+    raised-requires
+    upper-line-requires
+    swung-to-requires
+    lowered-requires
+    lower-line-requires
+    swung-to-requires-2
     sums-requires
     first-point-requires
     terms-of-requires

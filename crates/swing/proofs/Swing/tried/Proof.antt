@@ -1,17 +1,20 @@
 -- `Swing::tried` meets its contract. Assumes nothing.
-use borrow.Author.Needs.{needs}
 use borrow.Author.Tests.{eq-eqb, ne-eqb}
 use Rattle.swing.specs.Step.{tried}
 use Rattle.swing.proofs.Allowed.{start-allowed}
+use borrow.Author.Needs.{needs}
 use Rattle.swing.proofs.Swing.tried.Statement.{statement}
 use Rattle.swing.proofs.Swing.tried.Tie as tie
 
 opened-requires : tie.Need-opened-requires
 opened-requires c κs = search needs
 
+fitting-requires : tie.Need-fitting-requires
+fitting-requires c κs = search needs
+
 returns : tie.Need-returns
 unfolding tried
-returns c = rw (eq-eqb (c .before .before .args .self .length) 0 (c .before .if1 .taken), c .opened .ensures)
+returns c = rw (eq-eqb (c .before .before .before .args .self .length) 0 (c .before .before .if1 .taken), c .fitting .ensures, c .before .opened .ensures)
 
 both-finite-requires : tie.Need-both-finite-requires
 both-finite-requires c κs = search needs
@@ -27,18 +30,17 @@ deviation-requires : tie.Need-deviation-requires
 deviation-requires c κs = search needs
 
 second-requires : tie.Need-second-requires
-second-requires c κs =
-    let s = c .before .before .before .before .before .args .self in
-    (c .before .before .before .before .before .pre .0, (start-allowed s (c .before .before .before .before .before .pre .1 .0) (c .before .before .before .before .if1 .left), c .before .before .before .before .before .pre .1 .1))
+second-requires c κs = (c .before .before .before .before .before .pre .0, (start-allowed (c .before .before .before .before .before .args .self) (c .before .before .before .before .before .pre .1 .0) (c .before .before .before .before .if1 .left), c .before .before .before .before .before .pre .1 .1))
+
+fitting-requires-2 : tie.Need-fitting-requires-2
+fitting-requires-2 c κs = search needs
 
 later-requires : tie.Need-later-requires
-later-requires c κs =
-    let s = c .before .before .before .before .before .args .self in
-    (c .before .before .before .before .before .pre .0, (start-allowed s (c .before .before .before .before .before .pre .1 .0) (c .before .before .before .before .if1 .left), c .before .before .before .before .before .pre .1 .1))
+later-requires c κs = (c .before .before .before .before .before .pre .0, (start-allowed (c .before .before .before .before .before .args .self) (c .before .before .before .before .before .pre .1 .0) (c .before .before .before .before .if1 .left), c .before .before .before .before .before .pre .1 .1))
 
 returns-3 : tie.Need-returns-3
 unfolding tried
-returns-3 c = rw (ne-eqb (c .before .before .before .before .before .before .args .self .length) 0 (c .before .before .before .before .before .if1 .left), ← c .before .before .before .before .both-finite .ensures, c .before .before .before .if2 .left, eq-eqb (c .before .before .before .before .before .before .args .self .length) 1 (c .before .if3 .taken), c .second .ensures, c .before .before .deviation .ensures)
+returns-3 c = rw (ne-eqb (c .before .before .before .before .before .before .before .args .self .length) 0 (c .before .before .before .before .before .before .if1 .left), ← c .before .before .before .before .before .both-finite .ensures, c .before .before .before .before .if2 .left, eq-eqb (c .before .before .before .before .before .before .before .args .self .length) 1 (c .before .before .if3 .taken), c .fitting2 .ensures, c .before .second .ensures, c .before .before .before .deviation .ensures)
 
 returns-4 : tie.Need-returns-4
 unfolding tried
@@ -49,12 +51,14 @@ tried-spec =
     tie.close
     (tie.spec
     opened-requires
+    fitting-requires
     returns
     both-finite-requires
     flat-requires
     returns-2
     deviation-requires
     second-requires
+    fitting-requires-2
     later-requires
     returns-3
     returns-4)

@@ -1,32 +1,38 @@
 -- `choice::select_pmc_mean` meets its contract. Assumes nothing.
-use mathlib.Core.Path.{sym}
+use mathlib.Core.Path.{_≡_}
+use Prim.Native.Nat.{ℕ, _≤_}
 use native.Mathlib.Omega.{arith}
-use borrow.Author.Tests.{leb-true, not-false}
-use lib.Dec.{leb}
-use Rattle.models.specs.Answers.{refused, answered}
-use Rattle.models.proofs.Judged.{none, accepted}
-use Rattle.models.proofs.Laws.{and-right}
-use Rattle.pmc_mean.specs.Calls.{costCauses, modelCauses}
+use borrow.Author.Tests.{leb-true}
+use Rattle.models.specs.Answers.{answered, verdict}
+use Rattle.models.proofs.Judged.{none, has-cost}
+use Rattle.pmc_mean.specs.State.{usable}
+use Rattle.pmc_mean.specs.Calls.{costCauses}
+use Rattle.pmc_mean.specs.declared.PMCMean.{PMCMean}
 use Rattle.types.specs.Choice.{pmcModel}
+use borrow.Author.Needs.{needs}
 use Rattle.types.proofs.choice.select_pmc_mean.Statement.{statement}
 use Rattle.types.proofs.choice.select_pmc_mean.Tie as tie
 
+limits : (s : PMCMean) (m : ℕ) → verdict (costCauses s m) ≡ answered tt → (s .length ≤ 65536) × (m ≤ 65535)
+limits s m h =
+    let ok = has-cost (s .«error_bound») (usable s) (s .length) m (none (costCauses s m) h) in
+    (leb-true (s .length) 65536 (ok .0), ok .2)
+
 average-requires : tie.Need-average-requires
-average-requires c κs =
-    let k = none (costCauses (c .args .s) (c .args .m)) (c .pre) in
-    sym (accepted refused (answered tt) (modelCauses (c .args .s)) (k .0, (k .1 .0, (k .1 .1 .1 .0, tt))))
+average-requires c κs = limits (c .args .s) (c .args .m) (c .pre) .0
+
+bits-of-f32-requires : tie.Need-bits-of-f32-requires
+bits-of-f32-requires c κs = search needs
 
 cost-requires : tie.Need-cost-requires
 cost-requires c κs =
-    let a = c .before .args in
-    let k = none (costCauses (a .s) (a .m)) (c .before .pre) in
-    let small = leb-true (a .s .length) 65536 (not-false _ (k .1 .0)) in
-    let size = leb-true (a .m) 65535 (and-right (leb 1 (a .m)) _ (not-false _ (k .1 .1 .0))) in
-    (omega arith, small)
+    let l = limits (c .before .before .args .s) (c .before .before .args .m) (c .before .before .pre) in
+    (omega (arith, l .1), l .0)
 
 returns : tie.Need-returns
 unfolding pmcModel
-returns c = rw (c .cost .ensures, c .before .average .ensures)
+returns c = rw (c .cost .ensures, c .before .bits-of-f32 .ensures, c .before .before .average .ensures)
 
 pub select-pmc-mean-spec : {M : Type 1} → statement M
-select-pmc-mean-spec = tie.close (tie.spec average-requires cost-requires returns)
+select-pmc-mean-spec =
+    tie.close (tie.spec average-requires bits-of-f32-requires cost-requires returns)

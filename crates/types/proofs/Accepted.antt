@@ -1,0 +1,145 @@
+-- choose_model is refused by its own causes only: where none of them holds, both models stand for the first value, so the choice has an answer, and it is
+-- never 11 there. The chosen model stands for at least one of the values, Swing's for at least two. Assumes nothing.
+use mathlib.Core.Path.{_≡_, refl, sym, ap, _∙_, subst}
+use mathlib.Core.Bool.{Bool, true, false, not}
+use mathlib.Core.List.{List, [], _∷_}
+use Prim.Native.Nat.{ℕ, _≤_}
+use native.Mathlib.Omega.{arith}
+use borrow.Author.Tests.{eqb-false, ne-eqb, not-false, eqb-true}
+use lib.Dec.{eqb, ltb}
+use lib.IntN.{ℤ}
+use lib.ListN.{length}
+use lib.Ieee.{Float, binary32, ofBits}
+use Rattle.models.specs.Answers.{answered, refused, answeredOn, refusedOn, stateAfter, Cause, _when_, judge, judged}
+use Rattle.models.specs.Bound.{boundAllowed}
+use Rattle.models.specs.Limits.{metadataAllowed}
+use Rattle.models.specs.declared.ErrorBound.{ErrorBound}
+use Rattle.models.proofs.Judged.{NoneHolds, accepted, after-judging, after-test}
+use Rattle.models.proofs.Laws.{and-left}
+use Rattle.models.proofs.Folds.{steps-keep}
+use Rattle.lines.specs.Times.{timeAllowed, after, inOrder}
+use Rattle.lines.specs.Line.{pointOf}
+use Rattle.lines.specs.declared.Point.{Point}
+use Rattle.pmc_mean.specs.State as Pmc
+use Rattle.pmc_mean.specs.declared.PMCMean.{PMCMean}
+use Rattle.pmc_mean.proofs.First.{first-fits}
+use Rattle.swing.specs.State as SwingState
+use Rattle.swing.specs.Step as SwingStep
+use Rattle.swing.specs.Run.{Given}
+use Rattle.swing.specs.declared.Swing.{Swing}
+use Rattle.swing.proofs.Runs as SwingRuns
+use Rattle.types.specs.Builder.{fresh, boundsAllowed, statesAllowed, roomLeft, timeFits, withPmc, withSwing, updatePmc, updateSwing, updated, answeredBy}
+use Rattle.types.specs.Choice.{choiceOf}
+use Rattle.types.specs.Calls.{updateCauses, updateAnswer, finishCauses, finishAnswer}
+use Rattle.types.specs.Run.{next, run, points, choiceCauses, stateless, choiceAnswer}
+use Rattle.types.specs.declared.ModelBuilder.{ModelBuilder}
+use Rattle.types.specs.declared.SelectedModel.{SelectedModel}
+use Rattle.types.proofs.Said.{told, neither}
+use Rattle.types.proofs.Parts.{run-usable, run-bounds}
+use Rattle.types.proofs.Chosen.{finish-length, finish-swing, choice-length}
+
+-- what is answered where no cause holds is all that a cause leaves open
+judge-same : {X : Type 0} (refuse : ℕ → X) (causes : List Cause) (x y : X) → (NoneHolds causes → x ≡ y) → judge refuse causes x ≡ judge refuse causes y
+unfolding judge
+judge-same refuse [] x y h = h tt
+judge-same refuse (n when true ∷ causes) x y h = refl
+judge-same refuse (n when false ∷ causes) x y h = judge-same refuse causes x y (λ none. h (refl, none))
+
+points-length : (ts : List ℤ) (values : List ℕ) → length (points ts values) ≤ length values
+unfolding points
+points-length [] values = omega arith
+points-length (t ∷ ts) [] = omega arith
+points-length (t ∷ ts) (v ∷ values) = omega (arith, points-length ts values)
+
+-- ---- both models stand for a value
+abbrev Some : ModelBuilder → Type 0
+Some b = (1 ≤ b .«pmc_mean» .length) × (1 ≤ b .swing .length)
+
+pmc-keeps : (s : PMCMean) (v : Float) → 1 ≤ s .length → 1 ≤ Pmc.tried s v .state .length
+unfolding Pmc.tried Pmc.taken
+pmc-keeps s v h = after-test (λ (t : PMCMean). 1 ≤ t .length) (Pmc.fits (Pmc.taken s v)) _ _ (λ f. omega arith) (λ f. h)
+
+swing-keeps : (s : Swing) (p : Point) → 1 ≤ s .length → 1 ≤ SwingStep.tried s p .state .length
+unfolding SwingStep.opened SwingStep.moved
+swing-keeps s p h = SwingRuns.stepped (λ (t : Swing). 1 ≤ t .length) s p h (λ none. omega arith) (λ some upper lower sums. omega arith)
+
+keep-pmc : (b : ModelBuilder) (v : Float) (live : Bool) → b .«pmc_mean_could_fit_all» ≡ live → Some b → Some (updatePmc b v)
+unfolding updatePmc withPmc
+keep-pmc b v true e h = rw e (pmc-keeps (b .«pmc_mean») v (h .0), h .1)
+keep-pmc b v false e h = rw e h
+
+keep-swing : (b : ModelBuilder) (p : Point) (live : Bool) → b .«swing_could_fit_all» ≡ live → Some b → Some (updateSwing b p)
+unfolding updateSwing withSwing
+keep-swing b p true e h = rw e (h .0, swing-keeps (b .swing) p (h .1))
+keep-swing b p false e h = rw e h
+
+keeps : (b : ModelBuilder) (g : Given) → Some b → Some (next b g)
+unfolding updateAnswer updated
+keeps b g h =
+    let p = pointOf (g .time) (g .bits) in
+    after-judging Some b (updateCauses b (g .time)) (answeredBy (updated b p)) h (λ none. keep-swing (updatePmc b (p .value)) p _ refl (keep-pmc b (p .value) _ refl h))
+
+-- ---- after the first point they do
+first-judged : (b : ErrorBound) (t : ℤ) → boundAllowed b ≡ true → timeAllowed t ≡ true → NoneHolds (updateCauses (fresh b) t)
+unfolding fresh boundsAllowed statesAllowed roomLeft timeFits Pmc.fresh SwingState.fresh SwingState.usable SwingState.timesAllowed SwingState.timeFollows
+first-judged b t allowed time = (rw allowed, (refl, (refl, (rw time, tt))))
+
+one-taken : (b : ErrorBound) (v : Float) → 1 ≤ Pmc.taken (Pmc.fresh b) v .length
+unfolding Pmc.taken Pmc.fresh
+one-taken b v = omega arith
+
+first-updated : (b : ErrorBound) (g : Given) → Some (updated (fresh b) (pointOf (g .time) (g .bits)))
+unfolding fresh updated updatePmc updateSwing withPmc withSwing Pmc.tried SwingStep.tried SwingState.fresh SwingStep.opened
+first-updated b g = rw (first-fits b (g .bits)) (one-taken b (ofBits binary32 (g .bits)), omega arith)
+
+first-point : (b : ErrorBound) (g : Given) → boundAllowed b ≡ true → timeAllowed (g .time) ≡ true → Some (next (fresh b) g)
+unfolding updateAnswer
+first-point b g allowed time =
+    subst Some
+    (ap stateAfter (accepted (λ (n : ℕ). refusedOn n (fresh b)) (answeredOn (answeredBy (updated (fresh b) (pointOf (g .time) (g .bits))))) (updateCauses (fresh b) (g .time)) (first-judged b (g .time) allowed time)))
+    (first-updated b g)
+
+-- ---- so nothing refuses the choice between them
+run-some : (b : ErrorBound) (ts : List ℤ) (values : List ℕ) → boundAllowed b ≡ true → inOrder ts ≡ true → length ts ≡ length values → (length values ≡ 0 → ⊥) → Some (run (fresh b) (points ts values))
+unfolding inOrder points
+run-some b ts [] allowed ordered same some = absurd (some refl)
+run-some b [] (v ∷ values) allowed ordered same some = absurd (omega arith)
+run-some b (t ∷ ts) (v ∷ values) allowed ordered same some =
+    steps-keep next Some keeps _ (points ts values) (first-point b (record { time = t; bits = v }) allowed (and-left (timeAllowed t) (after t ts) ordered))
+
+nothing-refuses : (b : ErrorBound) (given : List Given) (m : ℕ) → boundAllowed b ≡ true → metadataAllowed m ≡ true → Some (run (fresh b) given) → NoneHolds (finishCauses (run (fresh b) given) m)
+nothing-refuses b given m allowed size some =
+    let s = run (fresh b) given in
+    let bounds = run-bounds b given in
+    let usable = run-usable b given in
+    let pmc = ne-eqb (s .«pmc_mean» .length) 0 (λ e. absurd (omega arith)) in
+    let swing = ne-eqb (s .swing .length) 0 (λ e. absurd (omega arith)) in
+    (rw (bounds .0, bounds .1, allowed), (rw (usable .0, usable .1), (rw size, (rw (pmc, swing), tt))))
+
+-- ---- the laws
+module _ (ts : List ℤ) (values : List ℕ) (b : ErrorBound) (m : ℕ) where
+  abbrev after-all : ModelBuilder
+  after-all = run (fresh b) (points ts values)
+
+  pub choice-finishes : NoneHolds (choiceCauses ts values b m) → finishAnswer after-all m ≡ answeredOn (choiceOf after-all m)
+  unfolding finishAnswer
+  choice-finishes none =
+      let allowed = not-false (boundAllowed b) (none .0) in
+      let size = not-false (metadataAllowed m) (neither (ltb 65536 (length values)) (not (metadataAllowed m)) (none .1 .0) .1) in
+      let same = eqb-true (length ts) (length values) (not-false (eqb (length ts) (length values)) (none .1 .1 .0)) in
+      let ordered = not-false (inOrder ts) (none .1 .1 .1 .0) in
+      let some = eqb-false (length values) 0 (none .1 .1 .1 .1 .0) in
+      sym (accepted (λ (n : ℕ). refusedOn n after-all) (answeredOn (choiceOf after-all m)) (finishCauses after-all m) (nothing-refuses b (points ts values) m allowed size (run-some b ts values allowed ordered same some)))
+
+  -- refused by its causes, and by nothing else
+  pub choice-is : choiceAnswer ts values b m ≡ judged (choiceCauses ts values b m) (choiceOf after-all m)
+  unfolding choiceAnswer
+  choice-is = judge-same refused (choiceCauses ts values b m) _ _ (λ none. ap stateless (choice-finishes none))
+
+  -- the model that is chosen
+  pub choice-stands : (x : SelectedModel) → choiceAnswer ts values b m ≡ answered x → (1 ≤ x .length) × (x .length ≤ length values) × (x .«model_type_id» ≡ 1 → 2 ≤ x .length)
+  choice-stands x h =
+      let t = told (choiceCauses ts values b m) (choiceOf after-all m) x (sym h ∙ choice-is) in
+      let f = choice-finishes (t .0) ∙ ap answeredOn (sym (t .1)) in
+      let most : x .length ≤ length (points ts values) = rw (t .1) (choice-length b (points ts values) m) in
+      (finish-length after-all m x f, omega (arith, most, points-length ts values), finish-swing after-all m x f)
