@@ -2,7 +2,7 @@
 -- that they answer and leave in lent memory. Assumes nothing.
 use mathlib.Core.Path.{_≡_, refl, sym, ap, ap₂, _∙_, subst}
 use mathlib.Core.Bool.{Bool, true, false, cond, not}
-use mathlib.Core.List.{List, [], _∷_, _++_}
+use mathlib.Core.List.{List, [], _∷_, _++_, foldl}
 use Prim.Native.Nat.{ℕ, _+_, _*_, _^_, _≤_, _<_, min}
 use native.Mathlib.Nat.{min-eq-left}
 use native.Mathlib.Omega.{arith}
@@ -24,11 +24,12 @@ use Rattle.stream.specs.Write.{wrote, kept, wroteIn, streamOf}
 use Rattle.stream.specs.Read.{Reading, done, stopped, readAll, Reopened, reopened, bufferAfter}
 use Rattle.stream.specs.Made as theory
 use Rattle.stream.proofs.Formats.{macaque-good}
+use Rattle.stream.proofs.Promises.{gathers-over-the-kept-values, gathers-each-value-once}
 use Rattle.stream.proofs.Writing.{count-after, length-kept, wrote-append, kept-lossless}
 use Rattle.stream.proofs.Made as spine
 use Rattle.stream.proofs.AnyStream.{any-resumed}
 use Rattle.coding.specs.Keep.{keepRule}
-use Rattle.macaque_v.specs.State.{Ends, streamIn, stateOf, writerOf, isFirst, openingValue, opened}
+use Rattle.macaque_v.specs.State.{Ends, taken, gatherEnds, modeOf, streamIn, stateOf, writerOf, isFirst, openingValue, opened}
 use Rattle.macaque_v.specs.Write.{writerAt, wroteBy, writtenBy}
 use Rattle.macaque_v.specs.Calls.{newAnswer, lentBytes, tooMany, writeCauses, writeAnswer, writeMemory}
 use Rattle.macaque_v.specs.Read.{valuesRead, valuesIn, gridAnswer, gridMemory, reopening, resumed, reopenAnswer, reopenMemory}
@@ -217,6 +218,13 @@ module _ {b : ErrorBound} {o : Opening} {xs buf : List ℕ} {m : MacaqueV} (M : 
       let firsts : length (take k xs) ≡ k = length-take-le k xs le in
       let accepted = a-write-is-accepted (back .1) (below-take 32 k xs bx) hl ok ys (omega arith) (omega (arith, room)) (omega (arith, long)) in
       record { opens = back .0; accepts = accepted; made = a-write-goes-on (back .1) ys _ accepted }
+
+-- "Minimum and maximum start fresh and take in each kept value from the left, the raw first one too, and never an input that was not kept": the writer after
+-- xs has those of what it kept of xs; the opening value is not among them
+pub ends-of-the-kept : (b : ErrorBound) (o : Opening) (xs : List ℕ) → (stateAfter b o xs) .seen ≡ foldl taken (gatherEnds .none) (keptOf b o xs)
+ends-of-the-kept b o xs =
+    gathers-over-the-kept-values (keepRule b) (streamIn (isFirst o)) (opened o) xs
+    ∙ gathers-each-value-once gatherEnds (λ e v. refl) (modeOf (isFirst o)) 0 (gatherEnds .none) (keptOf b o xs)
 
 -- lossless keeps the inputs, so it is they that read back
 pub lossless-keeps-the-inputs : (o : Opening) (xs : List ℕ) → keptOf Lossless o xs ≡ xs
