@@ -3,19 +3,28 @@
 use mathlib.Core.Path.{_≡_, refl, sym, ap, ap₂, _∙_, subst}
 use mathlib.Core.Bool.{Bool, true, false, cond, not, _&&_}
 use mathlib.Core.List.{List, [], _∷_, _++_, foldl}
-use Prim.Native.Nat.{ℕ, _+_, _*_, _^_, _≤_, _<_}
+use Prim.Native.Nat.{ℕ, suc, _+_, _*_, _^_, _≤_, _<_}
 use native.Mathlib.Omega.{arith}
 use borrow.Author.Tests.{lt-ltb, le-leb, lt-leb}
 use lib.Dec.{T, eqb, leb, ltb}
 use lib.Ieee.{Float, binary32, fits, ofBits, toBits}
 use lib.Ieee.Bits.{ofBits-toBits, toBits-lt, ofBits-fits}
 use lib.ListN.{length, drop, getD}
-use Rattle.models.specs.Answers.{Said, answered, refused, SaidOn, answeredOn, refusedOn, judge}
+use Rattle.models.specs.Answers.{Said, answered, refused, SaidOn, answeredOn, refusedOn, Cause, _when_, judge, judgedOn}
 use Rattle.models.specs.Bound.{boundAllowed}
 use Rattle.models.specs.declared.ErrorBound.{ErrorBound}
 use Rattle.models.specs.declared.ErrorBound.the-variants.{Lossless, Absolute, Relative}
 use Rattle.exports.specs.Face.{boundOf, wordOf}
+use Rattle.bits.specs.Bits.{Below, wholeBytes}
+use Rattle.macaque_v.specs.State.{writerOf, isFirst, openingValue}
+use Rattle.macaque_v.specs.Calls.{newAnswer, lentBytes, writeCauses, writeAnswer, writeMemory}
+use Rattle.macaque_v.specs.Write.{writerAt, wroteBy}
+use Rattle.macaque_v.specs.Made.{Made}
 use Rattle.macaque_v.specs.declared.MacaqueV.{MacaqueV}
+use Rattle.macaque_v.specs.declared.Opening.{Opening}
+use Rattle.macaque_v.proofs.Promises.{stateAfter, a-fresh-writer, a-write-goes-on}
+use Rattle.macaque_v.proofs.Held.{Held, made-held}
+use Rattle.exports_stream.specs.Calls.{openingOf, numberIn, rowIn, newCauses, newNumber, newRow, numberOn, rowOn, writeNumber, writeRow, writeBuffer}
 use Rattle.exports_stream.specs.Row.{kindOf, bitsOf, rowOf, small, boundIn, standsForState, read, spoiled, writerIn}
 
 -- ---- a row is read back as the writer that it was made of
@@ -25,15 +34,6 @@ abbrev pub BoundFits : ErrorBound → Type 0
 BoundFits Lossless = Unit {0}
 BoundFits (Absolute e) = T (fits binary32 e)
 BoundFits (Relative e) = T (fits binary32 e)
-
--- a writer as a program holds one: its words are of 32 bits
-pub record Held (m : MacaqueV) : Type 0 where
-  pub bound : BoundFits (m .«error_bound»)
-  pub least : m .«min_value» < 2 ^ 32
-  pub greatest : m .«max_value» < 2 ^ 32
-  pub last : m .«last_value» < 2 ^ 32
-  pub leading : m .«last_leading_zero_bits» < 2 ^ 32
-  pub trailing : m .«last_trailing_zero_bits» < 2 ^ 32
 
 is-small : (w : ℕ) → w < 2 ^ 32 → small w ≡ true
 is-small w h = lt-ltb w (2 ^ 32) h
@@ -48,7 +48,36 @@ flag-back : (t : Bool) → (leb (wordOf t) 1 ≡ true) × (eqb (wordOf t) 1 ≡ 
 flag-back true = (refl, refl)
 flag-back false = (refl, refl)
 
-pub row-back : (m : MacaqueV) (rest : List ℕ) → Held m → writerIn (rowOf m ++ rest) ≡ m
+pub row-back : (m : MacaqueV) (rest : List ℕ) → BoundFits (m .«error_bound») → Held m → writerIn (rowOf m ++ rest) ≡ m
 unfolding writerIn rowOf standsForState
-row-back m rest h =
-    rw (is-small (m .«min_value») (h .least), is-small (m .«max_value») (h .greatest), is-small (m .«last_value») (h .last), is-small (m .«last_leading_zero_bits») (h .leading), is-small (m .«last_trailing_zero_bits») (h .trailing), flag-back (m .«with_first») .0, flag-back (m .«with_first») .1, bound-back (m .«error_bound») (h .bound))
+row-back m rest f h =
+    rw (is-small (m .«min_value») (h .least), is-small (m .«max_value») (h .greatest), is-small (m .«last_value») (h .last), is-small (m .«last_leading_zero_bits») (h .leading), is-small (m .«last_trailing_zero_bits») (h .trailing), flag-back (m .«with_first») .0, flag-back (m .«with_first») .1, bound-back (m .«error_bound») f)
+
+
+-- ---- demand 3, of rows
+
+-- a writer that writes, stops and resumes have made is the one that its row stands for
+module _ {b : ErrorBound} {o : Opening} {xs buf : List ℕ} {m : MacaqueV} (M : Made b o xs buf m) (f : BoundFits b) (hl : openingValue o < 2 ^ 32) (bx : Below 32 xs) where
+  pub made-row : (rest : List ℕ) → writerIn (rowOf m ++ rest) ≡ m
+  made-row rest =
+      row-back m rest (subst BoundFits (sym (ap (λ (w : MacaqueV). w .«error_bound») (M .writer))) f) (subst Held (sym (M .writer)) (made-held b o xs hl bx))
+
+-- every number of a list of causes is above 0
+abbrev Positive : List Cause → Type 0
+Positive [] = Unit {0}
+Positive (n when holds ∷ causes) = (0 < n) × Positive causes
+
+-- a number of 0 tells that nothing was refused
+no-zero : {S A : Type 0} (s : S) (causes : List Cause) (a : A) → Positive causes → numberOn (judgedOn s causes a) ≡ 0 → judgedOn s causes a ≡ answeredOn a
+unfolding judge
+no-zero s [] a p h = refl
+no-zero s (n when true ∷ causes) a p h = absurd (omega (arith, p .0))
+no-zero s (n when false ∷ causes) a p h = no-zero s causes a (p .1) h
+
+module _ {b : ErrorBound} {o : Opening} {xs buf row : List ℕ} (M : Made b o xs buf (writerIn row)) (f : BoundFits b) (hl : openingValue o < 2 ^ 32)
+    (bx : Below 32 xs) (words : 10 ≤ length row) where
+  -- an accepted write leaves the bytes of one fresh run, and a row that stands for its writer
+  pub a-row-goes-on : (ys : List ℕ) → Below 32 (xs ++ ys) → writeNumber row ys buf ≡ 0
+      → Made b o (xs ++ ys) (writeBuffer row ys buf) (writerIn (writeRow row ys buf))
+  unfolding writeNumber writeRow writeBuffer
+  a-row-goes-on ys by h = ?
