@@ -74,10 +74,22 @@ no-zero s [] a p h = refl
 no-zero s (n when true ∷ causes) a p h = absurd (omega (arith, p .0))
 no-zero s (n when false ∷ causes) a p h = no-zero s causes a (p .1) h
 
-module _ {b : ErrorBound} {o : Opening} {xs buf row : List ℕ} (M : Made b o xs buf (writerIn row)) (f : BoundFits b) (hl : openingValue o < 2 ^ 32)
-    (bx : Below 32 xs) (words : 10 ≤ length row) where
+accepted-zero : (m : MacaqueV) (ys buf : List ℕ) → numberOn (writeAnswer m ys buf) ≡ 0 → writeAnswer m ys buf ≡ answeredOn (writerAt m (wroteBy m ys))
+unfolding writeAnswer
+accepted-zero m ys buf h =
+    no-zero m (writeCauses m ys (lentBytes (length buf))) (writerAt m (wroteBy m ys)) (omega arith, (omega arith, (omega arith, (omega arith, tt)))) h
+
+module _ {b : ErrorBound} {o : Opening} {xs buf : List ℕ} (row : List ℕ) (M : Made b o xs buf (writerIn row)) (f : BoundFits b) (hl : openingValue o < 2 ^ 32)
+    (words : 10 ≤ length row) where
   -- an accepted write leaves the bytes of one fresh run, and a row that stands for its writer
   pub a-row-goes-on : (ys : List ℕ) → Below 32 (xs ++ ys) → writeNumber row ys buf ≡ 0
       → Made b o (xs ++ ys) (writeBuffer row ys buf) (writerIn (writeRow row ys buf))
   unfolding writeNumber writeRow writeBuffer
-  a-row-goes-on ys by h = ?
+  a-row-goes-on ys by h =
+      let holds : leb 10 (length row) ≡ true = le-leb 10 (length row) words in
+      let n : MacaqueV = writerAt (writerIn row) (wroteBy (writerIn row) ys) in
+      let a : writeAnswer (writerIn row) ys buf ≡ answeredOn n = accepted-zero (writerIn row) ys buf (rw holds at h) in
+      let made : Made b o (xs ++ ys) (writeMemory (writerIn row) ys buf) n = a-write-goes-on M ys n a in
+      let left : rowOn row (writeAnswer (writerIn row) ys buf) ≡ rowOf n ++ drop 10 row = ap (rowOn row) a in
+      let stands : writerIn (rowOn row (writeAnswer (writerIn row) ys buf)) ≡ n = ap writerIn left ∙ made-row made f hl by (drop 10 row) in
+      rw holds (subst (λ (w : MacaqueV). Made b o (xs ++ ys) (writeMemory (writerIn row) ys buf) w) (sym stands) made)
