@@ -1,0 +1,3 @@
+-- The theorems about the calls, and the laws that the proofs of `segment_grid` share.
+pub mod Owned
+pub mod Placed

@@ -1,0 +1,136 @@
+-- `segment_grid::draw::draw` meets its contract. Assumes nothing.
+use borrow.Author.Needs.{needs}
+use mathlib.Core.Path.{_≡_, sym, ap, subst, _∙_}
+use mathlib.Core.List.{List, _++_}
+use Prim.Native.Nat.{ℕ, _-_, _≤_}
+use native.Mathlib.Omega.{arith}
+use denote.Ref.{now}
+use borrow.Rule.Slice.PartMut.{putMid}
+use lib.ListN.{length, take, drop, length-drop}
+use lib.Seq.{length-take-le}
+use Rattle.models.specs.Answers.{answered, refused}
+use Rattle.models.specs.Refusals.{number}
+use Rattle.models.specs.Calls.{saysGrid}
+use Rattle.parameters.specs.Calls.{saysEnds}
+use Rattle.macaque_v.specs.Read.{drawn, drawnIn}
+use Rattle.segment_grid.specs.Segment.{residualsIn, given, modelValues, ownedTimes}
+use Rattle.segment_grid.specs.Calls.{behind}
+use Rattle.segment_grid.proofs.Owned.{in-order-take, length-model}
+use Rattle.segment_grid.proofs.Placed.{still-long, when-drawn, when-stopped}
+use Rattle.segment_grid.proofs.draw.draw.Statement.{statement}
+use Rattle.segment_grid.proofs.draw.draw.Tie as tie
+
+count-in-requires : tie.Need-count-in-requires
+count-in-requires c κs = search needs
+
+sub-owned : tie.Need-sub-owned
+sub-owned c = omega (arith, c .before .before .before .pre .1, c .count-in .ensures)
+
+last-of-requires : tie.Need-last-of-requires
+last-of-requires c κs = search needs
+
+mul-draw-residuals : tie.Need-mul-draw-residuals
+mul-draw-residuals c = search needs
+
+sub-draw-residuals : tie.Need-sub-draw-residuals
+sub-draw-residuals c = omega (arith, c .before .before .before .before .pre .2)
+
+part-draw-residuals-start : tie.Need-part-draw-residuals-start
+part-draw-residuals-start c = let le : length (now (c .before .before .before .before .args .timestamps)) - c .before .count-in .result ≤ length (now (c .before .before .before .before .args .out)) = omega (arith, c .before .before .before .before .pre .2) in le
+
+part-draw-residuals-end : tie.Need-part-draw-residuals-end
+part-draw-residuals-end c = search needs
+
+draw-residuals-requires : tie.Need-draw-residuals-requires
+draw-residuals-requires c κs =
+    let p = c .before .before .before .before .before .pre in
+    let ts = now (c .before .before .before .before .before .args .timestamps) in
+    let out = now (c .before .before .before .before .before .args .out) in
+    let n = length ts - c .before .before .count-in .result in
+    (omega (arith, p .0, p .1), omega (arith, p .1, p .2, c .before .before .count-in .ensures, length-take-le (length out - n) (drop n out) (omega (arith, length-drop n out))))
+
+enum-known-r : tie.Need-enum-known-r
+enum-known-r c = search needs
+
+enum-told : tie.Need-enum-told
+enum-told c = search needs
+
+slice-aggregate-draw-model : tie.Need-slice-aggregate-draw-model
+slice-aggregate-draw-model c =
+    let ts = now (c .before .before .before .before .before .before .before .before .before .before .before .args .timestamps) in
+    sym (length-take-le (length ts - c .before .before .before .before .before .before .before .before .count-in .result) ts (omega arith))
+
+draw-model-requires : tie.Need-draw-model-requires
+draw-model-requires c κs =
+    let a = c .before .before .before .before .before .before .before .before .before .before .before .before .args in
+    let ts = now (a .timestamps) in
+    let out = now (a .out) in
+    let p = c .before .before .before .before .before .before .before .before .before .before .before .before .pre in
+    let count = c .before .before .before .before .before .before .before .before .before .count-in .ensures in
+    let n = length ts - c .before .before .before .before .before .before .before .before .before .count-in .result in
+    let le : n ≤ length out = omega (arith, p .2) in
+    let len : length (take n ts) ≡ n = length-take-le n ts (omega arith) in
+    (in-order-take n ts (p .3), omega (arith, len, count, p .1), omega (arith, len, still-long n out le (c .before .before .before .before .before .before .draw-residuals .last .1 .1 .0)))
+
+same-length : tie.Need-same-length
+same-length c = search needs
+
+returns : tie.Need-returns
+returns c =
+    let a = c .before .before .before .before .before .before .before .before .before .before .before .args in
+    let ts = now (a .timestamps) in
+    let out = now (a .out) in
+    let ends = given (saysEnds (a .ends)) in
+    let p = c .before .before .before .before .before .before .before .before .before .before .before .pre in
+    let count = c .before .before .before .before .before .before .before .before .count-in .ensures in
+    let n = length ts - c .before .before .before .before .before .before .before .before .count-in .result in
+    let le : n ≤ length out = omega (arith, p .2) in
+    let q = residualsIn (now (a .residuals)) (ends .1) in
+    let res = c .before .before .before .before .before .draw-residuals in
+    let last = c .before .before .before .before .before .before .before .last-of .ensures in
+    when-stopped n out le q (number (c .before .r .given .0 .0)) (sym (ap saysGrid (c .before .r .given .1)) ∙ (rw last at (res .ensures .0))) (modelValues (a .model) (ownedTimes ts (now (a .residuals))) ends) (res .last .1 .1 .0) (rw last at (res .ensures .1))
+
+same-length-2 : tie.Need-same-length-2
+same-length-2 c = search needs
+
+returns-2 : tie.Need-returns-2
+returns-2 c =
+    let a = c .before .before .before .before .before .before .before .before .before .before .before .before .before .before .before .args in
+    let ts = now (a .timestamps) in
+    let out = now (a .out) in
+    let ends = given (saysEnds (a .ends)) in
+    let p = c .before .before .before .before .before .before .before .before .before .before .before .before .before .before .before .pre in
+    let count = c .before .before .before .before .before .before .before .before .before .before .before .before .count-in .ensures in
+    let n = length ts - c .before .before .before .before .before .before .before .before .before .before .before .before .count-in .result in
+    let le : n ≤ length out = omega (arith, p .2) in
+    let q = residualsIn (now (a .residuals)) (ends .1) in
+    let res = c .before .before .before .before .before .before .before .before .before .draw-residuals in
+    let last = c .before .before .before .before .before .before .before .before .before .before .before .last-of .ensures in
+    let len : length (take n ts) ≡ n = length-take-le n ts (omega arith) in
+    let ms = modelValues (a .model) (take n ts) ends in
+    let part = res .last .1 .1 .0 in
+    let w = when-drawn n out le q (sym (ap saysGrid (c .before .before .before .before .before .enum-told .given .1)) ∙ (rw last at (res .ensures .0))) ms part (length-model (a .model) (take n ts) ends ∙ len) (rw last at (res .ensures .1)) in (
+      subst (λ (k : ℕ). answered tt ≡ drawn (behind (modelValues (a .model) (take (length ts - k) ts) ends) q)) count (w .0),
+      c .before .before .draw-model .ensures ∙ ap (λ (j : ℕ). ms ++ drop j (putMid n (length out - n) out part)) len ∙ w .1 ∙ ap (λ (k : ℕ). drawnIn out (behind (modelValues (a .model) (take (length ts - k) ts) ends) q)) count,
+    )
+
+pub draw-spec : {M : Type 1} → statement M
+draw-spec =
+    tie.close
+    (tie.spec
+    count-in-requires
+    sub-owned
+    last-of-requires
+    mul-draw-residuals
+    sub-draw-residuals
+    part-draw-residuals-start
+    part-draw-residuals-end
+    draw-residuals-requires
+    enum-known-r
+    enum-told
+    slice-aggregate-draw-model
+    draw-model-requires
+    same-length
+    returns
+    same-length-2
+    returns-2)
