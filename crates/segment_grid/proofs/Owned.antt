@@ -3,17 +3,18 @@ use mathlib.Core.Path.{_≡_, refl, sym, subst, _∙_}
 use mathlib.Core.Bool.{Bool, true, false, cond, _&&_, _||_, false≢true}
 use mathlib.Core.List.{List, [], _∷_, map}
 use Prim.Native.Nat.{ℕ, zero, suc, _-_, _≤_, _<_}
+use native.Mathlib.Nat.{le-of-suc-le-suc, not-suc-le-zero}
 use native.Mathlib.Omega.{arith}
 use mir.Syntax.{w64}
 use mir.Val.{toZ, ofZ, SFits}
 use mir.ValLaws.{toZ-ofZ}
 use borrow.Author.Tests.{le-ltb, ltb-false, leb-false, not-false}
-use lib.Dec.{leb, ltb}
+use lib.Dec.{ltb}
 use lib.IntN.{ℤ, pos}
 use lib.Signed.{ltZ}
 use lib.ListN.{length, take, getD, replicate, length-map, length-replicate}
 use lib.Seq.{length-take-le}
-use Rattle.models.specs.Answers.{Said, answered, Done, judge, verdict}
+use Rattle.models.specs.Answers.{Said, answered, judge, verdict}
 use Rattle.models.proofs.Judged.{none}
 use Rattle.models.proofs.Laws.{and-left, and-right, and-both}
 use Rattle.lines.specs.Line.{lineThrough}
@@ -21,9 +22,10 @@ use Rattle.lines.specs.Values.{drawnAt}
 use Rattle.lines.specs.Times.{timeAllowed, after, inOrder}
 use Rattle.lines.proofs.Exact.{time-fits}
 use Rattle.lines.proofs.Ordered.{in-order-at}
+use Rattle.swing.proofs.Allowed.{before-both}
 use Rattle.parameters.specs.Forms.{Ends}
 use Rattle.segment_grid.specs.Segment.{countIn, isSwing, owned, ownedTimes, startOf, endOf, modelValues}
-use Rattle.segment_grid.specs.Calls.{overLimit, timesWrong, gridCauses, sumCauses}
+use Rattle.segment_grid.specs.Calls.{gridCauses, sumCauses}
 
 -- ---- tests
 pub neither : (x y : Bool) → (x || y) ≡ false → (x ≡ false) × (y ≡ false)
@@ -47,6 +49,21 @@ in-order-take zero ts h = refl
 in-order-take (suc n) [] h = refl
 in-order-take (suc n) (t ∷ ts) h =
     and-both (timeAllowed t) (after t (take n ts)) (and-left (timeAllowed t) (after t ts) h) (after-take n t ts (and-right (timeAllowed t) (after t ts) h))
+
+-- and each later one is after the first
+after-later : (a : ℤ) (ts : List ℤ) (i : ℕ) → after a ts ≡ true → i < length ts → ltZ a (getD ts i (pos 0)) ≡ true
+unfolding after
+after-later a [] i h l = absurd (not-suc-le-zero l)
+after-later a (t ∷ ts) zero h l = and-left (ltZ a t) (after t ts) (and-right (timeAllowed t) (ltZ a t && after t ts) h)
+after-later a (t ∷ ts) (suc i) h l =
+    let later = and-right (timeAllowed t) (ltZ a t && after t ts) h in
+    before-both a t (getD ts i (pos 0)) (and-left (ltZ a t) (after t ts) later) (after-later t ts i (and-right (ltZ a t) (after t ts) later) (le-of-suc-le-suc l))
+
+pub in-order-later : (ts : List ℤ) (i : ℕ) → inOrder ts ≡ true → 0 < i → i < length ts → ltZ (getD ts 0 (pos 0)) (getD ts i (pos 0)) ≡ true
+unfolding inOrder
+in-order-later [] i h some l = absurd (not-suc-le-zero l)
+in-order-later (t ∷ ts) zero h some l = absurd (not-suc-le-zero some)
+in-order-later (t ∷ ts) (suc i) h some l = after-later t ts i (and-right (timeAllowed t) (after t ts) h) (le-of-suc-le-suc l)
 
 -- one of them, as a call hands it on
 pub passed-on : (ts : List ℤ) (i : ℕ) (t : ℤ) → inOrder ts ≡ true → i < length ts → t ≡ getD ts i (pos 0) → toZ w64 (ofZ w64 t) ≡ getD ts i (pos 0)

@@ -1,14 +1,14 @@
 -- `segment_grid::draw::draw` meets its contract. Assumes nothing.
 use borrow.Author.Needs.{needs}
 use mathlib.Core.Path.{_≡_, sym, ap, subst, _∙_}
-use mathlib.Core.List.{List, _++_}
+use mathlib.Core.List.{_++_}
 use Prim.Native.Nat.{ℕ, _-_, _≤_}
 use native.Mathlib.Omega.{arith}
 use denote.Ref.{now}
 use borrow.Rule.Slice.PartMut.{putMid}
 use lib.ListN.{length, take, drop, length-drop}
 use lib.Seq.{length-take-le}
-use Rattle.models.specs.Answers.{answered, refused}
+use Rattle.models.specs.Answers.{answered}
 use Rattle.models.specs.Refusals.{number}
 use Rattle.models.specs.Calls.{saysGrid}
 use Rattle.parameters.specs.Calls.{saysEnds}
