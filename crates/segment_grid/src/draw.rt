@@ -29,10 +29,12 @@ pub fn draw(
     ensures output { λ r. ⌜ now (out .exit) ≡ drawnIn (now (out .entry)) (segmentValues model (now (timestamps .entry)) (given (saysEnds ends)) (now (residuals .entry))) ⌝ }
 {
     let owned = timestamps.len() - parts::count_in(residuals);
-    match draw_residuals(residuals, parts::last_of(ends), &mut out[owned..]) {
+    let first = parts::first_of(ends);
+    let last = parts::last_of(ends);
+    match draw_residuals(residuals, last, &mut out[owned..]) {
         GridAnswer::Refused(r) => GridAnswer::Refused(r),
         GridAnswer::Drawn => {
-            draw_model(model, &timestamps[..owned], ends, out);
+            draw_model(model, &timestamps[..owned], first, last, out);
             GridAnswer::Drawn
         }
     }
@@ -50,14 +52,13 @@ fn draw_residuals(residuals: &[u8], last: u32, out: &mut [u32]) -> GridAnswer
 }
 
 // The model's values at the times that it owns, to the front of `out`.
-fn draw_model(model: u32, times: &[i64], ends: EndsAnswer, out: &mut [u32])
+fn draw_model(model: u32, times: &[i64], first: u32, last: u32, out: &mut [u32])
     requires { ⌜ (inOrder (now times) ≡ true) × (0 < length (now times)) × (length (now times) ≤ length (now out)) ⌝ }
-    ensures { λ _. ⌜ now (out .exit) ≡ modelValues model (now (times .entry)) (given (saysEnds ends)) ++ drop (length (now (times .entry))) (now (out .entry)) ⌝ }
+    ensures { λ _. ⌜ now (out .exit) ≡ modelValues model (now (times .entry)) (first, last) ++ drop (length (now (times .entry))) (now (out .entry)) ⌝ }
 {
-    let first = parts::first_of(ends);
     if model == 1 {
         let a = lines::point_of(parts::time_at(times, 0), first);
-        let b = lines::point_of(parts::time_at(times, times.len() - 1), parts::last_of(ends));
+        let b = lines::point_of(parts::time_at(times, times.len() - 1), last);
         lines::draw(lines::line_through(a, b), times, out);
         return;
     }

@@ -96,19 +96,13 @@ fn judge(model: u32, timestamps: &[i64], ends: EndsAnswer, residuals: &[u8], roo
     let total = timestamps.len();
     let count = parts::count_in(residuals);
     let lone = (model == 1) & (parts::less(total, count) == 1);
-    let disordered = !lines::times::in_order(timestamps);
-    let no_count = !(residuals.len() == 0) & (count == 0);
-    let line = models::when(
-        Refusal::NoModel,
-        (model == 1) & parts::no_line(ends),
-        Verdict::Passed,
-    );
-    let form = models::when(
-        Refusal::FormNotAllowed,
-        parts::unread(ends) | no_count,
-        line,
-    );
-    let times = models::when(Refusal::TimesNotAllowed, disordered | lone, form);
+    let times_wrong = !lines::times::in_order(timestamps) | lone;
+    let count_of_0 = !(residuals.len() == 0) & (count == 0);
+    let form_wrong = parts::unread(ends) | count_of_0;
+    let line_missing = (model == 1) & parts::no_line(ends);
+    let line = models::when(Refusal::NoModel, line_missing, Verdict::Passed);
+    let form = models::when(Refusal::FormNotAllowed, form_wrong, line);
+    let times = models::when(Refusal::TimesNotAllowed, times_wrong, form);
     let short = models::when(Refusal::OutputTooShort, room < total, times);
     let none = models::when(Refusal::CountsDisagree, total <= count, short);
     models::when(Refusal::OverLimit, (1 < model) | (65536 < total), none)

@@ -25,19 +25,20 @@ pub fn total(
     requires { ⌜ (inOrder (now timestamps) ≡ true) × (countIn (now residuals) < length (now timestamps)) ⌝ }
     ensures { λ r. ⌜ saysValue r ≡ segmentSum «by_average» model (now (timestamps .entry)) (given (saysEnds ends)) (now (residuals .entry)) ⌝ }
 {
-    let owned = timestamps.len() - parts::count_in(residuals);
-    let of_model = of_model(by_average, model, &timestamps[..owned], ends);
-    add_residuals(of_model, residuals, parts::last_of(ends))
+    let total = timestamps.len();
+    let owned = total - parts::count_in(residuals);
+    let first = parts::first_of(ends);
+    let last = parts::last_of(ends);
+    let of_model = of_model(by_average, model, &timestamps[..owned], first, last);
+    add_residuals(of_model, residuals, last)
 }
 
 // The model's sum, of the times that it owns.
-fn of_model(by_average: bool, model: u32, times: &[i64], ends: EndsAnswer) -> ValueAnswer
+fn of_model(by_average: bool, model: u32, times: &[i64], first: u32, last: u32) -> ValueAnswer
     requires { ⌜ (inOrder (now times) ≡ true) × (0 < length (now times)) ⌝ }
-    ensures { λ r. ⌜ saysValue r ≡ modelSum «by_average» model (now (times .entry)) (given (saysEnds ends)) ⌝ }
+    ensures { λ r. ⌜ saysValue r ≡ modelSum «by_average» model (now (times .entry)) (first, last) ⌝ }
 {
     let n = times.len();
-    let first = parts::first_of(ends);
-    let last = parts::last_of(ends);
     if model == 1 {
         let start = parts::time_at(times, 0);
         let end = parts::time_at(times, n - 1);

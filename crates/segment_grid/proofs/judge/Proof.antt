@@ -14,14 +14,14 @@ less-requires c κs = search needs
 in-order-requires : tie.Need-in-order-requires
 in-order-requires c κs = search needs
 
+unread-requires : tie.Need-unread-requires
+unread-requires c κs = search needs
+
 no-line-requires : tie.Need-no-line-requires
 no-line-requires c κs = search needs
 
 when-requires : tie.Need-when-requires
 when-requires c κs = search needs
-
-unread-requires : tie.Need-unread-requires
-unread-requires c κs = search needs
 
 when-requires-2 : tie.Need-when-requires-2
 when-requires-2 c κs = search needs
@@ -40,7 +40,7 @@ when-requires-6 c κs = search needs
 
 returns : tie.Need-returns
 unfolding judge noLine
-returns c = rw (c .when6 .ensures, c .before .when5 .ensures, c .before .before .when4 .ensures, c .before .before .before .when3 .ensures, c .before .before .before .before .when2 .ensures, c .before .before .before .before .before .unread .ensures, c .before .before .before .before .before .before .when .ensures, c .before .before .before .before .before .before .before .no-line .ensures, c .before .before .before .before .before .before .before .before .in-order .ensures, c .before .before .before .before .before .before .before .before .before .less .ensures, c .before .before .before .before .before .before .before .before .before .before .count-in .ensures)
+returns c = rw (c .when6 .ensures, c .before .when5 .ensures, c .before .before .when4 .ensures, c .before .before .before .when3 .ensures, c .before .before .before .before .when2 .ensures, c .before .before .before .before .before .when .ensures, c .before .before .before .before .before .before .no-line .ensures, c .before .before .before .before .before .before .before .unread .ensures, c .before .before .before .before .before .before .before .before .in-order .ensures, c .before .before .before .before .before .before .before .before .before .less .ensures, c .before .before .before .before .before .before .before .before .before .before .count-in .ensures)
 
 pub judge-spec : {M : Type 1} → statement M
 judge-spec =
@@ -49,9 +49,9 @@ judge-spec =
     count-in-requires
     less-requires
     in-order-requires
+    unread-requires
     no-line-requires
     when-requires
-    unread-requires
     when-requires-2
     when-requires-3
     when-requires-4

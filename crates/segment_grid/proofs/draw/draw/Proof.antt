@@ -26,6 +26,9 @@ count-in-requires c κs = search needs
 sub-owned : tie.Need-sub-owned
 sub-owned c = omega (arith, c .before .before .before .pre .1, c .count-in .ensures)
 
+first-of-requires : tie.Need-first-of-requires
+first-of-requires c κs = search needs
+
 last-of-requires : tie.Need-last-of-requires
 last-of-requires c κs = search needs
 
@@ -33,21 +36,21 @@ mul-draw-residuals : tie.Need-mul-draw-residuals
 mul-draw-residuals c = search needs
 
 sub-draw-residuals : tie.Need-sub-draw-residuals
-sub-draw-residuals c = omega (arith, c .before .before .before .before .pre .2)
+sub-draw-residuals c = omega (arith, c .before .before .before .before .before .pre .2)
 
 part-draw-residuals-start : tie.Need-part-draw-residuals-start
-part-draw-residuals-start c = let le : length (now (c .before .before .before .before .args .timestamps)) - c .before .count-in .result ≤ length (now (c .before .before .before .before .args .out)) = omega (arith, c .before .before .before .before .pre .2) in le
+part-draw-residuals-start c = let le : length (now (c .before .before .before .before .before .args .timestamps)) - c .before .before .count-in .result ≤ length (now (c .before .before .before .before .before .args .out)) = omega (arith, c .before .before .before .before .before .pre .2) in le
 
 part-draw-residuals-end : tie.Need-part-draw-residuals-end
 part-draw-residuals-end c = search needs
 
 draw-residuals-requires : tie.Need-draw-residuals-requires
 draw-residuals-requires c κs =
-    let p = c .before .before .before .before .before .pre in
-    let ts = now (c .before .before .before .before .before .args .timestamps) in
-    let out = now (c .before .before .before .before .before .args .out) in
-    let n = length ts - c .before .before .count-in .result in
-    (omega (arith, p .0, p .1), omega (arith, p .1, p .2, c .before .before .count-in .ensures, length-take-le (length out - n) (drop n out) (omega (arith, length-drop n out))))
+    let p = c .before .before .before .before .before .before .pre in
+    let ts = now (c .before .before .before .before .before .before .args .timestamps) in
+    let out = now (c .before .before .before .before .before .before .args .out) in
+    let n = length ts - c .before .before .before .count-in .result in
+    (omega (arith, p .0, p .1), omega (arith, p .1, p .2, c .before .before .before .count-in .ensures, length-take-le (length out - n) (drop n out) (omega (arith, length-drop n out))))
 
 enum-known-r : tie.Need-enum-known-r
 enum-known-r c = search needs
@@ -57,17 +60,17 @@ enum-told c = search needs
 
 slice-aggregate-draw-model : tie.Need-slice-aggregate-draw-model
 slice-aggregate-draw-model c =
-    let ts = now (c .before .before .before .before .before .before .before .before .before .before .before .args .timestamps) in
-    sym (length-take-le (length ts - c .before .before .before .before .before .before .before .before .count-in .result) ts (omega arith))
+    let ts = now (c .before .before .before .before .before .before .before .before .before .before .before .before .args .timestamps) in
+    sym (length-take-le (length ts - c .before .before .before .before .before .before .before .before .before .count-in .result) ts (omega arith))
 
 draw-model-requires : tie.Need-draw-model-requires
 draw-model-requires c κs =
-    let a = c .before .before .before .before .before .before .before .before .before .before .before .before .args in
+    let a = c .before .before .before .before .before .before .before .before .before .before .before .before .before .args in
     let ts = now (a .timestamps) in
     let out = now (a .out) in
-    let p = c .before .before .before .before .before .before .before .before .before .before .before .before .pre in
-    let count = c .before .before .before .before .before .before .before .before .before .count-in .ensures in
-    let n = length ts - c .before .before .before .before .before .before .before .before .before .count-in .result in
+    let p = c .before .before .before .before .before .before .before .before .before .before .before .before .before .pre in
+    let count = c .before .before .before .before .before .before .before .before .before .before .count-in .ensures in
+    let n = length ts - c .before .before .before .before .before .before .before .before .before .before .count-in .result in
     let le : n ≤ length out = omega (arith, p .2) in
     let len : length (take n ts) ≡ n = length-take-le n ts (omega arith) in
     (in-order-take n ts (p .3), omega (arith, len, count, p .1), omega (arith, len, still-long n out le (c .before .before .before .before .before .before .draw-residuals .last .1 .1 .0)))
@@ -77,13 +80,13 @@ same-length c = search needs
 
 returns : tie.Need-returns
 returns c =
-    let a = c .before .before .before .before .before .before .before .before .before .before .before .args in
+    let a = c .before .before .before .before .before .before .before .before .before .before .before .before .args in
     let ts = now (a .timestamps) in
     let out = now (a .out) in
     let ends = given (saysEnds (a .ends)) in
-    let p = c .before .before .before .before .before .before .before .before .before .before .before .pre in
-    let count = c .before .before .before .before .before .before .before .before .count-in .ensures in
-    let n = length ts - c .before .before .before .before .before .before .before .before .count-in .result in
+    let p = c .before .before .before .before .before .before .before .before .before .before .before .before .pre in
+    let count = c .before .before .before .before .before .before .before .before .before .count-in .ensures in
+    let n = length ts - c .before .before .before .before .before .before .before .before .before .count-in .result in
     let le : n ≤ length out = omega (arith, p .2) in
     let q = residualsIn (now (a .residuals)) (ends .1) in
     let res = c .before .before .before .before .before .draw-residuals in
@@ -95,23 +98,24 @@ same-length-2 c = search needs
 
 returns-2 : tie.Need-returns-2
 returns-2 c =
-    let a = c .before .before .before .before .before .before .before .before .before .before .before .before .before .before .before .args in
+    let a = c .before .before .before .before .before .before .before .before .before .before .before .before .before .before .before .before .args in
     let ts = now (a .timestamps) in
     let out = now (a .out) in
     let ends = given (saysEnds (a .ends)) in
-    let p = c .before .before .before .before .before .before .before .before .before .before .before .before .before .before .before .pre in
-    let count = c .before .before .before .before .before .before .before .before .before .before .before .before .count-in .ensures in
-    let n = length ts - c .before .before .before .before .before .before .before .before .before .before .before .before .count-in .result in
+    let p = c .before .before .before .before .before .before .before .before .before .before .before .before .before .before .before .before .pre in
+    let count = c .before .before .before .before .before .before .before .before .before .before .before .before .before .count-in .ensures in
+    let n = length ts - c .before .before .before .before .before .before .before .before .before .before .before .before .before .count-in .result in
     let le : n ≤ length out = omega (arith, p .2) in
     let q = residualsIn (now (a .residuals)) (ends .1) in
     let res = c .before .before .before .before .before .before .before .before .before .draw-residuals in
     let last = c .before .before .before .before .before .before .before .before .before .before .before .last-of .ensures in
+    let first = c .before .before .before .before .before .before .before .before .before .before .before .before .first-of .ensures in
     let len : length (take n ts) ≡ n = length-take-le n ts (omega arith) in
     let ms = modelValues (a .model) (take n ts) ends in
     let part = res .last .1 .1 .0 in
     let w = when-drawn n out le q (sym (ap saysGrid (c .before .before .before .before .before .enum-told .given .1)) ∙ (rw last at (res .ensures .0))) ms part (length-model (a .model) (take n ts) ends ∙ len) (rw last at (res .ensures .1)) in (
       subst (λ (k : ℕ). answered tt ≡ drawn (behind (modelValues (a .model) (take (length ts - k) ts) ends) q)) count (w .0),
-      c .before .before .draw-model .ensures ∙ ap (λ (j : ℕ). ms ++ drop j (putMid n (length out - n) out part)) len ∙ w .1 ∙ ap (λ (k : ℕ). drawnIn out (behind (modelValues (a .model) (take (length ts - k) ts) ends) q)) count,
+      (rw (last, first) at (c .before .before .draw-model .ensures)) ∙ ap (λ (j : ℕ). ms ++ drop j (putMid n (length out - n) out part)) len ∙ w .1 ∙ ap (λ (k : ℕ). drawnIn out (behind (modelValues (a .model) (take (length ts - k) ts) ends) q)) count,
     )
 
 pub draw-spec : {M : Type 1} → statement M
@@ -120,6 +124,7 @@ draw-spec =
     (tie.spec
     count-in-requires
     sub-owned
+    first-of-requires
     last-of-requires
     mul-draw-residuals
     sub-draw-residuals
