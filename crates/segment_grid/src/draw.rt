@@ -28,7 +28,7 @@ pub fn draw(
     ensures answer { λ r. ⌜ saysGrid r ≡ drawn (segmentValues model (now (timestamps .entry)) (given (saysEnds ends)) (now (residuals .entry))) ⌝ }
     ensures output { λ r. ⌜ now (out .exit) ≡ drawnIn (now (out .entry)) (segmentValues model (now (timestamps .entry)) (given (saysEnds ends)) (now (residuals .entry))) ⌝ }
 {
-    let owned = timestamps.len() - parts::count_in(residuals);
+    let owned = parts::owned(timestamps.len(), residuals);
     let first = parts::first_of(ends);
     let last = parts::last_of(ends);
     match draw_residuals(residuals, last, &mut out[owned..]) {

@@ -95,7 +95,7 @@ fn judge(model: u32, timestamps: &[i64], ends: EndsAnswer, residuals: &[u8], roo
 {
     let total = timestamps.len();
     let count = parts::count_in(residuals);
-    let lone = (model == 1) & (parts::less(total, count) == 1);
+    let lone = (model == 1) & (parts::owned(total, residuals) == 1);
     let times_wrong = !lines::times::in_order(timestamps) | lone;
     let count_of_0 = !(residuals.len() == 0) & (count == 0);
     let form_wrong = parts::unread(ends) | count_of_0;

@@ -34,6 +34,14 @@ pub fn count_in(residuals: &[u8]) -> usize
     residuals[n - 1] as usize
 }
 
+// How many of the timestamps the model owns: all but the last ones, of the residuals.
+pub fn owned(total: usize, residuals: &[u8]) -> usize
+    ensures { λ r. ⌜ r ≡ total - countIn (now (residuals .entry)) ⌝ }
+{
+    let count = count_in(residuals);
+    less(total, count)
+}
+
 // ---- the model's ends
 
 pub fn ends_in(model: u32, min_value: u32, max_value: u32, values: &[u8]) -> EndsAnswer

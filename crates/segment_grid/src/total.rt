@@ -25,8 +25,7 @@ pub fn total(
     requires { ⌜ (inOrder (now timestamps) ≡ true) × (countIn (now residuals) < length (now timestamps)) ⌝ }
     ensures { λ r. ⌜ saysValue r ≡ segmentSum «by_average» model (now (timestamps .entry)) (given (saysEnds ends)) (now (residuals .entry)) ⌝ }
 {
-    let total = timestamps.len();
-    let owned = total - parts::count_in(residuals);
+    let owned = parts::owned(timestamps.len(), residuals);
     let first = parts::first_of(ends);
     let last = parts::last_of(ends);
     let of_model = of_model(by_average, model, &timestamps[..owned], first, last);

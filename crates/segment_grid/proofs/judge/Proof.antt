@@ -8,8 +8,8 @@ use Rattle.segment_grid.proofs.judge.Tie as tie
 count-in-requires : tie.Need-count-in-requires
 count-in-requires c κs = search needs
 
-less-requires : tie.Need-less-requires
-less-requires c κs = search needs
+owned-requires : tie.Need-owned-requires
+owned-requires c κs = search needs
 
 in-order-requires : tie.Need-in-order-requires
 in-order-requires c κs = search needs
@@ -40,14 +40,14 @@ when-requires-6 c κs = search needs
 
 returns : tie.Need-returns
 unfolding judge noLine
-returns c = rw (c .when6 .ensures, c .before .when5 .ensures, c .before .before .when4 .ensures, c .before .before .before .when3 .ensures, c .before .before .before .before .when2 .ensures, c .before .before .before .before .before .when .ensures, c .before .before .before .before .before .before .no-line .ensures, c .before .before .before .before .before .before .before .unread .ensures, c .before .before .before .before .before .before .before .before .in-order .ensures, c .before .before .before .before .before .before .before .before .before .less .ensures, c .before .before .before .before .before .before .before .before .before .before .count-in .ensures)
+returns c = rw (c .when6 .ensures, c .before .when5 .ensures, c .before .before .when4 .ensures, c .before .before .before .when3 .ensures, c .before .before .before .before .when2 .ensures, c .before .before .before .before .before .when .ensures, c .before .before .before .before .before .before .no-line .ensures, c .before .before .before .before .before .before .before .unread .ensures, c .before .before .before .before .before .before .before .before .in-order .ensures, c .before .before .before .before .before .before .before .before .before .owned .ensures, c .before .before .before .before .before .before .before .before .before .before .count-in .ensures)
 
 pub judge-spec : {M : Type 1} → statement M
 judge-spec =
     tie.close
     (tie.spec
     count-in-requires
-    less-requires
+    owned-requires
     in-order-requires
     unread-requires
     no-line-requires
