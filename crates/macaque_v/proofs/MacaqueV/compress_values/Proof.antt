@@ -1,7 +1,6 @@
 -- `macaque_v::MacaqueV::compress_values` meets its contract: refused by the first cause that holds, else written. Assumes nothing.
 use borrow.Author.Needs.{needs}
 use mathlib.Core.Path.{_≡_, sym, ap, ap₂, _∙_}
-use mathlib.Core.Bool.{true}
 use mathlib.Core.List.{List}
 use Prim.Native.Nat.{ℕ}
 use lib.ListN.{length}
@@ -48,7 +47,7 @@ write-all-requires : tie.Need-write-all-requires
 write-all-requires c κs =
     let a = c .before .before .before .before .before .before .before .args in
     let s = accepted (a .self) (a .values .now) (a .buffer .now) (clear (c .before)) in
-    (s .0, (λ (_ : true ≡ true). s .1), s .2)
+    (s .0, (λ _. s .1), s .2)
 
 returns : tie.Need-returns
 unfolding writeAnswer writeMemory
