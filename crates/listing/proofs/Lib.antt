@@ -1,0 +1,3 @@
+-- The theorem about the calls, and the laws that the proofs of `listing` share.
+pub mod Putting
+pub mod Finding
