@@ -3,12 +3,12 @@ use mathlib.Core.Path.{_≡_, refl, sym, ap, _∙_}
 use mathlib.Core.Logic.{_⊎_, inl, inr}
 use mathlib.Core.Bool.{Bool, true, false, _&&_, _||_, false≢true}
 use mathlib.Core.List.{List, [], _∷_}
-use Prim.Native.Nat.{ℕ, zero, suc, _+_, _*_, _/_, _%_, _^_, _≤_, _<_}
+use Prim.Native.Nat.{ℕ, zero, suc, _+_, _-_, _*_, _/_, _%_, _^_, _≤_, _<_}
 use native.Mathlib.Omega.{arith}
-use borrow.Author.Tests.{ltb-true, leb-true, eqb-true, eqb-false, lt-ltb, le-leb, eq-eqb, ne-eqb}
+use borrow.Author.Tests.{ltb-true, ltb-false, leb-true, eqb-true, eqb-false, lt-ltb, le-ltb, le-leb, lt-leb}
 use lib.Dec.{eqb, leb, ltb}
 use lib.ListN.{length, take, drop}
-use lib.Pow.{shr-shr}
+use lib.Pow.{shr-shr, shr-lt}
 use Rattle.bits.specs.Bits.{bit, field, starts, bitsOf}
 use Rattle.stream.specs.Format.{macaque, Window}
 use Rattle.stream.specs.Read.{Step, readWord, readOne, stepAt}
@@ -25,6 +25,9 @@ use Rattle.listing.specs.declared.Kind.the-variants.{Raw, Same, New, Kee
 -- ---- the kind, by the first two bits of a word
 
 module _ (w : ℕ) where
+  pub top-small : w < 2 ^ 64 → w / 2 ^ 62 < 4
+  top-small h = shr-lt 2 62 h
+
   first-bit : w / 2 ^ 63 ≡ w / 2 ^ 62 / 2
   first-bit = sym (shr-shr w 62 1)
 
@@ -77,9 +80,6 @@ kind-of-45 false (a ∷ b ∷ bs) = refl
 
 -- ---- one value
 
-pub raw-at : (at : Cursor) → eqb (at .count) 0 ≡ _
-raw-at at = raw-is true (at .count)
-
 pub step-at : (bytes : List ℕ) (at : Cursor) (q : Step)
     → readOne macaque (eqb (at .count) 0) (windowIn (at .lead) (at .trail)) (at .last) (take 45 (ahead bytes at)) ≡ q → stepAt listed (stateAt at) (ahead bytes at) ≡ q
 step-at bytes at q e =
@@ -122,3 +122,29 @@ stands-back bytes at s h = rw (le-leb (at .count) 65536 h, le-leb (at .place) (4
     go : (t : Bool) → eqb (at .lead) 255 ≡ t → (t || ltb (at .lead + at .trail) 32) ≡ true
     go true e = refl
     go false e = lt-ltb (at .lead + at .trail) 32 (s .held (eqb-false (at .lead) 255 e))
+
+-- the tests of the rule, one after the other
+module _ (room : ℕ) (at : Cursor) where
+  pub too-many : 65536 < at .count → false ≡ mayStand room at
+  unfolding mayStand
+  too-many h = rw (lt-leb (at .count) 65536 h)
+
+  pub too-far : at .count ≤ 65536 → 45 * at .count < at .place → false ≡ mayStand room at
+  unfolding mayStand
+  too-far h g = rw (le-leb (at .count) 65536 h, lt-leb (at .place) (45 * at .count) g)
+
+  module _ (few : at .count ≤ 65536) (near : at .place ≤ 45 * at .count) where
+    pub outside : 8 * room < at .place → false ≡ mayStand room at
+    unfolding mayStand
+    outside h = rw (le-leb (at .count) 65536 few, le-leb (at .place) (45 * at .count) near, lt-leb (at .place) (8 * room) h)
+
+    pub by-window : at .place ≤ 8 * room → (eqb (at .lead) 255 || ltb (at .lead + at .trail) 32) ≡ mayStand room at
+    unfolding mayStand
+    by-window h = rw (le-leb (at .count) 65536 few, le-leb (at .place) (45 * at .count) near, le-leb (at .place) (8 * room) h)
+
+pub window-fits : (a t : ℕ) → a < 32 → ltb t (32 - a) ≡ ltb (a + t) 32
+window-fits a t h = go (ltb (a + t) 32) refl
+  where
+    go : (b : Bool) → ltb (a + t) 32 ≡ b → ltb t (32 - a) ≡ b
+    go true e = lt-ltb t (32 - a) (omega (arith, ltb-true (a + t) 32 e))
+    go false e = le-ltb t (32 - a) (omega (arith, ltb-false (a + t) 32 e))

@@ -7,7 +7,7 @@ use native.Mathlib.Nat.{add-zero, zero-add}
 use native.Mathlib.Omega.{arith}
 use borrow.Author.Tests.{lt-ltb, le-ltb}
 use lib.ListN.{length, take, drop, getD, set, length-append}
-use lib.Seq.{sets, sets-eq, set-comm, drop-cons}
+use lib.Seq.{sets, set-comm, drop-cons}
 use Rattle.listing.specs.Text.{digitText, digitsOf, placesUpTo, laid, Put}
 
 -- ---- runs of stores
@@ -28,8 +28,8 @@ sets-later l i p x (y ∷ ys) h =
 
 -- ---- parts of a line
 
-pub put-then : {old mid new : List ℕ} {i a r : ℕ} {t u : List ℕ} → Put old i t mid a → Put mid a u new r → Put old i (t ++ u) new r
-put-then {old} {mid} {new} {i} {a} {r} {t} {u} P Q =
+pub put-then : {old mid new : List ℕ} {i a r : ℕ} (t u : List ℕ) → Put old i t mid a → Put mid a u new r → Put old i (t ++ u) new r
+put-then {old} {mid} {new} {i} {a} {r} t u P Q =
     record {
       is = Q .is ∙ ap₂ (λ (l : List ℕ) (k : ℕ). sets l k u) (P .is) (P .ends) ∙ sym (sets-append old i t u);
       ends = omega (arith, P .ends, Q .ends, length-append t u);
@@ -38,14 +38,11 @@ put-then {old} {mid} {new} {i} {a} {r} {t} {u} P Q =
 -- a byte more
 pub put-byte : {old mid : List ℕ} {i a : ℕ} (t : List ℕ) (b r : ℕ) → mid ≡ sets old i t → a ≡ i + length t → r ≡ a + 1 → Put old i (t ++ (b ∷ [])) (set mid a b) r
 put-byte {old} {mid} {i} {a} t b r is e more =
-    put-then {mid = mid} (record { is = is; ends = e }) (record { is = refl; ends = more })
+    put-then t (b ∷ []) (record { is = is; ends = e }) (record { is = refl; ends = more })
 
 -- from the front on
-pub put-laid : {old new : List ℕ} {r : ℕ} {t : List ℕ} → Put old 0 t new r → r ≤ length old → (r ≡ length t) × (new ≡ laid t old)
-put-laid {old} {new} {r} {t} P h =
-    let e : r ≡ length t = omega (arith, P .ends) in
-    let room : 0 + length t ≤ length old = omega arith in
-    (e, P .is ∙ sets-eq t old 0 room ∙ ap (λ (k : ℕ). t ++ drop k old) (zero-add (length t)))
+pub put-laid : {old new : List ℕ} {r : ℕ} (t : List ℕ) → Put old 0 t new r → (r ≡ length t) × (new ≡ laid t old)
+put-laid {old} {new} {r} t P = (P .ends ∙ zero-add (length t), P .is)
 
 -- ---- words
 

@@ -4,7 +4,7 @@ use mathlib.Core.Bool.{cond}
 use mathlib.Core.List.{List, [], _∷_, _++_}
 use Prim.Native.Nat.{ℕ, zero, suc, _+_, _/_, _%_}
 use lib.Dec.{ltb}
-use lib.ListN.{length, drop}
+use lib.ListN.{length}
 use lib.Seq.{sets}
 use Rattle.listing.specs.declared.Kind.{Kind}
 use Rattle.listing.specs.declared.Kind.the-variants.{Raw, Same, New, Keep}
@@ -93,9 +93,9 @@ refusedText n = field refusedWord ++ lastField (decimal n)
 
 -- ---- in a lent line
 
--- the text stands at the front, and the places behind it keep what they held
+-- the text is stored from the front on, and the places behind it keep what they held
 abbrev pub laid : List ℕ → List ℕ → List ℕ
-laid text line = text ++ drop (length text) line
+laid text line = sets line 0 text
 
 -- the text stands from the place `at` on, and r is the place behind it
 pub record Put (old : List ℕ) (at : ℕ) (text new : List ℕ) (r : ℕ) : Type 0 where

@@ -51,7 +51,8 @@ fn lead(kind: Kind, lead: u32, line: &mut [u8; 80], at: usize) -> usize
 // A value, the last field of a row.
 fn value(value: u32, line: &mut [u8; 80], at: usize) -> usize
     requires { ⌜ at ≤ 71 ⌝ }
-    ensures { λ r. ⌜ Put (now (line .entry)) at (hexadecimal value ++ (10 ∷ [])) (now (line .exit)) r ⌝ }
+    ensures put { λ r. ⌜ Put (now (line .entry)) at (hexadecimal value ++ (10 ∷ [])) (now (line .exit)) r ⌝ }
+    ensures most { λ r. ⌜ r ≤ at + 9 ⌝ }
 {
     digits(16, 8, value as usize, line, at);
     line[at + 8] = b'\n';

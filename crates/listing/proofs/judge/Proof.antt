@@ -1,46 +1,62 @@
+-- `listing::judge` meets its contract. Assumes nothing.
 use borrow.Author.Needs.{needs}
+use mathlib.Core.Path.{_≡_, ap₂, _∙_}
+use mathlib.Core.List.{List}
+use Prim.Native.Nat.{ℕ, _-_}
+use native.Mathlib.Omega.{arith}
+use borrow.Author.Tests.{lt-ltb, le-ltb}
+use lib.ListN.{length, drop, length-drop}
+use lib.Seq.{take-all}
+use Rattle.models.specs.Answers.{judge}
+use Rattle.models.specs.Limits.{mostValues}
+use Rattle.listing.specs.Listing.{countIn, readWhole}
+use Rattle.listing.specs.Calls.{counted, judgeAnswer}
 use Rattle.listing.proofs.judge.Statement.{statement}
 use Rattle.listing.proofs.judge.Tie as tie
-use Rattle.listing.proofs.judge.Reads as reads
-use Rattle.listing.proofs.judge.Lts as lts
-use Rattle.listing.proofs.count_in.Reads as count-in-reads
-use Rattle.listing.proofs.judge_stream.Reads as judge-stream-reads
 
--- src/lib.rt:64:9
 returns : tie.Need-returns
-returns c = ?
+unfolding judgeAnswer judge
+returns c =
+    let l = length (c .before .before .args .input .now) in
+    rw (lt-ltb 32768 l (omega arith))
 
--- src/lib.rt:67:9
 returns-2 : tie.Need-returns-2
-returns-2 c = ?
+unfolding judgeAnswer judge
+returns-2 c =
+    let l = length (c .before .before .before .args .input .now) in
+    rw (le-ltb 32768 l (omega arith), lt-ltb l 4 (omega arith))
 
--- src/lib.rt:69:9
 count-in-requires : tie.Need-count-in-requires
 count-in-requires c κs = search needs
 
--- src/lib.rt:71:9
 returns-3 : tie.Need-returns-3
-returns-3 c = ?
+unfolding judgeAnswer judge
+returns-3 c =
+    let input = c .before .before .before .before .before .args .input .now in
+    let l = length input in
+    let n = countIn input in
+    rw (le-ltb 32768 l (omega arith), le-ltb l 4 (omega arith), lt-ltb mostValues n (omega (arith, c .before .count-in .ensures)))
 
--- src/lib.rt:73:18
 sub-judge-stream : tie.Need-sub-judge-stream
 sub-judge-stream c = search needs
 
--- src/lib.rt:73:18
 part-judge-stream-start : tie.Need-part-judge-stream-start
 part-judge-stream-start c = search needs
 
--- src/lib.rt:73:18
 part-judge-stream-end : tie.Need-part-judge-stream-end
 part-judge-stream-end c = search needs
 
--- src/lib.rt:73:5
 judge-stream-requires : tie.Need-judge-stream-requires
 judge-stream-requires c κs = search needs
 
--- src/lib.rt:60:1
 returns-4 : tie.Need-returns-4
-returns-4 c = ?
+unfolding judgeAnswer judge
+returns-4 c =
+    let input = c .before .before .before .before .before .before .before .args .input .now in
+    let l = length input in
+    let n = countIn input in
+    rw (le-ltb 32768 l (omega arith), le-ltb l 4 (omega arith), le-ltb mostValues n (omega (arith, c .before .before .before .count-in .ensures)))
+    (c .judge-stream .ensures ∙ ap₂ (λ (k : ℕ) (bytes : List ℕ). counted k (readWhole k bytes)) (c .before .before .before .count-in .ensures) (take-all (l - 4) (drop 4 input) (omega (arith, length-drop 4 input))))
 
 pub judge-spec : {M : Type 1} → statement M
 judge-spec =

@@ -1,44 +1,57 @@
+-- `listing::may_stand` meets its contract. Assumes nothing.
 use borrow.Author.Needs.{needs}
+use mathlib.Core.Path.{_≡_, sym, ap, ap₂, _∙_}
+use mathlib.Core.Bool.{Bool, _||_}
+use Prim.Native.Nat.{_+_, _*_, _≤_}
+use native.Mathlib.Omega.{arith}
+use borrow.Author.Tests.{le-ltb, eq-eqb, ne-eqb}
+use lib.Dec.{eqb, ltb}
+use Rattle.listing.proofs.Finding.{too-many, too-far, outside, by-window, window-fits}
 use Rattle.listing.proofs.may_stand.Statement.{statement}
 use Rattle.listing.proofs.may_stand.Tie as tie
-use Rattle.listing.proofs.may_stand.Reads as reads
-use Rattle.listing.proofs.may_stand.Lts as lts
 
--- src/lib.rt:172:9
 returns : tie.Need-returns
-returns c = ?
+returns c = too-many (c .before .before .args .room) (c .before .before .args .at) (omega arith)
 
--- src/lib.rt:174:8
 mul-if2 : tie.Need-mul-if2
 mul-if2 c = search needs
 
--- src/lib.rt:175:9
 returns-2 : tie.Need-returns-2
-returns-2 c = ?
+returns-2 c =
+    let a = c .before .before .before .before .before .args in
+    too-far (a .room) (a .at) (omega arith) (omega arith)
 
--- src/lib.rt:177:16
 add-if3 : tie.Need-add-if3
 add-if3 c = search needs
 
--- src/lib.rt:178:9
 returns-3 : tie.Need-returns-3
-returns-3 c = ?
+returns-3 c =
+    let a = c .before .before .before .before .before .before .before .args in
+    outside (a .room) (a .at) (omega arith) (omega arith) (omega arith)
 
--- src/lib.rt:181:9
 returns-4 : tie.Need-returns-4
-returns-4 c = ?
+returns-4 c =
+    let a = c .before .before .before .before .before .before .before .before .before .args in
+    sym (ap (λ (t : Bool). t || ltb (a .at .lead + a .at .trail) 32) (eq-eqb (a .at .lead) 255 (omega arith)))
+    ∙ by-window (a .room) (a .at) (omega arith) (omega arith) (omega arith)
 
--- src/lib.rt:184:9
 returns-5 : tie.Need-returns-5
-returns-5 c = ?
+returns-5 c =
+    let a = c .before .before .before .before .before .before .before .before .before .before .before .args in
+    let set : ¬ (a .at .lead ≡ 255) = omega arith in
+    sym (ap₂ (λ (t u : Bool). t || u) (ne-eqb (a .at .lead) 255 set) (le-ltb (a .at .lead + a .at .trail) 32 (omega arith)))
+    ∙ by-window (a .room) (a .at) (omega arith) (omega arith) (omega arith)
 
--- src/lib.rt:186:16
 sub-result : tie.Need-sub-result
 sub-result c = search needs
 
--- src/lib.rt:168:1
 returns-6 : tie.Need-returns-6
-returns-6 c = ?
+returns-6 c =
+    let a = c .before .before .before .before .before .before .before .before .before .before .before .before .before .args in
+    let set : ¬ (a .at .lead ≡ 255) = omega arith in
+    window-fits (a .at .lead) (a .at .trail) (omega arith)
+    ∙ sym (ap (λ (t : Bool). t || ltb (a .at .lead + a .at .trail) 32) (ne-eqb (a .at .lead) 255 set))
+    ∙ by-window (a .room) (a .at) (omega arith) (omega arith) (omega arith)
 
 pub may-stand-spec : {M : Type 1} → statement M
 may-stand-spec =

@@ -1,35 +1,40 @@
+-- `listing::refusal` meets its contract. Assumes nothing.
 use borrow.Author.Needs.{needs}
+use mathlib.Core.Path.{_≡_, ap, _∙_}
+use mathlib.Core.List.{List, _++_}
+use Prim.Native.Nat.{ℕ}
+use lib.ListN.{length}
+use Rattle.models.specs.Refusals.{number}
+use Rattle.listing.specs.Text.{refusedWord, field, lastField, decimal, refusedText, laid}
+use Rattle.listing.proofs.Putting.{put-then, put-laid}
 use Rattle.listing.proofs.refusal.Statement.{statement}
 use Rattle.listing.proofs.refusal.Tie as tie
-use Rattle.listing.proofs.refusal.Reads as reads
-use Rattle.listing.proofs.refusal.Lts as lts
-use Rattle.listing.proofs.line.number.Reads as number-reads
-use Rattle.listing.proofs.line.word.Reads as word-reads
-use Rattle.models.proofs.number_of.Reads as number-of-reads
 
--- src/lib.rt:130:25
 slice-aggregate-word : tie.Need-slice-aggregate-word
 slice-aggregate-word c = search needs
 
--- src/lib.rt:130:9
 word-requires : tie.Need-word-requires
 word-requires c κs = search needs
 
--- src/lib.rt:131:18
 number-of-requires : tie.Need-number-of-requires
 number-of-requires c κs = search needs
 
--- src/lib.rt:131:18
 cast-number : tie.Need-cast-number
 cast-number c = search needs
 
--- src/lib.rt:131:5
 number-requires : tie.Need-number-requires
 number-requires c κs = search needs
 
--- src/lib.rt:126:1
 returns : tie.Need-returns
-returns c = ?
+unfolding refusedText
+returns c =
+    let a = c .before .before .before .before .before .before .args in
+    let n = number (a .cause) in
+    let w = c .before .before .before .word .ensures in
+    let m = c .before .before .number-of .result in
+    let p = put-laid (field refusedWord ++ lastField (decimal m)) (put-then (field refusedWord) (lastField (decimal m)) w (c .number .ensures .0)) in
+    let e : field refusedWord ++ lastField (decimal m) ≡ refusedText n = ap (λ (k : ℕ). refusedText k) (c .before .before .number-of .ensures) in
+    (p .0 ∙ ap length e, p .1 ∙ ap (λ (t : List ℕ). laid t (a .line .now)) e)
 
 pub refusal-spec : {M : Type 1} → statement M
 refusal-spec =

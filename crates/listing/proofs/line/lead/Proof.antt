@@ -1,66 +1,69 @@
+-- `listing::line::lead` meets its contract. Assumes nothing.
 use borrow.Author.Needs.{needs}
+use mathlib.Core.Path.{sym, subst}
+use native.Mathlib.Omega.{arith}
+use Rattle.listing.specs.Text.{leadText, field, Put}
+use Rattle.listing.specs.declared.Kind.{Kind}
 use Rattle.listing.proofs.line.lead.Statement.{statement}
 use Rattle.listing.proofs.line.lead.Tie as tie
-use Rattle.listing.proofs.line.lead.Reads as reads
-use Rattle.listing.proofs.line.lead.Lts as lts
-use Rattle.listing.proofs.line.number.Reads as number-reads
-use Rattle.listing.proofs.line.word.Reads as word-reads
 
--- src/line.rt:44:27
 enum-told : tie.Need-enum-told
 enum-told c = search needs
 
--- src/line.rt:44:27
 slice-aggregate-word : tie.Need-slice-aggregate-word
 slice-aggregate-word c = search needs
 
--- src/line.rt:44:22
 word-requires : tie.Need-word-requires
 word-requires c κs = search needs
 
--- src/line.rt:45:28
 enum-told-2 : tie.Need-enum-told-2
 enum-told-2 c = search needs
 
--- src/line.rt:45:28
 slice-aggregate-word-2 : tie.Need-slice-aggregate-word-2
 slice-aggregate-word-2 c = search needs
 
--- src/line.rt:45:23
 word-requires-2 : tie.Need-word-requires-2
 word-requires-2 c κs = search needs
 
--- src/line.rt:46:29
 enum-told-3 : tie.Need-enum-told-3
 enum-told-3 c = search needs
 
--- src/line.rt:46:22
 number-requires : tie.Need-number-requires
 number-requires c κs = search needs
 
--- src/line.rt:47:30
 enum-told-4 : tie.Need-enum-told-4
 enum-told-4 c = search needs
 
--- src/line.rt:47:23
 number-requires-2 : tie.Need-number-requires-2
 number-requires-2 c κs = search needs
 
--- src/line.rt:38:1
 returns : tie.Need-returns
-returns c = ?
+returns c =
+    let a = c .before .before .before .before .before .args in (
+      subst (λ (k : Kind). Put (a .line .now) (a .at) (field (leadText k (a .lead))) (c .word .last .1 .0) (c .word .result)) (sym (c .before .before .before .enum-told .given .1)) (c .word .ensures),
+      omega (arith, c .word .ensures .ends),
+    )
 
--- src/line.rt:38:1
 returns-2 : tie.Need-returns-2
-returns-2 c = ?
+returns-2 c =
+    let a = c .before .before .before .before .before .args in (
+      subst (λ (k : Kind). Put (a .line .now) (a .at) (field (leadText k (a .lead))) (c .word2 .last .1 .0) (c .word2 .result)) (sym (c .before .before .before .enum-told2 .given .1)) (c .word2 .ensures),
+      omega (arith, c .word2 .ensures .ends),
+    )
 
--- src/line.rt:38:1
 returns-3 : tie.Need-returns-3
-returns-3 c = ?
+returns-3 c =
+    let a = c .before .before .before .before .args in (
+      subst (λ (k : Kind). Put (a .line .now) (a .at) (field (leadText k (a .lead))) (c .number .last .1 .1 .0) (c .number .result)) (sym (c .before .before .enum-told3 .given .1)) (c .number .ensures .0),
+      c .number .ensures .1,
+    )
 
--- src/line.rt:38:1
 returns-4 : tie.Need-returns-4
-returns-4 c = ?
+returns-4 c =
+    let a = c .before .before .before .before .args in (
+      subst (λ (k : Kind). Put (a .line .now) (a .at) (field (leadText k (a .lead))) (c .number2 .last .1 .1 .0) (c .number2 .result)) (sym (c .before .before .enum-told4 .given .1)) (c .number2 .ensures .0),
+      c .number2 .ensures .1,
+    )
 
 pub lead-spec : {M : Type 1} → statement M
 lead-spec =

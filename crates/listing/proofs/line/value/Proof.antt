@@ -1,29 +1,31 @@
+-- `listing::line::value` meets its contract. Assumes nothing.
 use borrow.Author.Needs.{needs}
+use mathlib.Core.Path.{_≡_, refl}
+use Prim.Native.Nat.{_+_}
+use native.Mathlib.Omega.{arith}
+use Rattle.listing.specs.Text.{hexadecimal}
+use Rattle.listing.proofs.Putting.{put-byte, length-digits}
 use Rattle.listing.proofs.line.value.Statement.{statement}
 use Rattle.listing.proofs.line.value.Tie as tie
-use Rattle.listing.proofs.line.value.Reads as reads
-use Rattle.listing.proofs.line.value.Lts as lts
-use Rattle.listing.proofs.line.digits.Reads as digits-reads
 
--- src/line.rt:56:5
 digits-requires : tie.Need-digits-requires
 digits-requires c κs = search needs
 
--- src/line.rt:57:10
 add-line : tie.Need-add-line
 add-line c = search needs
 
--- src/line.rt:57:5
 element-write-line : tie.Need-element-write-line
 element-write-line c = search needs
 
--- src/line.rt:58:5
 add-result : tie.Need-add-result
 add-result c = search needs
 
--- src/line.rt:52:1
 returns : tie.Need-returns
-returns c = ?
+returns c =
+    let a = c .before .before .args in (
+      put-byte (hexadecimal (a .value)) 10 (a .at + 9) (c .digits .ensures) (omega (arith, length-digits 16 8 (a .value))) (omega arith),
+      omega arith,
+    )
 
 pub value-spec : {M : Type 1} → statement M
 value-spec = tie.close (tie.spec digits-requires add-line element-write-line add-result returns)
