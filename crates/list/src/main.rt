@@ -55,6 +55,10 @@ fn rows(stream: &[u8], count: usize) {
 
 // The first n bytes of a line.
 fn print(line: &[u8; 80], n: usize) {
+    print_front(line, n);
+}
+
+fn print_front(line: &[u8], n: usize) {
     if n <= line.len() {
         io::write_all(STDOUT_FILENO, &line[..n]);
     }
