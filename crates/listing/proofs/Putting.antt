@@ -1,14 +1,19 @@
 -- Text that is put into a line, byte after byte and part after part. Assumes nothing.
 use mathlib.Core.Path.{_≡_, refl, sym, ap, ap₂, _∙_}
-use mathlib.Core.Bool.{cond}
+use mathlib.Core.Bool.{Bool, true, false, cond}
 use mathlib.Core.List.{List, [], _∷_, _++_}
 use Prim.Native.Nat.{ℕ, zero, suc, _+_, _/_, _%_, _≤_, _<_}
 use native.Mathlib.Nat.{add-zero, zero-add}
 use native.Mathlib.Omega.{arith}
 use borrow.Author.Tests.{lt-ltb, le-ltb}
+use lib.Dec.{ltb, lit≤}
 use lib.ListN.{length, take, drop, getD, set, length-append}
-use lib.Seq.{sets, set-comm, drop-cons}
-use Rattle.listing.specs.Text.{digitText, digitsOf, placesUpTo, laid, Put}
+use lib.Seq.{sets, sets-eq, set-comm, drop-cons, take-at}
+use Rattle.listing.specs.Text.{digitText, digitsOf, placesUpTo, places, decimal, hexadecimal, kindWord, leadText, totalWord, refusedWord}
+use Rattle.listing.specs.Text.{field, lastField, rowText, totalText, refusedText, laid, Put}
+use Rattle.listing.specs.declared.Kind.{Kind}
+use Rattle.listing.specs.declared.Kind.the-variants.{Raw, Same, New, Keep}
+use Rattle.listing.specs.declared.Fields.{Fields}
 
 -- ---- runs of stores
 
@@ -82,3 +87,68 @@ places-short (suc m) n h = rw (lt-ltb n 10 h)
 pub places-long : (m n : ℕ) → 10 ≤ n → placesUpTo (suc m) n ≡ suc (placesUpTo m (n / 10))
 unfolding placesUpTo
 places-long m n h = rw (le-ltb n 10 h)
+
+-- ---- how long a line is: no more than 80 bytes
+
+places-most : (m n : ℕ) → placesUpTo m n ≤ suc m
+unfolding placesUpTo
+places-most zero n = omega arith
+places-most (suc m) n = go (ltb n 10) (places-most m (n / 10))
+  where
+    go : (t : Bool) → placesUpTo m (n / 10) ≤ suc m → cond t 1 (suc (placesUpTo m (n / 10))) ≤ suc (suc m)
+    go true h = omega arith
+    go false h = omega arith
+
+decimal-most : (n : ℕ) → length (decimal n) ≤ 20
+decimal-most n = omega (arith, length-digits 10 (places n) n, places-most 19 n)
+
+length-field : (t : List ℕ) → length (field t) ≡ length t + 1
+length-field t = length-append t (32 ∷ [])
+
+length-last : (t : List ℕ) → length (lastField t) ≡ length t + 1
+length-last t = length-append t (10 ∷ [])
+
+kind-most : (k : Kind) → length (kindWord k) ≤ 4
+kind-most Raw = lit≤ tt
+kind-most Same = lit≤ tt
+kind-most New = lit≤ tt
+kind-most Keep = lit≤ tt
+
+lead-most : (k : Kind) (lead : ℕ) → length (leadText k lead) ≤ 20
+lead-most Raw lead = lit≤ tt
+lead-most Same lead = lit≤ tt
+lead-most New lead = decimal-most lead
+lead-most Keep lead = decimal-most lead
+
+pub row-most : (n : ℕ) (row : Fields) → length (rowText n row) ≤ 80
+unfolding rowText
+row-most n row =
+    let t1 : List ℕ = field (decimal n) in
+    let t2 : List ℕ = field (kindWord (row .kind)) in
+    let t3 : List ℕ = field (leadText (row .kind) (row .lead)) in
+    let t4 : List ℕ = field (decimal (row .bits)) in
+    let t5 : List ℕ = lastField (hexadecimal (row .value)) in
+    let l1 : length t1 ≤ 21 = omega (arith, length-field (decimal n), decimal-most n) in
+    let l2 : length t2 ≤ 5 = omega (arith, length-field (kindWord (row .kind)), kind-most (row .kind)) in
+    let l3 : length t3 ≤ 21 = omega (arith, length-field (leadText (row .kind) (row .lead)), lead-most (row .kind) (row .lead)) in
+    let l4 : length t4 ≤ 21 = omega (arith, length-field (decimal (row .bits)), decimal-most (row .bits)) in
+    let l5 : length t5 ≤ 9 = omega (arith, length-last (hexadecimal (row .value)), length-digits 16 8 (row .value)) in
+    omega (arith, length-append (t1 ++ t2 ++ t3 ++ t4) t5, length-append (t1 ++ t2 ++ t3) t4, length-append (t1 ++ t2) t3, length-append t1 t2)
+
+-- a word and a number
+last-most : (word : List ℕ) (n : ℕ) → length word ≤ 8 → length (word ++ lastField (decimal n)) ≤ 80
+last-most word n h = omega (arith, length-append word (lastField (decimal n)), length-last (decimal n), decimal-most n)
+
+pub total-most : (n : ℕ) → length (totalText n) ≤ 80
+unfolding totalText
+total-most n = last-most (field totalWord) n (lit≤ tt)
+
+pub refused-most : (n : ℕ) → length (refusedText n) ≤ 80
+unfolding refusedText
+refused-most n = last-most (field refusedWord) n (lit≤ tt)
+
+-- what is printed of a line is the text that was put into it
+pub text-stands : (text line : List ℕ) → length line ≡ 80 → length text ≤ 80 → take (length text) (laid text line) ≡ text
+text-stands text line e h =
+    let room : 0 + length text ≤ length line = omega arith in
+    ap (take (length text)) (sets-eq text line 0 room) ∙ take-at text (drop (0 + length text) line) (length text) refl

@@ -13,6 +13,7 @@ ghost use Rattle.listing.specs.Text.{headerText, totalText, refusedText,
 ghost use Rattle.listing.specs.Rows.{kindRead};
 ghost use Rattle.listing.specs.Listing.{countIn, readWhole};
 ghost use Rattle.listing.specs.Calls.{counted, judgeAnswer, saysJudged, mayStand, nextRow, saysFound, rowAnswer, rowMemory, saysRow};
+
 mod line;
 
 use coding::decode;

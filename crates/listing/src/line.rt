@@ -5,8 +5,8 @@ ghost use Prim.Native.Nat.{_+_, _≤_, _<_};
 ghost use lib.ListN.{length};
 ghost use lib.Seq.{sets};
 ghost use Rattle.listing.specs.Text.{digitText, digitsOf, places as placesOf, decimal, hexadecimal, kindWord, leadText, field, rowText, laid, Put};
-use crate::Kind;
 use crate::Fields;
+use crate::Kind;
 
 // ---- a row: 77 bytes at the most
 
