@@ -1,2 +1,4 @@
 -- What the proofs of the C face share.
 pub mod Rows
+pub mod Small
+pub mod Signed

@@ -10,7 +10,7 @@ use lib.Dec.{eqb, ltb}
 use lib.IntN.{ℤ}
 use lib.ListN.{length}
 use lib.Ieee.{Float, binary32, ofBits}
-use Rattle.models.specs.Answers.{answered, refused, answeredOn, refusedOn, stateAfter, Cause, _when_, judge, judged}
+use Rattle.models.specs.Answers.{answered, refused, answeredOn, refusedOn, stateAfter, stateless, Cause, _when_, judge, judged}
 use Rattle.models.specs.Bound.{boundAllowed}
 use Rattle.models.specs.Limits.{metadataAllowed}
 use Rattle.models.specs.declared.ErrorBound.{ErrorBound}
@@ -31,7 +31,7 @@ use Rattle.swing.proofs.Runs as SwingRuns
 use Rattle.types.specs.Builder.{fresh, boundsAllowed, statesAllowed, roomLeft, timeFits, withPmc, withSwing, updatePmc, updateSwing, updated, answeredBy}
 use Rattle.types.specs.Choice.{choiceOf}
 use Rattle.types.specs.Calls.{updateCauses, updateAnswer, finishCauses, finishAnswer}
-use Rattle.types.specs.Run.{next, run, points, choiceCauses, stateless, choiceAnswer}
+use Rattle.types.specs.Run.{next, run, points, choiceCauses, choiceAnswer}
 use Rattle.types.specs.declared.ModelBuilder.{ModelBuilder}
 use Rattle.types.specs.declared.SelectedModel.{SelectedModel}
 use Rattle.types.proofs.Said.{told, neither}

@@ -6,7 +6,7 @@ use Prim.Native.Nat.{ℕ}
 use lib.Dec.{eqb, ltb}
 use lib.IntN.{ℤ}
 use lib.ListN.{length}
-use Rattle.models.specs.Answers.{Said, answered, refused, SaidOn, answeredOn, refusedOn, stateAfter, Cause, _when_, judge, Injective, told-apart}
+use Rattle.models.specs.Answers.{Said, answered, refused, stateAfter, stateless, Cause, _when_, judge, Injective, told-apart}
 use Rattle.models.specs.Refusals.{number, numbered-number, unsaid}
 use Rattle.models.specs.Bound.{boundAllowed}
 use Rattle.models.specs.Limits.{mostValues, metadataAllowed}
@@ -46,11 +46,6 @@ choiceCauses ts values b m =
     ∷ 10 when not (inOrder ts)
     ∷ 11 when eqb (length values) 0
     ∷ []
-
--- an answer without the state that a refusal hands back
-abbrev pub stateless : {S A : Type 0} → SaidOn S A → Said A
-stateless (answeredOn a) = answered a
-stateless (refusedOn n s) = refused n
 
 unfoldable pub choiceAnswer : List ℤ → List ℕ → ErrorBound → ℕ → Said SelectedModel
 choiceAnswer ts values b m =

@@ -13,13 +13,13 @@ use pmc_mean::PMCMean;
 use swing::Swing;
 ghost use mathlib.Core.Path.{_≡_};
 ghost use lib.ListN.{length};
-ghost use Rattle.models.specs.Answers.{answered, verdict};
+ghost use Rattle.models.specs.Answers.{answered, verdict, stateless};
 ghost use Rattle.models.specs.Calls.{saysVerdict};
 ghost use Rattle.pmc_mean.specs.Calls.{costCauses};
 ghost use Rattle.swing.specs.Calls as OfSwing;
 ghost use Rattle.types.specs.Choice.{pmcModel, swingModel, swingWins, endLost, chosen, choiceOf};
 ghost use Rattle.types.specs.Calls.{finishCauses, saysFinish, finishAnswer};
-ghost use Rattle.types.specs.Run.{next, run, points, choiceCauses, saysChoice, choiceAnswer, stateless};
+ghost use Rattle.types.specs.Run.{next, run, points, choiceCauses, saysChoice, choiceAnswer};
 
 impl ModelBuilder {
     // Chooses the model that needs fewer bytes for each value, with metadata of m bytes.

@@ -3,11 +3,11 @@ use mathlib.Core.Path.{_≡_, sym, ap, _∙_}
 use borrow.Author.Tests.{eqb-true, not-false}
 use lib.ListN.{length}
 use denote.Ref.{now}
-use Rattle.models.specs.Answers.{refused, answered}
+use Rattle.models.specs.Answers.{refused, answered, stateless}
 use Rattle.models.proofs.Judged.{NoneHolds, none-holds, accepted, when-passed, when-refused}
 use Rattle.types.specs.Builder.{fresh}
 use Rattle.types.specs.Calls.{saysNew, newAnswer, finishAnswer}
-use Rattle.types.specs.Run.{run, points, stateless, choiceCauses, choiceAnswer}
+use Rattle.types.specs.Run.{run, points, choiceCauses, choiceAnswer}
 use Rattle.types.proofs.Said.{apart, same-answer}
 use borrow.Author.Needs.{needs}
 use Rattle.types.proofs.choice.choose_model.Statement.{statement}

@@ -1,7 +1,7 @@
 -- `choice::finished` meets its contract. Assumes nothing.
 use mathlib.Core.Path.{sym, ap, _∙_}
 use Rattle.types.specs.Calls.{saysFinish}
-use Rattle.types.specs.Run.{stateless}
+use Rattle.models.specs.Answers.{stateless}
 use borrow.Author.Needs.{needs}
 use Rattle.types.proofs.choice.finished.Statement.{statement}
 use Rattle.types.proofs.choice.finished.Tie as tie

@@ -1,0 +1,2 @@
+-- What the proofs of the C face of the models share.
+pub mod Lengths
