@@ -1,0 +1,2 @@
+-- What the proofs of the choice's C face share.
+pub mod Parts
