@@ -1,4 +1,5 @@
-/* The C face of the proved library (rt staticlib exports: target/staticlib/libexports.a).
+/* The C face of the proved library (rt staticlib exports: target/staticlib/libexports.a; the calls of
+ * MacaqueV: rt staticlib exports_stream, target/staticlib/libexports_stream.a).
  *
  * Floats cross as their bits, a NaN in an answer as 7FC00000 or 7FF8000000000000. A call that can be
  * refused answers 0, or the number of its refusal, and then it has changed no memory that it was lent:
@@ -35,5 +36,52 @@ uint32_t modelardb_is_value_within_error_bound(uint32_t kind, uint32_t bound, ui
 /* out[0]: the f64 by which a line may pass from the value. Refusals: 1, 4. */
 uint32_t modelardb_maximum_allowed_deviation(uint32_t kind, uint32_t bound, uint64_t value, uint64_t *out,
                                              size_t out_length);
+
+/* ---- MacaqueV: a stream of values, each coded by how it differs from the last one that was kept
+ *
+ * A stream opens by a mode and a value: mode 0 stores the first value in full and does not look at
+ * `opening`, mode 1 opens on the f32 whose bits are `opening`. Any other mode is refused with 3.
+ *
+ * A writer's state is a row of ten words; words behind them are not looked at, and stay:
+ *
+ *    0  the bound's kind              5  the window's leading zero bits, 255 before any window
+ *    1  the bits of its f32           6  the window's trailing zero bits
+ *    2  the least value kept          7  1 where the first value is stored in full, else 0
+ *    3  the greatest value kept       8  the place: how many bits are written
+ *    4  the last value kept           9  the length: how many values are written
+ *
+ * Words 1 to 4 are bits of an f32; the least and the greatest value are 7FC00000 before any value, and a
+ * Lossless bound's word 1 is written as 0. A row may be used, else 2, if words 2 to 6 have at most 32 bits
+ * each, word 7 is 0 or 1, the place lies within the buffer, the length is at most 65,536 and is 0 exactly
+ * where the place is 0, and the window is 255 and 0 or, at length 1 or more, has at most 31 zero bits in all.
+ * A bound in words of more than 32 bits is refused with 1, as any that is not allowed.
+ */
+
+/* state: a writer before any value. Refusals: 1; 3 (mode); 4 (a row under ten words). */
+uint32_t modelardb_macaque_v_new(uint32_t kind, uint32_t bound, uint32_t mode, uint32_t opening, uint64_t *state,
+                                 size_t state_length);
+
+/* Writes the values behind the state's place into the buffer; state: the writer after them. Refusals: 4 (a
+ * row under ten words) first; then 1; 2; 3 (over 65,536 values in all); 4 (the buffer). */
+uint32_t modelardb_macaque_v_compress_values(uint64_t *state, size_t state_length, const uint32_t *values,
+                                             size_t values_length, uint8_t *buffer, size_t buffer_length);
+
+/* state: the writer behind the first k of the `count` values of the stream in the buffer's first `used`
+ * bytes, which is checked whole. The bits behind them in the byte that they end in become 0. Refusals: 1; 3
+ * (mode, or count above 65,536); 12 (k above count, or used above the buffer's length); 4 (a row under ten
+ * words); then 5 to 8. */
+uint32_t modelardb_macaque_v_reopen(uint8_t *buffer, size_t buffer_length, size_t used, size_t count, size_t k,
+                                    uint32_t mode, uint32_t opening, uint32_t kind, uint32_t bound, uint64_t *state,
+                                    size_t state_length);
+
+/* out[0] to out[count - 1]: the values of the stream. Refusals: 3 (mode, or count above 65,536); 4; then 5 to
+ * 8. */
+uint32_t modelardb_macaque_v_grid(const uint8_t *bytes, size_t bytes_length, size_t count, uint32_t mode,
+                                  uint32_t opening, uint32_t *out, size_t out_length);
+
+/* out[0]: the f32 sum of the values of the stream. Refusals: 3 (mode, or count above 65,536); 4; then 5 to
+ * 8. */
+uint32_t modelardb_macaque_v_sum(const uint8_t *bytes, size_t bytes_length, size_t count, uint32_t mode,
+                                 uint32_t opening, uint32_t *out, size_t out_length);
 
 #endif

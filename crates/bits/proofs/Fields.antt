@@ -110,9 +110,6 @@ fieldAt-lt i k bs = lt-of-lt-of-le (value-lt (take k (drop i bs))) (pow-mono (om
 pub fieldAt-field : (i k n : ℕ) (p r : List Bool) → length p ≡ i → fieldAt i k (p ++ (field k n ++ r)) ≡ n % 2 ^ k
 fieldAt-field i k n p r e = rw (drop-at p (field k n ++ r) i e, take-at (field k n) r k (length-field k n)) (value-field k n)
 
-pub fieldAt-drop : (at i k : ℕ) (bs : List Bool) → fieldAt i k (drop at bs) ≡ fieldAt (at + i) k bs
-fieldAt-drop at i k bs = ap (λ (z : List Bool). value (take k z)) (drop-drop i at bs)
-
 -- what stands behind a field does not enter it
 pub fieldAt-left : (i k : ℕ) (p r : List Bool) → i + k ≤ length p → fieldAt i k (p ++ r) ≡ fieldAt i k p
 fieldAt-left i k p r h =

@@ -1,14 +1,53 @@
--- What the calls on a writer's row answer and leave. The row is read before anything is judged, so a row that is too short is 4 first, with nothing
--- changed. Assumes nothing.
-use mathlib.Core.Bool.{cond}
-use mathlib.Core.List.{List, _++_}
+-- What the calls of MacaqueV's C face answer and leave: the number, and the lent memory afterwards, by what the call behind says. Assumes nothing.
+use mathlib.Core.Bool.{cond, not}
+use mathlib.Core.List.{List, [], _∷_, _++_}
 use Prim.Native.Nat.{ℕ}
-use lib.Dec.{leb}
+use lib.Dec.{eqb, leb, ltb}
 use lib.ListN.{length, drop}
-use Rattle.models.specs.Answers.{SaidOn, answeredOn, refusedOn}
-use Rattle.macaque_v.specs.Calls.{writeAnswer, writeMemory}
+use Rattle.models.specs.Answers.{Said, answered, refused, SaidOn, answeredOn, refusedOn, Cause, _when_, judge, judgedMemory}
+use Rattle.models.specs.Bound.{boundAllowed}
+use Rattle.models.specs.declared.ErrorBound.{ErrorBound}
+use Rattle.macaque_v.specs.Calls.{newAnswer, writeAnswer, writeMemory}
+use Rattle.macaque_v.specs.Read.{gridAnswer, gridMemory, sumAnswer, reopenCauses, reopenAnswer, reopenMemory}
 use Rattle.macaque_v.specs.declared.MacaqueV.{MacaqueV}
+use Rattle.macaque_v.specs.declared.Opening.{Opening}
+use Rattle.macaque_v.specs.declared.Opening.the-variants.{First, On}
+use Rattle.exports.specs.Face.{boundOf, numberOf, rowAfter}
 use Rattle.exports_stream.specs.Row.{rowLength, rowOf, writerIn}
+
+-- ---- how a stream opens: mode 0 stores the first value in full and looks at no other, mode 1 opens on the value
+
+abbrev pub openingOf : ℕ → ℕ → Opening
+openingOf mode opening = cond (eqb mode 0) First (On opening)
+
+-- A mode above 1 is no mode, and is refused with 3 where a count above its limit is: with such a mode every count stands for one.
+abbrev pub countIn : ℕ → ℕ → ℕ
+countIn mode count = cond (leb mode 1) count 65537
+
+-- ---- of what a call says: the number, and the row that it hands a state out in
+
+abbrev pub numberIn : {A : Type 0} → Said A → ℕ
+numberIn (answered x) = 0
+numberIn (refused n) = n
+
+abbrev pub rowIn : List ℕ → Said MacaqueV → List ℕ
+rowIn row (answered m) = rowOf m ++ drop rowLength row
+rowIn row (refused n) = row
+
+-- ---- new: its causes in 01's order, then what the call behind says
+
+abbrev pub newCauses : ErrorBound → ℕ → ℕ → List Cause
+newCauses b mode words = 1 when not (boundAllowed b) ∷ 3 when ltb 1 mode ∷ 4 when ltb words rowLength ∷ []
+
+unfoldable pub newNumber : ℕ → ℕ → ℕ → ℕ → List ℕ → ℕ
+newNumber kind bound mode opening row =
+    judge (λ (n : ℕ). n) (newCauses (boundOf kind bound) mode (length row)) (numberIn (newAnswer (boundOf kind bound) (openingOf mode opening)))
+
+unfoldable pub newRow : ℕ → ℕ → ℕ → ℕ → List ℕ → List ℕ
+newRow kind bound mode opening row =
+    judgedMemory row (newCauses (boundOf kind bound) mode (length row)) (rowIn row (newAnswer (boundOf kind bound) (openingOf mode opening)))
+
+-- ---- compress_values: the number, the row and the buffer. The row is read before anything is judged, so a row that is too short is 4 first.
 
 abbrev pub numberOn : {S A : Type 0} → SaidOn S A → ℕ
 numberOn (answeredOn x) = 0
@@ -18,8 +57,6 @@ abbrev pub rowOn : List ℕ → SaidOn MacaqueV MacaqueV → List ℕ
 rowOn row (answeredOn m) = rowOf m ++ drop rowLength row
 rowOn row (refusedOn n s) = row
 
--- ---- compress_values: the number, the row and the buffer
-
 unfoldable pub writeNumber : List ℕ → List ℕ → List ℕ → ℕ
 writeNumber row xs buf = cond (leb rowLength (length row)) (numberOn (writeAnswer (writerIn row) xs buf)) 4
 
@@ -28,3 +65,45 @@ writeRow row xs buf = cond (leb rowLength (length row)) (rowOn row (writeAnswer 
 
 unfoldable pub writeBuffer : List ℕ → List ℕ → List ℕ → List ℕ
 writeBuffer row xs buf = cond (leb rowLength (length row)) (writeMemory (writerIn row) xs buf) buf
+
+-- ---- reopen: 1, 3, 12, then 4 for the row, and only then what the stream gives. Till then the buffer is untouched.
+
+abbrev pub reopenCausesWith : ErrorBound → ℕ → ℕ → ℕ → ℕ → ℕ → List Cause
+reopenCausesWith b room used count k words = reopenCauses b room used count k ++ (4 when ltb words rowLength ∷ [])
+
+abbrev pub reopenFaceCauses : List ℕ → ℕ → ℕ → ℕ → ℕ → ℕ → ℕ → List ℕ → List Cause
+reopenFaceCauses buf used count k mode kind bound row = reopenCausesWith (boundOf kind bound) (length buf) used (countIn mode count) k (length row)
+
+abbrev pub reopenSaid : List ℕ → ℕ → ℕ → ℕ → ℕ → ℕ → ℕ → ℕ → Said MacaqueV
+reopenSaid buf used count k mode opening kind bound = reopenAnswer buf used (countIn mode count) k (openingOf mode opening) (boundOf kind bound)
+
+abbrev pub reopenLeft : List ℕ → ℕ → ℕ → ℕ → ℕ → ℕ → ℕ → ℕ → List ℕ
+reopenLeft buf used count k mode opening kind bound = reopenMemory buf used (countIn mode count) k (openingOf mode opening) (boundOf kind bound)
+
+unfoldable pub reopenNumber : List ℕ → ℕ → ℕ → ℕ → ℕ → ℕ → ℕ → ℕ → List ℕ → ℕ
+reopenNumber buf used count k mode opening kind bound row =
+    judge (λ (n : ℕ). n) (reopenFaceCauses buf used count k mode kind bound row) (numberIn (reopenSaid buf used count k mode opening kind bound))
+
+unfoldable pub reopenRow : List ℕ → ℕ → ℕ → ℕ → ℕ → ℕ → ℕ → ℕ → List ℕ → List ℕ
+reopenRow buf used count k mode opening kind bound row =
+    judgedMemory row (reopenFaceCauses buf used count k mode kind bound row) (rowIn row (reopenSaid buf used count k mode opening kind bound))
+
+unfoldable pub reopenBuffer : List ℕ → ℕ → ℕ → ℕ → ℕ → ℕ → ℕ → ℕ → List ℕ → List ℕ
+reopenBuffer buf used count k mode opening kind bound row =
+    judgedMemory buf (reopenFaceCauses buf used count k mode kind bound row) (reopenLeft buf used count k mode opening kind bound)
+
+-- ---- grid: the number and the output
+
+unfoldable pub gridNumber : List ℕ → ℕ → ℕ → ℕ → List ℕ → ℕ
+gridNumber bytes count mode opening out = numberIn (gridAnswer bytes (countIn mode count) (openingOf mode opening) (length out))
+
+unfoldable pub gridOut : List ℕ → ℕ → ℕ → ℕ → List ℕ → List ℕ
+gridOut bytes count mode opening out = gridMemory bytes (countIn mode count) (openingOf mode opening) out
+
+-- ---- sum: its pattern is the output's first place
+
+unfoldable pub sumNumber : List ℕ → ℕ → ℕ → ℕ → List ℕ → ℕ
+sumNumber bytes count mode opening out = numberOf 1 (length out) (sumAnswer bytes (countIn mode count) (openingOf mode opening))
+
+unfoldable pub sumOut : List ℕ → ℕ → ℕ → ℕ → List ℕ → List ℕ
+sumOut bytes count mode opening out = rowAfter 1 (λ (bits : ℕ). bits ∷ []) out (sumAnswer bytes (countIn mode count) (openingOf mode opening))

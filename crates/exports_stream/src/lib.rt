@@ -1,122 +1,49 @@
-// The C face of MacaqueV. A writer's state crosses as a row of ten words (specs/Row.antt); a row that
-// stands for no state stands for one that the call behind refuses.
+// The C face of MacaqueV. A writer's state crosses as a row of ten words (specs/Row.antt), and how a stream
+// opens as a mode and a value (specs/Calls.antt). A call answers 0 or the number of its refusal, and a
+// refusal changes nothing that was lent.
 ghost use mathlib.Core.Path.{_≡_};
-ghost use mathlib.Core.List.{_++_};
-ghost use Prim.Native.Nat.{_%_, _^_, _≤_};
-ghost use lib.ListN.{length, drop};
-ghost use Rattle.exports_stream.specs.Calls.{writeNumber, writeRow, writeBuffer};
-ghost use Rattle.exports_stream.specs.Row.{boundIn, kindOf, bitsOf, rowOf, small, standsForState, writerIn};
+ghost use Prim.Native.Nat.{_≤_};
+ghost use lib.ListN.{length};
+ghost use Rattle.models.specs.Answers.{verdict};
+ghost use Rattle.models.specs.Calls.{saysVerdict};
+ghost use Rattle.macaque_v.specs.Read.{saysOpen};
+ghost use Rattle.exports_stream.specs.Calls.{openingOf, countIn, numberIn, rowIn, newCauses, reopenCausesWith};
+ghost use Rattle.exports_stream.specs.Calls.{newNumber, newRow, writeNumber, writeRow, writeBuffer};
+ghost use Rattle.exports_stream.specs.Calls.{reopenNumber, reopenRow, reopenBuffer, gridNumber, gridOut, sumNumber, sumOut};
 use macaque_v::MacaqueV;
+use macaque_v::Opening;
 use macaque_v::WriteAnswer;
+use macaque_v::read;
+use macaque_v::read::OpenAnswer;
 use models::ErrorBound;
+use models::GridAnswer;
+use models::Refusal;
+use models::ValueAnswer;
+use models::Verdict;
 
-// ---- a state's row
+mod row;
 
-fn kind_of(b: ErrorBound) -> u64
-    ensures { λ r. ⌜ r ≡ kindOf b ⌝ }
+// ---- the writer's calls
+
+// A writer before any value into the row: mode 0 stores the first value in full, mode 1 opens on the
+// value `opening`.
+#[no_mangle]
+pub extern "C" fn modelardb_macaque_v_new(
+    kind: u32,
+    bound: u32,
+    mode: u32,
+    opening: u32,
+    state: &mut [u64],
+) -> u32
+    ensures number { λ r. ⌜ r ≡ newNumber kind bound mode opening (now (state .entry)) ⌝ }
+    ensures row { λ r. ⌜ now (state .exit) ≡ newRow kind bound mode opening (now (state .entry)) ⌝ }
 {
-    match b {
-        ErrorBound::Lossless => 0,
-        ErrorBound::Absolute(_) => 1,
-        ErrorBound::Relative(_) => 2,
+    let b = exports::bound_of(kind, bound);
+    match judge_new(b, mode, state.len()) {
+        Verdict::Refused(r) => models::number_of(r),
+        Verdict::Passed => put_opened(MacaqueV::new(b, opening_of(mode, opening)), state),
     }
 }
-
-fn bits_of(b: ErrorBound) -> u64
-    ensures { λ r. ⌜ r ≡ bitsOf b ⌝ }
-{
-    match b {
-        ErrorBound::Lossless => 0,
-        ErrorBound::Absolute(e) => numbers::bits_of_f32(e) as u64,
-        ErrorBound::Relative(e) => numbers::bits_of_f32(e) as u64,
-    }
-}
-
-// The state's words to the front of the row.
-fn put_writer(row: &mut [u64], m: MacaqueV)
-    requires { ⌜ 10 ≤ length (now row) ⌝ }
-    ensures { λ _. ⌜ now (row .exit) ≡ rowOf m ++ drop 10 (now (row .entry)) ⌝ }
-{
-    let b = m.error_bound;
-    let words = [
-        kind_of(b),
-        bits_of(b),
-        m.min_value as u64,
-        m.max_value as u64,
-        m.last_value as u64,
-        m.last_leading_zero_bits as u64,
-        m.last_trailing_zero_bits as u64,
-        exports::word_of(m.with_first) as u64,
-        m.place as u64,
-        m.length as u64,
-    ];
-    exports::put_words(&words, row);
-}
-
-// The low 32 bits of a word.
-fn low(w: u64) -> u32
-    ensures { λ r. ⌜ r ≡ w % 2 ^ 32 ⌝ }
-{
-    (w % 0x1_0000_0000) as u32
-}
-
-fn is_small(w: u64) -> bool
-    ensures { λ r. ⌜ r ≡ small w ⌝ }
-{
-    w < 0x1_0000_0000
-}
-
-fn bound_in(kind: u64, bits: u64) -> ErrorBound
-    ensures { λ r. ⌜ r ≡ boundIn kind bits ⌝ }
-{
-    if is_small(kind) & is_small(bits) {
-        return exports::bound_of(low(kind), low(bits));
-    }
-    ErrorBound::Absolute(0.0 / 0.0)
-}
-
-fn stands_for_state(row: &[u64]) -> bool
-    requires { ⌜ 10 ≤ length (now row) ⌝ }
-    ensures { λ r. ⌜ r ≡ standsForState (now (row .entry)) ⌝ }
-{
-    is_small(row[2])
-        & (is_small(row[3])
-            & (is_small(row[4]) & (is_small(row[5]) & (is_small(row[6]) & (row[7] <= 1)))))
-}
-
-// The state that a row stands for.
-fn writer_of(row: &[u64]) -> MacaqueV
-    requires { ⌜ 10 ≤ length (now row) ⌝ }
-    ensures { λ r. ⌜ r ≡ writerIn (now (row .entry)) ⌝ }
-{
-    let error_bound = bound_in(row[0], row[1]);
-    if !stands_for_state(row) {
-        return MacaqueV {
-            error_bound,
-            min_value: 0x7fc0_0000,
-            max_value: 0x7fc0_0000,
-            last_value: 0,
-            last_leading_zero_bits: 255,
-            last_trailing_zero_bits: 0,
-            with_first: false,
-            place: 1,
-            length: 0,
-        };
-    }
-    MacaqueV {
-        error_bound,
-        min_value: low(row[2]),
-        max_value: low(row[3]),
-        last_value: low(row[4]),
-        last_leading_zero_bits: low(row[5]),
-        last_trailing_zero_bits: low(row[6]),
-        with_first: row[7] == 1,
-        place: row[8] as usize,
-        length: row[9] as usize,
-    }
-}
-
-// ---- the calls
 
 // Writes the values behind the state's place; the row becomes the state after them.
 #[no_mangle]
@@ -132,11 +59,149 @@ pub extern "C" fn modelardb_macaque_v_compress_values(
     if state.len() < 10 {
         return 4;
     }
-    let writer = writer_of(state);
+    let writer = row::writer_of(state);
     match writer.compress_values(values, buffer) {
         WriteAnswer::Refused(r, _) => models::number_of(r),
         WriteAnswer::Written(after) => {
-            put_writer(state, after);
+            row::put_writer(state, after);
+            0
+        }
+    }
+}
+
+// The writer behind the first k of the `count` values in the buffer's first `used` bytes into the row; the
+// bits behind them in the byte that they end in are zeroed.
+#[no_mangle]
+pub extern "C" fn modelardb_macaque_v_reopen(
+    buffer: &mut [u8],
+    used: usize,
+    count: usize,
+    k: usize,
+    mode: u32,
+    opening: u32,
+    kind: u32,
+    bound: u32,
+    state: &mut [u64],
+) -> u32
+    ensures number { λ r. ⌜ r ≡ reopenNumber (now (buffer .entry)) used count k mode opening kind bound (now (state .entry)) ⌝ }
+    ensures row { λ r. ⌜ now (state .exit) ≡ reopenRow (now (buffer .entry)) used count k mode opening kind bound (now (state .entry)) ⌝ }
+    ensures bytes { λ r. ⌜ now (buffer .exit) ≡ reopenBuffer (now (buffer .entry)) used count k mode opening kind bound (now (state .entry)) ⌝ }
+{
+    let b = exports::bound_of(kind, bound);
+    let n = count_in(mode, count);
+    match judge_reopen(b, buffer.len(), used, n, k, state.len()) {
+        Verdict::Refused(r) => models::number_of(r),
+        Verdict::Passed => {
+            let writer = MacaqueV::reopen(buffer, used, n, k, opening_of(mode, opening), b);
+            put_opened(writer, state)
+        }
+    }
+}
+
+// ---- the reading calls
+
+// The values of a stream, `count` of them, into the first places of `out`.
+#[no_mangle]
+pub extern "C" fn modelardb_macaque_v_grid(
+    bytes: &[u8],
+    count: usize,
+    mode: u32,
+    opening: u32,
+    out: &mut [u32],
+) -> u32
+    ensures number { λ r. ⌜ r ≡ gridNumber (now (bytes .entry)) count mode opening (now (out .entry)) ⌝ }
+    ensures values { λ r. ⌜ now (out .exit) ≡ gridOut (now (bytes .entry)) count mode opening (now (out .entry)) ⌝ }
+{
+    match read::grid(bytes, count_in(mode, count), opening_of(mode, opening), out) {
+        GridAnswer::Refused(r) => models::number_of(r),
+        GridAnswer::Drawn => 0,
+    }
+}
+
+// The sum of the values of a stream, `count` of them, into out[0].
+#[no_mangle]
+pub extern "C" fn modelardb_macaque_v_sum(
+    bytes: &[u8],
+    count: usize,
+    mode: u32,
+    opening: u32,
+    out: &mut [u32],
+) -> u32
+    ensures number { λ r. ⌜ r ≡ sumNumber (now (bytes .entry)) count mode opening (now (out .entry)) ⌝ }
+    ensures values { λ r. ⌜ now (out .exit) ≡ sumOut (now (bytes .entry)) count mode opening (now (out .entry)) ⌝ }
+{
+    match read::sum(bytes, count_in(mode, count), opening_of(mode, opening)) {
+        ValueAnswer::Refused(r) => exports::number_with(r, 1, out.len()),
+        ValueAnswer::Answered(bits) => {
+            if out.len() < 1 {
+                return 4;
+            }
+            out[0] = bits;
+            0
+        }
+    }
+}
+
+// ---- how a stream opens
+
+fn opening_of(mode: u32, opening: u32) -> Opening
+    ensures { λ r. ⌜ r ≡ openingOf mode opening ⌝ }
+{
+    if mode == 0 {
+        Opening::First
+    } else {
+        Opening::On(opening)
+    }
+}
+
+// A mode above 1 is refused with 3, as a count above its limit is: it makes the count such a one.
+fn count_in(mode: u32, count: usize) -> usize
+    ensures { λ r. ⌜ r ≡ countIn mode count ⌝ }
+{
+    if mode <= 1 { count } else { 65537 }
+}
+
+// ---- the causes of refusal of a call that hands out a state: the row has to hold it
+
+fn judge_new(error_bound: ErrorBound, mode: u32, words: usize) -> Verdict
+    ensures { λ r. ⌜ saysVerdict r ≡ verdict (newCauses «error_bound» mode words) ⌝ }
+{
+    let short = models::when(Refusal::OutputTooShort, words < 10, Verdict::Passed);
+    let no_mode = models::when(Refusal::OverLimit, 1 < mode, short);
+    models::when(
+        Refusal::BoundNotAllowed,
+        !models::bound_allowed(error_bound),
+        no_mode,
+    )
+}
+
+// What is judged before the buffer is touched.
+fn judge_reopen(
+    error_bound: ErrorBound,
+    room: usize,
+    used: usize,
+    count: usize,
+    k: usize,
+    words: usize,
+) -> Verdict
+    ensures { λ r. ⌜ saysVerdict r ≡ verdict (reopenCausesWith «error_bound» room used count k words) ⌝ }
+{
+    match read::judge_reopen(error_bound, room, used, count, k) {
+        Verdict::Refused(r) => Verdict::Refused(r),
+        Verdict::Passed => models::when(Refusal::OutputTooShort, words < 10, Verdict::Passed),
+    }
+}
+
+// The state's words to the front of the row, where there is one.
+fn put_opened(writer: OpenAnswer, state: &mut [u64]) -> u32
+    requires { ⌜ 10 ≤ length (now state) ⌝ }
+    ensures number { λ r. ⌜ r ≡ numberIn (saysOpen writer) ⌝ }
+    ensures row { λ r. ⌜ now (state .exit) ≡ rowIn (now (state .entry)) (saysOpen writer) ⌝ }
+{
+    match writer {
+        OpenAnswer::Refused(r) => models::number_of(r),
+        OpenAnswer::Opened(m) => {
+            row::put_writer(state, m);
             0
         }
     }

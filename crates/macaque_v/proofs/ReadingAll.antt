@@ -118,7 +118,7 @@ module _ (bytes : List ℕ) (o : Opening) where
       equal e = cc
   filled-again {n} {vs} R old new (OfRun.Refused r) f = absurd (never (clash (sym (R .values) ∙ f .stops)))
     where
-      clash : {ws : List ℕ} {t : State Unit} {c : List Bool} {g : stream.Refusal} → _≡_ {A = Reading Unit} (done ws t c) (stopped g) → _≡_ {A = ℕ} 0 1
+      clash : {ws : List ℕ} {t : State Unit} {c : List Bool} {g : stream.StreamRefusal} → _≡_ {A = Reading Unit} (done ws t c) (stopped g) → _≡_ {A = ℕ} 0 1
       clash e = cc
 
       never : _≡_ {A = ℕ} 0 1 → ⊥

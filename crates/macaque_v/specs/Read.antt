@@ -109,7 +109,7 @@ stateWith at e = record { last = at .last; win = windowIn (at .lead) (at .trail)
 
 -- no state is reopened, for this cause
 pub record Unopened (q : Reopened Ends) (cause : Refusal) : Type 0 where
-  pub fault : stream.Refusal
+  pub fault : stream.StreamRefusal
   pub opens : q ≡ unopened fault
   pub numbered : fault .no ≡ number cause
 

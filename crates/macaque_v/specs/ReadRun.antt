@@ -54,7 +54,7 @@ pub record Reads (first : Bool) (bytes : List ℕ) (from : Cursor) (n : ℕ) (vs
 
 -- reading stops for this cause
 pub record StopsBy {A : Type 0} (reading : Reading A) (cause : Refusal) : Type 0 where
-  pub fault : stream.Refusal
+  pub fault : stream.StreamRefusal
   pub stops : reading ≡ stopped fault
   pub numbered : fault .no ≡ number cause
 

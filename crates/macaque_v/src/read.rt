@@ -89,7 +89,7 @@ fn judge_grid(count: usize, room: usize) -> Verdict
     models::when(Refusal::OverLimit, 65536 < count, short)
 }
 
-fn judge_reopen(
+pub fn judge_reopen(
     error_bound: ErrorBound,
     room: usize,
     used: usize,

@@ -180,8 +180,8 @@ impl MacaqueV {
         let mut at = self;
         let mut i: usize = 0;
         while i < values.len() {
-            let step = at.step(values[i]);
-            at = step.state;
+            let one = at.step(values[i]);
+            at = one.state;
             i += 1;
         }
         at.place

@@ -13,7 +13,7 @@ use Rattle.bits.proofs.Writes.{laid-used, cut-used}
 use Rattle.bits.proofs.InBytes.{bits-laidIn, length-laidIn, laidIn-nothing, laidIn-before, laidIn-after, bits-cutIn, length-cutIn, cutIn-before, cutIn-after}
 use Rattle.stream.specs.Format.{macaque, gorilla, bitsFor, Gather, gatherFrom, Mode, withFirst, withoutFirst, Stream, macaqueOf, State, fresh, mostValues, usable}
 use Rattle.stream.specs.Write.{lossless, keptFrom, kept, Keeps, written, wrote, wroteIn}
-use Rattle.stream.specs.Read.{Refusal, done, stopped, readAll, Reopened, reopened, unopened, reopen, bufferAfter}
+use Rattle.stream.specs.Read.{StreamRefusal, done, stopped, readAll, Reopened, reopened, unopened, reopen, bufferAfter}
 use Rattle.stream.specs.Made.{Made}
 use Rattle.stream.specs.Cases.{cases, AllRight}
 use Rattle.stream.proofs.Formats.{Good, macaque-good, gorilla-good}
@@ -126,12 +126,12 @@ pub any-stream-resumes : {A : Type 0} (rule : ℕ → ℕ → ℕ) (S : Stream A
 any-stream-resumes = any-resumed
 
 -- "The whole stream is checked first": what reading refuses, reopening refuses, by the same number, value and place and at any k
-pub reopening-refuses-what-reading-refuses : {A : Type 0} (S : Stream A) (n k : ℕ) (s : State A) (bits : List Bool) (f : Refusal)
+pub reopening-refuses-what-reading-refuses : {A : Type 0} (S : Stream A) (n k : ℕ) (s : State A) (bits : List Bool) (f : StreamRefusal)
     → readAll S n s bits ≡ stopped f → reopen S n k s bits ≡ unopened f
 reopening-refuses-what-reading-refuses = refused-reopen
 
 -- "lent memory is untouched"
-pub a-refused-reopening-leaves-the-buffer : {A : Type 0} (S : Stream A) (n k : ℕ) (s : State A) (bits : List Bool) (f : Refusal)
+pub a-refused-reopening-leaves-the-buffer : {A : Type 0} (S : Stream A) (n k : ℕ) (s : State A) (bits : List Bool) (f : StreamRefusal)
     → readAll S n s bits ≡ stopped f → (buf : List ℕ) → bufferAfter (reopen S n k s bits) buf ≡ buf
 a-refused-reopening-leaves-the-buffer {A} S n k s bits f h buf = ap (λ (q : Reopened A). bufferAfter q buf) (refused-reopen S n k s bits f h)
 

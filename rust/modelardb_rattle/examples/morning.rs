@@ -1,7 +1,8 @@
-//! Which readings of a morning an earlier one may stand for, by the proved bound test.
-//! Usage: `morning FILE BOUND`, a file with a time and a value on each line, and an absolute bound.
+//! A morning's readings as a stream: which value is kept for each, the bytes, and an upload that breaks
+//! off and goes on. Usage: `morning FILE BOUND`, a file with a time and a value on each line, and an
+//! absolute bound.
 
-use modelardb_rattle::{ErrorBound, is_value_within_error_bound};
+use modelardb_rattle::{ErrorBound, MacaqueV, Opening, Refusal, macaque_v};
 use std::process::ExitCode;
 
 fn main() -> ExitCode {
@@ -20,13 +21,32 @@ fn main() -> ExitCode {
 }
 
 fn show(file: &str, bound: &str) -> Result<(), String> {
-    let number = |word: &str| {
-        word.parse()
-            .map_err(|_| format!("{word:?} is not a number"))
-    };
     let error_bound = ErrorBound::Absolute(number(bound)?);
+    let (times, values) = readings(file)?;
+    let in_words = |refusal: Refusal| refusal.to_string();
+    let (writer, bytes) = written(&values, error_bound).map_err(in_words)?;
+    let mut kept = vec![0.0; values.len()];
+    macaque_v::grid(&bytes, kept.len(), Opening::First, &mut kept).map_err(in_words)?;
+    for ((time, value), kept) in times.iter().zip(&values).zip(&kept) {
+        println!("{time} {value:6.2}  kept as {kept:.2}");
+    }
+    let hex: Vec<String> = bytes.iter().map(|byte| format!("{byte:02X}")).collect();
+    println!("{}", hex.join(" "));
+    println!(
+        "{} readings within {bound} in {} bytes",
+        values.len(),
+        bytes.len()
+    );
+    let half = values.len() / 2;
+    let same = resumed(&values, half, error_bound).map_err(in_words)? == (writer, bytes);
+    println!("broken off, and resumed behind {half}: the same bytes and state: {same}");
+    Ok(())
+}
+
+/// The times and values of a file.
+fn readings(file: &str) -> Result<(Vec<String>, Vec<f32>), String> {
     let text = std::fs::read_to_string(file).map_err(|why| format!("{file}: {why}"))?;
-    let (mut last, mut stored, mut all) = (f32::NAN, 0, 0);
+    let (mut times, mut values) = (vec![], vec![]);
     for (at, line) in text.lines().enumerate() {
         if line.starts_with('#') || line.is_empty() {
             continue;
@@ -34,18 +54,36 @@ fn show(file: &str, bound: &str) -> Result<(), String> {
         let (time, value) = line
             .split_once(' ')
             .ok_or(format!("{file}:{}: no time and value", at + 1))?;
-        let value = number(value)?;
-        let stands = is_value_within_error_bound(error_bound, value, last)
-            .map_err(|refusal| refusal.to_string())?;
-        all += 1;
-        if stands {
-            println!("{time} {value:6.2}  {last:.2} may stand for it");
-        } else {
-            last = value;
-            stored += 1;
-            println!("{time} {value:6.2}  kept");
-        }
+        times.push(time.to_string());
+        values.push(number(value)?);
     }
-    println!("kept {stored} of {all} readings within {bound}");
-    Ok(())
+    Ok((times, values))
+}
+
+fn number(word: &str) -> Result<f32, String> {
+    let not_one = |_| format!("{word:?} is not a number");
+    word.parse().map_err(not_one)
+}
+
+/// A writer and its stream. No value takes more than 45 bits.
+type Stream = (MacaqueV, Vec<u8>);
+
+fn written(values: &[f32], error_bound: ErrorBound) -> Result<Stream, Refusal> {
+    let mut buffer = vec![0; 6 * values.len()];
+    let mut writer = MacaqueV::new(error_bound, Opening::First)?;
+    writer.compress_values(values, &mut buffer)?;
+    buffer.truncate(writer.bytes_used());
+    Ok((writer, buffer))
+}
+
+/// The same stream, of which only the first `k` values are known to have arrived.
+fn resumed(values: &[f32], k: usize, error_bound: ErrorBound) -> Result<Stream, Refusal> {
+    let (_, mut buffer) = written(values, error_bound)?;
+    let (used, count) = (buffer.len(), values.len());
+    let mut writer = MacaqueV::reopen(&mut buffer, used, count, k, Opening::First, error_bound)?;
+    buffer.truncate(writer.bytes_used());
+    buffer.resize(6 * count, 0);
+    writer.compress_values(&values[k..], &mut buffer)?;
+    buffer.truncate(writer.bytes_used());
+    Ok((writer, buffer))
 }

@@ -1,5 +1,6 @@
-//! The C face of the proved library. The only `unsafe` of this crate stands here: each function
-//! below lends slices that are valid for the whole call, and no other memory.
+//! The C face of the proved library as functions on slices: each answers 0 or the number of a
+//! refusal. The only `unsafe` of this crate stands here: each function lends slices that are valid
+//! for the whole call, and no other memory. The types of this crate are made of these calls.
 
 mod c {
     unsafe extern "C" {
@@ -20,15 +21,65 @@ mod c {
             out: *mut u64,
             out_len: usize,
         ) -> u32;
+        pub unsafe fn modelardb_macaque_v_new(
+            kind: u32,
+            bound: u32,
+            mode: u32,
+            opening: u32,
+            state: *mut u64,
+            state_len: usize,
+        ) -> u32;
+        pub unsafe fn modelardb_macaque_v_compress_values(
+            state: *mut u64,
+            state_len: usize,
+            values: *const u32,
+            values_len: usize,
+            buffer: *mut u8,
+            buffer_len: usize,
+        ) -> u32;
+        pub unsafe fn modelardb_macaque_v_reopen(
+            buffer: *mut u8,
+            buffer_len: usize,
+            used: usize,
+            count: usize,
+            k: usize,
+            mode: u32,
+            opening: u32,
+            kind: u32,
+            bound: u32,
+            state: *mut u64,
+            state_len: usize,
+        ) -> u32;
+        pub unsafe fn modelardb_macaque_v_grid(
+            bytes: *const u8,
+            bytes_len: usize,
+            count: usize,
+            mode: u32,
+            opening: u32,
+            out: *mut u32,
+            out_len: usize,
+        ) -> u32;
+        pub unsafe fn modelardb_macaque_v_sum(
+            bytes: *const u8,
+            bytes_len: usize,
+            count: usize,
+            mode: u32,
+            opening: u32,
+            out: *mut u32,
+            out_len: usize,
+        ) -> u32;
     }
 }
 
 pub use c::{modelardb_narrow as narrow, modelardb_widen as widen};
 
+/// A bound's kind, 0 Lossless, 1 Absolute or 2 Relative, and its bits; or how a stream opens, 0 with
+/// its first value in full or 1 on a given one, and that one's bits.
+pub type Words = (u32, u32);
+
 /// 0 or the refusal's number; `out[0]` becomes 0 or 1.
 pub fn is_value_within_error_bound(
-    kind: u32,
-    bound: u32,
+    (kind, bound): Words,
     real: u32,
     approximate: u32,
     out: &mut [u32],
@@ -41,8 +92,86 @@ pub fn is_value_within_error_bound(
 }
 
 /// 0 or the refusal's number; `out[0]` becomes the bits of the deviation.
-pub fn maximum_allowed_deviation(kind: u32, bound: u32, value: u64, out: &mut [u64]) -> u32 {
+pub fn maximum_allowed_deviation((kind, bound): Words, value: u64, out: &mut [u64]) -> u32 {
     let (start, length) = (out.as_mut_ptr(), out.len());
     // SAFETY: start and length are those of a slice lent for the call.
     unsafe { c::modelardb_maximum_allowed_deviation(kind, bound, value, start, length) }
+}
+
+/// How many words a writer's state has: the bound's kind and bits; the least, the greatest and the
+/// last kept value; the window's leading and trailing zeros; 1 where the first value is stored in
+/// full; the place in bits; the length.
+pub const STATE_WORDS: usize = 10;
+
+/// 0 or the refusal's number; the first ten words of `state` become a fresh writer's.
+pub fn macaque_v_new((kind, bound): Words, (mode, opening): Words, state: &mut [u64]) -> u32 {
+    let (start, length) = (state.as_mut_ptr(), state.len());
+    // SAFETY: start and length are those of a slice lent for the call.
+    unsafe { c::modelardb_macaque_v_new(kind, bound, mode, opening, start, length) }
+}
+
+/// 0 or the refusal's number; the values are written behind the state's place, and `state` becomes
+/// the one after them.
+pub fn macaque_v_compress_values(state: &mut [u64], values: &[u32], buffer: &mut [u8]) -> u32 {
+    let (row, row_length) = (state.as_mut_ptr(), state.len());
+    let (start, length) = (buffer.as_mut_ptr(), buffer.len());
+    // SAFETY: each start and length are those of a slice lent for the call, and no two overlap.
+    unsafe {
+        c::modelardb_macaque_v_compress_values(
+            row,
+            row_length,
+            values.as_ptr(),
+            values.len(),
+            start,
+            length,
+        )
+    }
+}
+
+/// 0 or the refusal's number; `state` becomes that of the writer behind the first `k` of the `count`
+/// values in the first `used` bytes, and what follows them in their last byte becomes zeros.
+pub fn macaque_v_reopen(
+    buffer: &mut [u8],
+    used: usize,
+    (count, k): (usize, usize),
+    (mode, opening): Words,
+    (kind, bound): Words,
+    state: &mut [u64],
+) -> u32 {
+    let (row, row_length) = (state.as_mut_ptr(), state.len());
+    let (start, length) = (buffer.as_mut_ptr(), buffer.len());
+    // SAFETY: each start and length are those of a slice lent for the call, and they do not overlap.
+    unsafe {
+        c::modelardb_macaque_v_reopen(
+            start, length, used, count, k, mode, opening, kind, bound, row, row_length,
+        )
+    }
+}
+
+/// 0 or the refusal's number; the first `count` places of `out` become the stream's values.
+pub fn macaque_v_grid(bytes: &[u8], count: usize, (mode, opening): Words, out: &mut [u32]) -> u32 {
+    let (places, room) = (out.as_mut_ptr(), out.len());
+    let (start, length) = (bytes.as_ptr(), bytes.len());
+    // SAFETY: each start and length are those of a slice lent for the call, and they do not overlap.
+    unsafe { c::modelardb_macaque_v_grid(start, length, count, mode, opening, places, room) }
+}
+
+/// 0 or the refusal's number; `out[0]` becomes the bits of the sum of the stream's values.
+pub fn macaque_v_sum(bytes: &[u8], count: usize, (mode, opening): Words, out: &mut [u32]) -> u32 {
+    let (places, room) = (out.as_mut_ptr(), out.len());
+    let (start, length) = (bytes.as_ptr(), bytes.len());
+    // SAFETY: each start and length are those of a slice lent for the call, and they do not overlap.
+    unsafe { c::modelardb_macaque_v_sum(start, length, count, mode, opening, places, room) }
+}
+
+/// Values as their bits, in place.
+pub fn as_bits(values: &[f32]) -> &[u32] {
+    // SAFETY: f32 and u32 have one size and alignment, and any 32 bits are a u32.
+    unsafe { std::slice::from_raw_parts(values.as_ptr().cast(), values.len()) }
+}
+
+/// Values as their bits, in place.
+pub fn as_bits_mut(values: &mut [f32]) -> &mut [u32] {
+    // SAFETY: f32 and u32 have one size and alignment, and any 32 bits are either.
+    unsafe { std::slice::from_raw_parts_mut(values.as_mut_ptr().cast(), values.len()) }
 }

@@ -15,11 +15,13 @@
 //! assert_eq!(refused, Err(Refusal::BoundNotAllowed));
 //! ```
 
-mod ffi;
+pub mod ffi;
+pub mod macaque_v;
 pub mod models;
 pub mod numbers;
 mod refusal;
 
+pub use macaque_v::{MacaqueV, Opening};
 pub use models::{
     ErrorBound, is_value_within_error_bound, is_value_within_error_bound_bits,
     maximum_allowed_deviation, maximum_allowed_deviation_bits,

@@ -1,7 +1,7 @@
 //! Error bounds and the tests against them.
 
 use crate::Refusal;
-use crate::ffi;
+use crate::ffi::{self, Words};
 
 /// How far an approximation may be from the value that it stands for.
 #[derive(Clone, Copy, Debug, PartialEq)]
@@ -16,7 +16,7 @@ pub enum ErrorBound {
 
 impl ErrorBound {
     /// The bound's case as a number, and its bits.
-    fn words(self) -> (u32, u32) {
+    pub(crate) fn words(self) -> Words {
         match self {
             ErrorBound::Lossless => (0, 0),
             ErrorBound::Absolute(bound) => (1, bound.to_bits()),
@@ -58,10 +58,8 @@ pub fn is_value_within_error_bound_bits(
     real_value: u32,
     approximate_value: u32,
 ) -> Result<bool, Refusal> {
-    let (kind, bound) = error_bound.words();
-    let mut out = [0];
-    let number =
-        ffi::is_value_within_error_bound(kind, bound, real_value, approximate_value, &mut out);
+    let (words, mut out) = (error_bound.words(), [0]);
+    let number = ffi::is_value_within_error_bound(words, real_value, approximate_value, &mut out);
     Refusal::judge(number)?;
     Ok(out[0] != 0)
 }
@@ -82,9 +80,9 @@ pub fn maximum_allowed_deviation(error_bound: ErrorBound, value: f64) -> Result<
 
 /// [`maximum_allowed_deviation`] on the value's bits; a NaN is answered as 7FF8000000000000.
 pub fn maximum_allowed_deviation_bits(error_bound: ErrorBound, value: u64) -> Result<u64, Refusal> {
-    let (kind, bound) = error_bound.words();
     let mut out = [0];
-    Refusal::judge(ffi::maximum_allowed_deviation(kind, bound, value, &mut out))?;
+    let number = ffi::maximum_allowed_deviation(error_bound.words(), value, &mut out);
+    Refusal::judge(number)?;
     Ok(out[0])
 }
 
@@ -95,15 +93,15 @@ mod tests {
     #[test]
     fn words_that_stand_for_no_bound_are_refused() {
         let mut out = [7];
-        let number = ffi::is_value_within_error_bound(3, 0, 0, 0, &mut out);
+        let number = ffi::is_value_within_error_bound((3, 0), 0, 0, &mut out);
         assert_eq!((number, out), (1, [7]));
     }
 
     #[test]
     fn a_row_too_short_is_refused_after_the_bound() {
-        assert_eq!(ffi::is_value_within_error_bound(0, 0, 0, 0, &mut []), 4);
-        assert_eq!(ffi::is_value_within_error_bound(1, 0, 0, 0, &mut []), 1);
-        assert_eq!(ffi::maximum_allowed_deviation(0, 0, 0, &mut []), 4);
-        assert_eq!(ffi::maximum_allowed_deviation(3, 0, 0, &mut []), 1);
+        assert_eq!(ffi::is_value_within_error_bound((0, 0), 0, 0, &mut []), 4);
+        assert_eq!(ffi::is_value_within_error_bound((1, 0), 0, 0, &mut []), 1);
+        assert_eq!(ffi::maximum_allowed_deviation((0, 0), 0, &mut []), 4);
+        assert_eq!(ffi::maximum_allowed_deviation((3, 0), 0, &mut []), 1);
     }
 }

@@ -1,5 +1,6 @@
 //! The calls over one build of the Rust's text. `published` and `filled` each load this file.
 
+use super::direct::DIRECT;
 use super::models::macaque_v::{self, MacaqueV};
 use super::models::{self, pmc_mean, swing, timestamps};
 use super::types::{self, CompressedSegmentBuilder};
@@ -42,6 +43,7 @@ pub const fn named(name: &'static str) -> Calls {
         segment_write,
         segment_grid,
         segment_sum,
+        direct: DIRECT,
     }
 }
 

@@ -58,6 +58,15 @@ pub struct Calls {
     pub segment_write: fn(Model, ErrorBound, &[u32]) -> SegmentBytes,
     pub segment_grid: fn(Segment) -> Option<Vec<u32>>,
     pub segment_sum: fn(Segment) -> Option<u32>,
+    pub direct: Direct,
+}
+
+/// The text's own entry points for a stream with its first value in full, for timing.
+pub struct Direct {
+    pub write: fn(ErrorBound, &[f32]) -> Vec<u8>,
+    /// A value for each timestamp, behind those that the list holds.
+    pub read: fn(&[u8], &[i64], &mut Vec<f32>),
+    pub sum: fn(&[u8], usize) -> f32,
 }
 
 impl Calls {

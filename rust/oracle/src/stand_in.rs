@@ -49,6 +49,10 @@ impl<T: Copy> List<T> {
         &self.0
     }
 
+    pub fn into_values(self) -> Vec<T> {
+        self.0
+    }
+
     pub fn value(&self, index: usize) -> T {
         self.0[index]
     }

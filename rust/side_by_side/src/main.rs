@@ -2,7 +2,9 @@
 //! Usage: `side_by_side [SEED] [SCALE]`, where SCALE is a factor, or `all` for the run over every f32.
 
 mod context;
+mod face;
 mod inputs;
+mod lent;
 mod parts;
 mod shape;
 

@@ -5,6 +5,8 @@ include!(concat!(env!("OUT_DIR"), "/filled.rs"));
 
 #[path = "../calls.rs"]
 mod calls;
+#[path = "../direct.rs"]
+mod direct;
 
 pub const CALLS: crate::rust::Calls = calls::named("filled");
 

@@ -5,6 +5,8 @@ include!(concat!(env!("OUT_DIR"), "/published.rs"));
 
 #[path = "../calls.rs"]
 mod calls;
+#[path = "../direct.rs"]
+mod direct;
 
 pub const CALLS: crate::rust::Calls = calls::named("published");
 

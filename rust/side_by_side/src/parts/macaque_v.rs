@@ -10,7 +10,8 @@ use oracle::paper::refusal;
 use oracle::paper::types::Extremes;
 use oracle::rust::Stream;
 
-const BOUNDS: [ErrorBound; 6] = [
+/// Bounds of each kind, narrow and wide.
+pub const BOUNDS: [ErrorBound; 6] = [
     Lossless,
     Absolute(0.5),
     Absolute(1e-7),
@@ -38,7 +39,7 @@ pub fn streams(context: &mut Context) {
 }
 
 /// All lists of the dozen special floats, up to a length.
-fn short_lists(most: usize) -> Vec<Vec<u32>> {
+pub fn short_lists(most: usize) -> Vec<Vec<u32>> {
     let mut lists = vec![vec![]];
     let mut longest = lists.clone();
     for _ in 0..most {
@@ -69,21 +70,33 @@ fn written_and_read(context: &mut Context, bound: ErrorBound, opening: Opening, 
             max_value: writer.max_value,
         },
     };
-    for rust in context.rust {
-        let theirs = (rust.write)(bound, &[(opening, values)]);
-        if rust.is_filled() {
-            context.same(rust.name, &paper, &theirs, input);
-        } else {
-            // Listed: rewriting by log2.
-            let is_listed = bound != Lossless;
-            context.same_or(is_listed, rust.name, &paper.bytes, &theirs.bytes, input);
-        }
-    }
+    compare_written(context, &paper, bound, opening, values);
     if bound == Lossless {
         let read = read(&bytes, values.len(), opening);
         context.same("the inputs", read, Ok(values.to_vec()), input);
     }
     compare_reading(context, &bytes, values.len(), opening);
+}
+
+/// The stream of a list beside those of the Rust's text.
+pub fn compare_written(
+    context: &mut Context,
+    stream: &Stream,
+    bound: ErrorBound,
+    opening: Opening,
+    values: &[u32],
+) {
+    let input = || format!("stream {:X?} {opening:X?} {values:08X?}", bound.row());
+    for rust in context.rust {
+        let theirs = (rust.write)(bound, &[(opening, values)]);
+        if rust.is_filled() {
+            context.same(rust.name, stream, &theirs, input);
+        } else {
+            // Listed: rewriting by log2.
+            let is_listed = bound != Lossless;
+            context.same_or(is_listed, rust.name, &stream.bytes, &theirs.bytes, input);
+        }
+    }
 }
 
 fn read(bytes: &[u8], count: usize, opening: Opening) -> Result<Vec<u32>, u32> {

@@ -3,6 +3,7 @@
 mod bounds;
 mod choice;
 mod differences;
+mod library_stream;
 mod macaque_v;
 mod numbers;
 mod parameters;
@@ -26,6 +27,13 @@ pub const ALL: &[Part] = &[
     Part::new("MacaqueV damaged", macaque_v::damaged),
     Part::new("MacaqueV resumed", macaque_v::resumed),
     Part::new("MacaqueV's greatest s", macaque_v::greatest),
+    Part::new("library: marked cases", library_stream::marked),
+    Part::new("library: short lists", library_stream::short_lists),
+    Part::new("library: lists", library_stream::lists),
+    Part::new("library: resumed", library_stream::resumed),
+    Part::new("library: damaged", library_stream::damaged),
+    Part::new("library: states", library_stream::states),
+    Part::new("library: causes", library_stream::causes),
     Part::new("parameter bytes", parameters::parameters),
     Part::new("segments", segments::segments),
     Part::new("listed differences", differences::differences),

@@ -1,0 +1,101 @@
+-- `exports_stream::modelardb_macaque_v_reopen` meets its contract: refused by the first cause that holds, else by what the call behind it said. Assumes nothing.
+use borrow.Author.Needs.{needs}
+use mathlib.Core.Path.{_≡_, ap₂, _∙_}
+use Prim.Native.Nat.{ℕ}
+use borrow.Author.Tests.{ltb-false}
+use lib.ListN.{length}
+use Rattle.models.specs.Answers.{verdict}
+use Rattle.models.specs.Calls.{saysVerdict}
+use Rattle.models.specs.declared.ErrorBound.{ErrorBound}
+use Rattle.models.proofs.Judged.{none-holds}
+use Rattle.macaque_v.specs.Read.{saysOpen}
+use Rattle.exports_stream.specs.Calls.{reopenCausesWith, reopenFaceCauses, reopenSaid, reopenLeft}
+use Rattle.exports_stream.proofs.Faces.{reopen-refused, reopen-passed}
+use Rattle.exports_stream.proofs.modelardb_macaque_v_reopen.Statement.{statement}
+use Rattle.exports_stream.proofs.modelardb_macaque_v_reopen.Tie as tie
+
+-- the verdict is that on the causes of the bound and the count that the words stand for
+judged : (c : tie.After-judge-reopen)
+    → saysVerdict (c .judge-reopen .result)
+    ≡ verdict
+    (reopenFaceCauses (c .before .before .before .before .before .args .buffer .now) (c .before .before .before .before .before .args .used) (c .before .before .before .before .before .args .count) (c .before .before .before .before .before .args .k)
+    (c .before .before .before .before .before .args .mode) (c .before .before .before .before .before .args .kind) (c .before .before .before .before .before .args .bound) (c .before .before .before .before .before .args .state .now))
+judged c =
+    let a = c .before .before .before .before .before .args in
+    c .judge-reopen .ensures
+    ∙ ap₂ (λ (b : ErrorBound) (n : ℕ). verdict (reopenCausesWith b (length (a .buffer .now)) (a .used) n (a .k) (length (a .state .now)))) (c .before .before .bound-of .ensures) (c .before .count-in .ensures)
+
+bound-of-requires : tie.Need-bound-of-requires
+bound-of-requires c κs = search needs
+
+count-in-requires : tie.Need-count-in-requires
+count-in-requires c κs = search needs
+
+judge-reopen-requires : tie.Need-judge-reopen-requires
+judge-reopen-requires c κs = search needs
+
+enum-known-r : tie.Need-enum-known-r
+enum-known-r c = search needs
+
+number-of-requires : tie.Need-number-of-requires
+number-of-requires c κs = search needs
+
+enum-told : tie.Need-enum-told
+enum-told c = search needs
+
+opening-of-requires : tie.Need-opening-of-requires
+opening-of-requires c κs = search needs
+
+reopen-requires : tie.Need-reopen-requires
+reopen-requires c κs = search needs
+
+put-opened-requires : tie.Need-put-opened-requires
+put-opened-requires c κs =
+    let k = c .before .before .before .before .before .before .before .before in
+    let a = k .before .before .before .before .before .args in
+    let none = none-holds (reopenFaceCauses (a .buffer .now) (a .used) (a .count) (a .k) (a .mode) (a .kind) (a .bound) (a .state .now)) _ (judged k) (c .before .before .before .before .before .before .enum-told .given .1) in
+    ltb-false (length (a .state .now)) 10 (none .1 .1 .1 .0)
+
+returns : tie.Need-returns
+returns c =
+    let k = c .before .before .before .before in
+    let a = k .before .before .before .before .before .args in
+    let t = reopen-refused (a .buffer .now) (a .used) (a .count) (a .k) (a .mode) (a .opening) (a .kind) (a .bound) (a .state .now) _ (judged k) (c .before .before .r .given .0 .0) (c .before .before .r .given .1) in
+    (c .number-of .ensures ∙ t .0, (t .1, t .2))
+
+same-length : tie.Need-same-length
+same-length c = search needs
+
+same-length-2 : tie.Need-same-length-2
+same-length-2 c = search needs
+
+returns-2 : tie.Need-returns-2
+returns-2 c =
+    let r = c .before .before .before .before .before .before in
+    let k = r .before .before .before .before .before in
+    let a = k .before .before .before .before .before .args in
+    let b = k .before .before .bound-of .ensures in
+    let n = k .before .count-in .ensures in
+    let o = r .before .opening-of .ensures in
+    let said : saysOpen (r .reopen .result) ≡ reopenSaid (a .buffer .now) (a .used) (a .count) (a .k) (a .mode) (a .opening) (a .kind) (a .bound) = r .reopen .ensures .0 ∙ rw (b, n, o) in
+    let left : r .reopen .last .0 ≡ reopenLeft (a .buffer .now) (a .used) (a .count) (a .k) (a .mode) (a .opening) (a .kind) (a .bound) = r .reopen .ensures .1 ∙ rw (b, n, o) in
+    let t = reopen-passed (a .buffer .now) (a .used) (a .count) (a .k) (a .mode) (a .opening) (a .kind) (a .bound) (a .state .now) _ (judged k) _ said (r .before .before .before .enum-told .given .1) in
+    (c .before .before .put-opened .ensures .0 ∙ t .0, (c .before .before .put-opened .ensures .1 ∙ t .1, left ∙ t .2))
+
+pub modelardb-macaque-v-reopen-spec : {M : Type 1} → statement M
+modelardb-macaque-v-reopen-spec =
+    tie.close
+    (tie.spec
+    bound-of-requires
+    count-in-requires
+    judge-reopen-requires
+    enum-known-r
+    number-of-requires
+    enum-told
+    opening-of-requires
+    reopen-requires
+    put-opened-requires
+    returns
+    same-length
+    same-length-2
+    returns-2)

@@ -1,0 +1,252 @@
+//! MacaqueV: a stream of values, each coded by how it differs from the last one that was kept. The
+//! writer works in a buffer that it is lent; [`grid`] and [`sum`] read a stream's bytes.
+
+mod read;
+
+use crate::ffi::{self, STATE_WORDS, Words};
+use crate::{ErrorBound, Refusal};
+
+pub use read::{grid, grid_bits, sum, sum_bits};
+
+/// How a stream opens.
+#[derive(Clone, Copy, Debug, PartialEq)]
+pub enum Opening {
+    /// Its first value is stored in full.
+    First,
+    /// It goes on from a value that is kept elsewhere.
+    On(f32),
+}
+
+impl Opening {
+    /// On the value of these bits, a NaN's payload included.
+    ///
+    /// ```
+    /// use modelardb_rattle::Opening;
+    /// assert_eq!(Opening::on_bits(0x3F80_0000), Opening::On(1.0));
+    /// ```
+    pub fn on_bits(bits: u32) -> Self {
+        Opening::On(f32::from_bits(bits))
+    }
+
+    /// The case as a number, and the value's bits.
+    fn words(self) -> Words {
+        match self {
+            Opening::First => (0, 0),
+            Opening::On(value) => (1, value.to_bits()),
+        }
+    }
+}
+
+/// The writer of a stream: what it knows of the values behind it. Their bytes stand in the buffer
+/// that each call is lent, the same one or a copy.
+///
+/// Two of the paper's marked cases, and an upload that is cut at a value and goes on as if it had
+/// never stopped:
+///
+/// ```
+/// use modelardb_rattle::{ErrorBound, MacaqueV, Opening, Refusal};
+///
+/// let mut buffer = [0; 64];
+/// let mut writer = MacaqueV::new(ErrorBound::Lossless, Opening::First)?;
+/// writer.compress_values(&[1.0, 1.0, 2.0], &mut buffer)?;
+/// let case_a = [0x3F, 0x80, 0x00, 0x00, 0xB0, 0x91, 0xFE];
+/// assert_eq!(buffer[..writer.bytes_used()], case_a);
+///
+/// writer.compress_values(&[1.0], &mut buffer)?;
+/// let case_b = [0x3F, 0x80, 0x00, 0x00, 0xB0, 0x91, 0xFE, 0xFF];
+/// assert_eq!(buffer[..writer.bytes_used()], case_b);
+/// assert_eq!((writer.length(), writer.place()), (4, 64));
+/// # Ok::<(), Refusal>(())
+/// ```
+///
+/// ```
+/// use modelardb_rattle::{ErrorBound, MacaqueV, Opening, Refusal};
+///
+/// let readings = [20.5, 20.6, 20.4, 21.0, 23.5, 23.5, 19.0];
+/// let bound = ErrorBound::Absolute(0.2);
+/// let mut in_one_run = [0; 64];
+/// let mut writer = MacaqueV::new(bound, Opening::First)?;
+/// writer.compress_values(&readings, &mut in_one_run)?;
+///
+/// // The link broke after five readings, of which three are known to have arrived.
+/// let mut resumed = [0; 64];
+/// let mut broken = MacaqueV::new(bound, Opening::First)?;
+/// broken.compress_values(&readings[..5], &mut resumed)?;
+/// let used = broken.bytes_used();
+/// let mut on = MacaqueV::reopen(&mut resumed, used, 5, 3, Opening::First, bound)?;
+/// on.compress_values(&readings[3..], &mut resumed)?;
+///
+/// assert_eq!(on, writer);
+/// let used = writer.bytes_used();
+/// assert_eq!(resumed[..used], in_one_run[..used]);
+/// # Ok::<(), Refusal>(())
+/// ```
+#[derive(Clone, Copy, Debug, PartialEq, Eq)]
+pub struct MacaqueV {
+    /// The state as it crosses the C face: see [`STATE_WORDS`].
+    row: [u64; STATE_WORDS],
+}
+
+impl MacaqueV {
+    /// The most values of a stream.
+    pub const MOST_VALUES: usize = 65_536;
+
+    /// The most residuals of a segment.
+    pub const MOST_RESIDUALS: usize = 255;
+
+    /// The leading zero bits of the window before any is set.
+    pub const OPENING_LEADING: u32 = 255;
+
+    /// The trailing zero bits of the window before any is set.
+    pub const OPENING_TRAILING: u32 = 0;
+
+    /// The writer before any value. Refused where the bound is not allowed.
+    ///
+    /// ```
+    /// use modelardb_rattle::{ErrorBound, MacaqueV, Opening, Refusal};
+    ///
+    /// let refused = MacaqueV::new(ErrorBound::Relative(0.0), Opening::First);
+    /// assert_eq!(refused, Err(Refusal::BoundNotAllowed));
+    /// ```
+    pub fn new(error_bound: ErrorBound, opening: Opening) -> Result<Self, Refusal> {
+        let mut row = [0; STATE_WORDS];
+        let number = ffi::macaque_v_new(error_bound.words(), opening.words(), &mut row);
+        Refusal::judge(number).map(|()| Self { row })
+    }
+
+    /// The writer behind the first `k` of the `count` values in the buffer's first `used` bytes. The
+    /// whole stream is checked first; then the bits behind those values are zeroed in the byte that
+    /// they end in. A refusal leaves the buffer as it was.
+    pub fn reopen(
+        buffer: &mut [u8],
+        used: usize,
+        count: usize,
+        k: usize,
+        opening: Opening,
+        error_bound: ErrorBound,
+    ) -> Result<Self, Refusal> {
+        let (opening, bound) = (opening.words(), error_bound.words());
+        let mut row = [0; STATE_WORDS];
+        let number = ffi::macaque_v_reopen(buffer, used, (count, k), opening, bound, &mut row);
+        Refusal::judge(number).map(|()| Self { row })
+    }
+
+    /// Writes the values behind those that stand in the buffer. A refusal leaves the writer and the
+    /// buffer as they were.
+    ///
+    /// ```
+    /// use modelardb_rattle::{ErrorBound, MacaqueV, Opening, Refusal};
+    ///
+    /// let mut writer = MacaqueV::new(ErrorBound::Lossless, Opening::First)?;
+    /// let (before, mut buffer) = (writer, [7; 4]);
+    /// let refused = writer.compress_values(&[1.0, 2.0], &mut buffer);
+    /// assert_eq!(refused, Err(Refusal::OutputTooShort));
+    /// assert_eq!((writer, buffer), (before, [7; 4]));
+    /// # Ok::<(), Refusal>(())
+    /// ```
+    pub fn compress_values(&mut self, values: &[f32], buffer: &mut [u8]) -> Result<(), Refusal> {
+        self.compress_values_bits(ffi::as_bits(values), buffer)
+    }
+
+    /// [`MacaqueV::compress_values`] on the values' bits.
+    ///
+    /// ```
+    /// use modelardb_rattle::{ErrorBound, MacaqueV, Opening, Refusal, macaque_v};
+    ///
+    /// // Lossless, a NaN's payload comes back too.
+    /// let odd = [0x7FC1_2345, 0xFFFF_FFFF, 0x7F80_0001];
+    /// let (mut buffer, mut out) = ([0; 32], [0; 3]);
+    /// let mut writer = MacaqueV::new(ErrorBound::Lossless, Opening::on_bits(0x7FC0_0000))?;
+    /// writer.compress_values_bits(&odd, &mut buffer)?;
+    /// let bytes = &buffer[..writer.bytes_used()];
+    /// macaque_v::grid_bits(bytes, 3, Opening::on_bits(0x7FC0_0000), &mut out)?;
+    /// assert_eq!(out, odd);
+    /// # Ok::<(), Refusal>(())
+    /// ```
+    pub fn compress_values_bits(
+        &mut self,
+        values: &[u32],
+        buffer: &mut [u8],
+    ) -> Result<(), Refusal> {
+        Refusal::judge(ffi::macaque_v_compress_values(
+            &mut self.row,
+            values,
+            buffer,
+        ))
+    }
+
+    /// How far a kept value may be from its input.
+    pub fn error_bound(&self) -> ErrorBound {
+        let bound = f32::from_bits(self.bits(1));
+        match self.row[0] {
+            0 => ErrorBound::Lossless,
+            1 => ErrorBound::Absolute(bound),
+            _ => ErrorBound::Relative(bound),
+        }
+    }
+
+    /// The least value kept, NaN before any.
+    pub fn min_value(&self) -> f32 {
+        f32::from_bits(self.min_value_bits())
+    }
+
+    /// The bits of [`MacaqueV::min_value`].
+    pub fn min_value_bits(&self) -> u32 {
+        self.bits(2)
+    }
+
+    /// The greatest value kept, NaN before any.
+    pub fn max_value(&self) -> f32 {
+        f32::from_bits(self.max_value_bits())
+    }
+
+    /// The bits of [`MacaqueV::max_value`].
+    pub fn max_value_bits(&self) -> u32 {
+        self.bits(3)
+    }
+
+    /// The last value kept; before any, the one that the stream opens on, or +0.
+    pub fn last_value(&self) -> f32 {
+        f32::from_bits(self.last_value_bits())
+    }
+
+    /// The bits of [`MacaqueV::last_value`].
+    pub fn last_value_bits(&self) -> u32 {
+        self.bits(4)
+    }
+
+    /// The leading zero bits of the window that was set last.
+    pub fn last_leading_zero_bits(&self) -> u32 {
+        self.bits(5)
+    }
+
+    /// The trailing zero bits of the window that was set last.
+    pub fn last_trailing_zero_bits(&self) -> u32 {
+        self.bits(6)
+    }
+
+    /// Whether the first value is stored in full.
+    pub fn with_first(&self) -> bool {
+        self.row[7] == 1
+    }
+
+    /// How many bits are written.
+    pub fn place(&self) -> usize {
+        self.row[8] as usize
+    }
+
+    /// How many bytes of the buffer the stream takes.
+    pub fn bytes_used(&self) -> usize {
+        self.place().div_ceil(8)
+    }
+
+    /// How many values are written.
+    pub fn length(&self) -> usize {
+        self.row[9] as usize
+    }
+
+    /// A word that holds 32 bits.
+    fn bits(&self, word: usize) -> u32 {
+        self.row[word] as u32
+    }
+}

@@ -1,0 +1,141 @@
+//! The C face of MacaqueV by document 01: the paper's program behind rows of words. Each function is
+//! called as its namesake of the compiled library is, and answers 0 or the number of a refusal.
+
+use modelardb_rattle::ffi::{STATE_WORDS, Words};
+use oracle::paper::macaque_v::{self, MacaqueV, Opening, Window};
+use oracle::paper::models::ErrorBound::{self, Absolute, Lossless, Relative};
+use oracle::paper::refusal::{BOUND, COUNTS, LIMIT, OUTPUT, STATE};
+use oracle::paper::{Answer, judge_count, refuse_if};
+
+pub fn new(bound: Words, opening: Words, row: &mut [u64]) -> u32 {
+    number(|| {
+        let bound = allowed_bound(bound)?;
+        let opening = opening_in(opening)?;
+        refuse_if(row.len() < STATE_WORDS, OUTPUT)?;
+        put(row, MacaqueV::new(bound, opening)?);
+        Ok(())
+    })
+}
+
+/// The row is read before anything is judged: 4 for a short one comes first.
+pub fn compress_values(row: &mut [u64], values: &[u32], buffer: &mut [u8]) -> u32 {
+    number(|| {
+        refuse_if(row.len() < STATE_WORDS, OUTPUT)?;
+        let after = state_in(row)?.compress_values(values, buffer)?;
+        put(row, after);
+        Ok(())
+    })
+}
+
+pub fn reopen(
+    buffer: &mut [u8],
+    used: usize,
+    (count, k): (usize, usize),
+    opening: Words,
+    bound: Words,
+    row: &mut [u64],
+) -> u32 {
+    number(|| {
+        let bound = allowed_bound(bound)?;
+        let opening = opening_in(opening)?;
+        judge_count(count)?;
+        refuse_if(k > count || used > buffer.len(), COUNTS)?;
+        refuse_if(row.len() < STATE_WORDS, OUTPUT)?;
+        let state = MacaqueV::reopen(buffer, used, count, k, opening, bound)?;
+        put(row, state);
+        Ok(())
+    })
+}
+
+pub fn grid(bytes: &[u8], count: usize, opening: Words, out: &mut [u32]) -> u32 {
+    number(|| macaque_v::grid(bytes, count, opening_in(opening)?, out))
+}
+
+pub fn sum(bytes: &[u8], count: usize, opening: Words, out: &mut [u32]) -> u32 {
+    number(|| {
+        let opening = opening_in(opening)?;
+        judge_count(count)?;
+        refuse_if(out.is_empty(), OUTPUT)?;
+        out[0] = macaque_v::sum(bytes, count, opening)?;
+        Ok(())
+    })
+}
+
+fn number(call: impl FnOnce() -> Answer<()>) -> u32 {
+    call().err().unwrap_or(0)
+}
+
+/// A bound's two words.
+pub fn bound_words(bound: ErrorBound) -> Words {
+    let [kind, bits] = bound.row();
+    (kind as u32, bits as u32)
+}
+
+/// An opening's two words.
+pub fn opening_words(opening: Opening) -> Words {
+    match opening {
+        Opening::WithFirst => (0, 0),
+        Opening::On(value) => (1, value),
+    }
+}
+
+/// "A bound's kind above 2 [is refused] with 1".
+fn allowed_bound((kind, bits): Words) -> Answer<ErrorBound> {
+    let value = f32::from_bits(bits);
+    let bound = match kind {
+        0 => Lossless,
+        1 => Absolute(value),
+        2 => Relative(value),
+        _ => return Err(BOUND),
+    };
+    bound.judge().map(|()| bound)
+}
+
+/// "A mode above 1 with 3".
+fn opening_in((mode, value): Words) -> Answer<Opening> {
+    match mode {
+        0 => Ok(Opening::WithFirst),
+        1 => Ok(Opening::On(value)),
+        _ => Err(LIMIT),
+    }
+}
+
+/// The state that a row stands for: 1 where its bound does not, 2 where another word is too large.
+fn state_in(row: &[u64]) -> Answer<MacaqueV> {
+    let bits = |word: usize| u32::try_from(row[word]).map_err(|_| STATE);
+    let zeros = |word: usize| u8::try_from(row[word]).map_err(|_| STATE);
+    let half = |word: usize| u32::try_from(row[word]).map_err(|_| BOUND);
+    let error_bound = allowed_bound((half(0)?, half(1)?))?;
+    refuse_if(row[7] > 1, STATE)?;
+    Ok(MacaqueV {
+        error_bound,
+        with_first: row[7] == 1,
+        min_value: bits(2)?,
+        max_value: bits(3)?,
+        last_value: bits(4)?,
+        window: Window {
+            leading: zeros(5)?,
+            trailing: zeros(6)?,
+        },
+        place: row[8] as usize,
+        length: row[9] as usize,
+    })
+}
+
+/// The state's words to the front of the row.
+fn put(row: &mut [u64], state: MacaqueV) {
+    let [kind, bits] = state.error_bound.row();
+    let words = [
+        kind,
+        bits,
+        state.min_value.into(),
+        state.max_value.into(),
+        state.last_value.into(),
+        state.window.leading.into(),
+        state.window.trailing.into(),
+        state.with_first.into(),
+        state.place as u64,
+        state.length as u64,
+    ];
+    row[..STATE_WORDS].copy_from_slice(&words);
+}

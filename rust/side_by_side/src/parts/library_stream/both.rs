@@ -1,0 +1,126 @@
+//! Each call of the compiled face and the paper's on the same lent memory: the number and all that is
+//! lent afterwards are compared, and the library's memory stands between guards.
+
+use crate::context::Context;
+use crate::face;
+use crate::lent::Lent;
+use modelardb_rattle::ffi::{self, Words};
+
+const BYTE_GUARD: u8 = 0xA5;
+const VALUE_GUARD: u32 = 0xA5A5_5A5A;
+const WORD_GUARD: u64 = 0xA5A5_5A5A_A5A5_5A5A;
+
+/// What a call on a writer's row leaves: its number, the row and the buffer.
+pub type Left = (u32, Vec<u64>, Vec<u8>);
+
+/// What is handed to a reopening besides its buffer.
+#[derive(Clone, Copy, Debug)]
+pub struct At {
+    pub used: usize,
+    pub count: usize,
+    pub k: usize,
+    pub opening: Words,
+    pub bound: Words,
+}
+
+pub fn opened(context: &mut Context, bound: Words, opening: Words, row: &[u64]) -> (u32, Vec<u64>) {
+    let mut paper = row.to_vec();
+    let number = face::new(bound, opening, &mut paper);
+    let mut lent = Lent::new(row, WORD_GUARD);
+    let ours = ffi::macaque_v_new(bound, opening, lent.lend());
+    let (expected, left) = ((number, Some(paper.clone())), (ours, lent.content()));
+    let input = || format!("new {bound:X?} {opening:X?} into {row:X?}");
+    context.same("library", expected, left, input);
+    (number, paper)
+}
+
+pub fn written(context: &mut Context, row: &[u64], values: &[u32], buffer: &[u8]) -> Left {
+    let (mut after, mut bytes) = (row.to_vec(), buffer.to_vec());
+    let number = face::compress_values(&mut after, values, &mut bytes);
+    let paper = (number, after, bytes);
+    written_as(context, &paper, row, values, buffer);
+    paper
+}
+
+/// The library alone: it must leave what is given.
+pub fn written_as(
+    context: &mut Context,
+    (number, after, bytes): &Left,
+    row: &[u64],
+    values: &[u32],
+    buffer: &[u8],
+) {
+    let mut lent_row = Lent::new(row, WORD_GUARD);
+    let mut lent_values = Lent::new(values, VALUE_GUARD);
+    let mut lent_buffer = Lent::new(buffer, BYTE_GUARD);
+    let ours =
+        ffi::macaque_v_compress_values(lent_row.lend(), lent_values.lend(), lent_buffer.lend());
+    let (row_left, values_left) = (lent_row.content(), lent_values.content());
+    let left = (ours, row_left, lent_buffer.content());
+    let expected = (*number, Some(after.clone()), Some(bytes.clone()));
+    let input = || format!("written {row:X?} {values:08X?} into {buffer:02X?}");
+    context.same("library", expected, left, input);
+    let is_kept = values_left.as_deref() == Some(values);
+    context.same("values lent", true, is_kept, input);
+}
+
+pub fn reopened(context: &mut Context, buffer: &[u8], at: At, row: &[u64]) -> Left {
+    let At {
+        used,
+        count,
+        k,
+        opening,
+        bound,
+    } = at;
+    let (mut after, mut bytes) = (row.to_vec(), buffer.to_vec());
+    let number = face::reopen(&mut bytes, used, (count, k), opening, bound, &mut after);
+    let mut lent_row = Lent::new(row, WORD_GUARD);
+    let mut lent_buffer = Lent::new(buffer, BYTE_GUARD);
+    let (to, state) = (lent_buffer.lend(), lent_row.lend());
+    let ours = ffi::macaque_v_reopen(to, used, (count, k), opening, bound, state);
+    let left = (ours, lent_row.content(), lent_buffer.content());
+    let expected = (number, Some(after.clone()), Some(bytes.clone()));
+    let input = || format!("reopened {at:X?} of {buffer:02X?} into {row:X?}");
+    context.same("library", expected, left, input);
+    (number, after, bytes)
+}
+
+/// Reads into `out`; the number and what is there afterwards.
+pub fn drawn(
+    context: &mut Context,
+    bytes: &[u8],
+    count: usize,
+    opening: Words,
+    out: &[u32],
+) -> (u32, Vec<u32>) {
+    let mut paper = out.to_vec();
+    let number = face::grid(bytes, count, opening, &mut paper);
+    let mut lent = Lent::new(out, VALUE_GUARD);
+    let mut stream = Lent::new(bytes, BYTE_GUARD);
+    let ours = ffi::macaque_v_grid(stream.lend(), count, opening, lent.lend());
+    let left = (ours, lent.content(), stream.content());
+    let expected = (number, Some(paper.clone()), Some(bytes.to_vec()));
+    let input = || format!("drawn {count} of {bytes:02X?} {opening:X?} into {out:X?}");
+    context.same("library", expected, left, input);
+    (number, paper)
+}
+
+/// Sums into `out`; the number and what is there afterwards.
+pub fn summed(
+    context: &mut Context,
+    bytes: &[u8],
+    count: usize,
+    opening: Words,
+    out: &[u32],
+) -> (u32, Vec<u32>) {
+    let mut paper = out.to_vec();
+    let number = face::sum(bytes, count, opening, &mut paper);
+    let mut lent = Lent::new(out, VALUE_GUARD);
+    let mut stream = Lent::new(bytes, BYTE_GUARD);
+    let ours = ffi::macaque_v_sum(stream.lend(), count, opening, lent.lend());
+    let left = (ours, lent.content(), stream.content());
+    let expected = (number, Some(paper.clone()), Some(bytes.to_vec()));
+    let input = || format!("summed {count} of {bytes:02X?} {opening:X?} into {out:X?}");
+    context.same("library", expected, left, input);
+    (number, paper)
+}

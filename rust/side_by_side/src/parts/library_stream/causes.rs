@@ -1,0 +1,125 @@
+//! Every cause of refusal with every other, for the order in which they are judged, and rows and
+//! outputs too short, just long enough and longer.
+
+use super::both::{self, At};
+use super::{STALE, STALE_VALUE, STALE_WORD, Stream};
+use crate::context::Context;
+use crate::face;
+use modelardb_rattle::ffi::{STATE_WORDS, Words};
+use oracle::paper::macaque_v::Opening;
+use oracle::paper::models::ErrorBound;
+
+const BOUNDS: [Words; 10] = [
+    (0, 0),
+    (0, 0x7FC0_0000),
+    (1, 0x3F80_0000), // 1
+    (1, 0),
+    (1, 0x7F80_0000), // infinity
+    (2, 0x42C8_0000), // 100
+    (2, 0x42C8_0001), // just over 100
+    (2, 0x7FC0_0000),
+    (3, 0x3F80_0000),
+    (u32::MAX, 0),
+];
+
+const MODES: [u32; 4] = [0, 1, 2, u32::MAX];
+
+/// A row's lengths: none, one word less, just enough, and more.
+const ROWS: [usize; 4] = [0, STATE_WORDS - 1, STATE_WORDS, STATE_WORDS + 2];
+
+const ONE: u32 = 0x3F80_0000;
+
+pub fn causes(context: &mut Context) {
+    of_new(context);
+    for values in [&[][..], &[ONE], &[ONE, ONE, 0x4000_0000, ONE]] {
+        for opening in [Opening::WithFirst, Opening::On(ONE)] {
+            let stream = Stream::new(context, ErrorBound::Lossless, opening, values);
+            for damage in [0x00, 0x01, 0xFF] {
+                let mut bytes = stream.bytes.clone();
+                if let Some(last) = bytes.last_mut() {
+                    *last ^= damage;
+                }
+                of_reading(context, &stream, &bytes);
+                of_reopen(context, &stream, &bytes);
+            }
+        }
+    }
+    of_write(context);
+}
+
+fn of_new(context: &mut Context) {
+    for bound in BOUNDS {
+        for mode in MODES {
+            for length in ROWS {
+                let row = vec![STALE_WORD; length];
+                both::opened(context, bound, (mode, 0xFFC1_2345), &row);
+            }
+        }
+    }
+}
+
+/// Counts around the right one and around the limit.
+fn counts(count: usize) -> [usize; 7] {
+    let less = count.saturating_sub(1);
+    [count, less, count + 1, 65_536, 65_537, 1 << 32, usize::MAX]
+}
+
+fn of_reading(context: &mut Context, stream: &Stream, bytes: &[u8]) {
+    for mode in MODES {
+        let opening = (mode, stream.opening.1);
+        for count in counts(stream.count()) {
+            for room in [0, stream.count(), stream.count() + 2, 65_536] {
+                let out = vec![STALE_VALUE; room];
+                both::drawn(context, bytes, count, opening, &out);
+                both::summed(context, bytes, count, opening, &out[..room.min(2)]);
+            }
+        }
+    }
+}
+
+fn of_reopen(context: &mut Context, stream: &Stream, bytes: &[u8]) {
+    let buffer = [bytes, &[STALE; 2]].concat();
+    let used = bytes.len();
+    for bound in [BOUNDS[0], BOUNDS[2], BOUNDS[3], BOUNDS[8]] {
+        for mode in MODES {
+            for count in counts(stream.count()) {
+                for k in [0, stream.count(), stream.count() + 1, usize::MAX] {
+                    for used in [used, used + 1, used + 2, used + 3, usize::MAX] {
+                        let opening = (mode, stream.opening.1);
+                        let at = At {
+                            used,
+                            count,
+                            k,
+                            opening,
+                            bound,
+                        };
+                        for length in ROWS {
+                            both::reopened(context, &buffer, at, &vec![STALE_WORD; length]);
+                        }
+                    }
+                }
+            }
+        }
+    }
+}
+
+/// A bound, a state, a length and a room that are allowed or not, in every mixture.
+fn of_write(context: &mut Context) {
+    let fresh = face::opening_words(Opening::WithFirst);
+    for (kind, bits) in BOUNDS {
+        for length in ROWS {
+            for (place, written) in [(0, 0), (0, 1), (40, 3), (41, 65_536), (48, 65_537)] {
+                let mut row = vec![STALE_WORD; STATE_WORDS + 2];
+                both::opened(context, (0, 0), fresh, &row);
+                let words = [kind.into(), bits.into(), 0, 0, 0, 255, 0, 1, place, written];
+                row[..STATE_WORDS].copy_from_slice(&words);
+                row.truncate(length);
+                for values in [&[][..], &[ONE], &[ONE; 9]] {
+                    for size in [0, 4, 5, 6, 64] {
+                        both::written(context, &row, values, &vec![STALE; size]);
+                    }
+                }
+            }
+        }
+    }
+}

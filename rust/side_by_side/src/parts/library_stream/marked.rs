@@ -1,0 +1,82 @@
+//! Document 01's marked cases a to l through the compiled calls, held against the paper's own words.
+
+use super::{STALE, STALE_VALUE, both};
+use crate::context::Context;
+use modelardb_rattle::ffi::{STATE_WORDS, Words};
+
+const ONE: u32 = 0x3F80_0000;
+const TWO: u32 = 0x4000_0000;
+
+const FIRST: Words = (0, 0);
+const ON_ONE: Words = (1, ONE);
+
+const CASE_A: &[u8] = &[0x3F, 0x80, 0x00, 0x00, 0xB0, 0x91, 0xFE];
+const CASE_B: &[u8] = &[0x3F, 0x80, 0x00, 0x00, 0xB0, 0x91, 0xFE, 0xFF];
+
+/// A case that is read: its letter, bytes and count, and the values or the refusal's number.
+type Case = (char, &'static [u8], usize, Result<&'static [u32], u32>);
+
+const CASES: [Case; 10] = [
+    ('c', &[0x80], 1, Ok(&[ONE])),
+    ('d', &[0xA0], 2, Ok(&[ONE, ONE])),
+    ('e', &[0xFE, 0x0C], 1, Ok(&[0x3F80_0001])),
+    ('f', &[0x00], 1, Err(6)),
+    ('g', &[0x80], 2, Err(6)),
+    ('h', &[0xFE, 0x10], 1, Err(7)),
+    ('i', &[0xC0, 0x00], 1, Err(7)),
+    ('j', &[0xC0], 1, Err(5)),
+    ('k', &[0xA0], 1, Err(8)),
+    ('l', &[0x80, 0x00], 1, Err(8)),
+];
+
+pub fn marked(context: &mut Context) {
+    let values = [ONE, ONE, TWO, ONE];
+    for (letter, bytes, count) in [('a', CASE_A, 3), ('b', CASE_B, 4)] {
+        written(context, letter, &values[..count], bytes);
+        read(
+            context,
+            (letter, bytes, count, Ok(&[ONE, ONE, TWO, ONE][..count])),
+            FIRST,
+        );
+    }
+    // b: "then 1.0", behind case a.
+    let (_, row) = both::opened(context, (0, 0), FIRST, &[0; STATE_WORDS]);
+    let (_, row, buffer) = both::written(context, &row, &values[..3], &[STALE; 8]);
+    let (number, _, buffer) = both::written(context, &row, &values[3..], &buffer);
+    let input = || "marked case b behind a".to_string();
+    context.same("library", (0, CASE_B), (number, &buffer[..]), input);
+    for case in CASES {
+        read(context, case, ON_ONE);
+    }
+}
+
+fn written(context: &mut Context, letter: char, values: &[u32], bytes: &[u8]) {
+    let (_, row) = both::opened(context, (0, 0), FIRST, &[0; STATE_WORDS]);
+    let (number, row, buffer) = both::written(context, &row, values, &[STALE; 16]);
+    let used = row[8].div_ceil(8) as usize;
+    let input = || format!("marked case {letter} written");
+    context.same("library", (0, bytes), (number, &buffer[..used]), input);
+}
+
+/// The case is drawn, summed and reopened at its end as the paper says.
+fn read(context: &mut Context, (letter, bytes, count, answer): Case, opening: Words) {
+    let (number, values) = both::drawn(context, bytes, count, opening, &vec![STALE_VALUE; count]);
+    let drawn = if number == 0 {
+        Ok(&values[..])
+    } else {
+        Err(number)
+    };
+    let input = || format!("marked case {letter}");
+    context.same("library", answer, drawn, input);
+    let (sum, _) = both::summed(context, bytes, count, opening, &[STALE_VALUE]);
+    let at = both::At {
+        used: bytes.len(),
+        count,
+        k: count,
+        opening,
+        bound: (0, 0),
+    };
+    let (reopened, ..) = both::reopened(context, bytes, at, &[0; STATE_WORDS]);
+    let refusal = answer.err().unwrap_or(0);
+    context.same("library", (refusal, refusal), (sum, reopened), input);
+}

@@ -1,0 +1,88 @@
+//! MacaqueV as compiled from the proved crates, called through its C face, beside the paper's program
+//! and, where it is at hand, the Rust's text.
+
+mod both;
+mod causes;
+mod damaged;
+mod lists;
+mod marked;
+mod resumed;
+mod states;
+
+pub use causes::causes;
+pub use damaged::damaged;
+pub use lists::{lists, short_lists};
+pub use marked::marked;
+pub use resumed::resumed;
+pub use states::states;
+
+use crate::context::Context;
+use crate::face;
+use both::At;
+use modelardb_rattle::ffi::{STATE_WORDS, Words};
+use oracle::paper::macaque_v::Opening;
+use oracle::paper::models::ErrorBound;
+
+/// What a buffer holds before a call.
+const STALE: u8 = 0x5A;
+
+/// What a row or an output holds before a call.
+const STALE_WORD: u64 = 0x5A5A;
+const STALE_VALUE: u32 = 0x5A5A;
+
+/// How many bytes any such values fit in: none takes more than 45 bits.
+fn room_for(count: usize) -> usize {
+    (45 * count).div_ceil(8)
+}
+
+/// A stream as the library and the paper both wrote it in one go.
+struct Stream {
+    bound: Words,
+    opening: Words,
+    values: Vec<u32>,
+    /// The writer's row before any value, and after them all.
+    fresh: Vec<u64>,
+    row: Vec<u64>,
+    bytes: Vec<u8>,
+}
+
+impl Stream {
+    fn new(context: &mut Context, bound: ErrorBound, opening: Opening, values: &[u32]) -> Self {
+        let bound = face::bound_words(bound);
+        let opening = face::opening_words(opening);
+        let (_, fresh) = both::opened(context, bound, opening, &[STALE_WORD; STATE_WORDS]);
+        let buffer = vec![STALE; room_for(values.len()) + 3];
+        let (_, row, mut bytes) = both::written(context, &fresh, values, &buffer);
+        bytes.truncate(row[8].div_ceil(8) as usize);
+        Self {
+            bound,
+            opening,
+            values: values.to_vec(),
+            fresh,
+            row,
+            bytes,
+        }
+    }
+
+    /// A stream of so many values, of any bound and opening.
+    fn any(context: &mut Context, count: usize) -> Self {
+        let values = context.inputs.values(count);
+        let (bound, opening) = (context.inputs.bound(), context.inputs.opening());
+        Self::new(context, bound, opening, &values)
+    }
+
+    fn count(&self) -> usize {
+        self.values.len()
+    }
+
+    /// Reopened behind the first k values.
+    fn at(&self, k: usize) -> At {
+        At {
+            used: self.bytes.len(),
+            count: self.count(),
+            k,
+            opening: self.opening,
+            bound: self.bound,
+        }
+    }
+}
