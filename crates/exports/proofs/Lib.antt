@@ -2,3 +2,4 @@
 pub mod Rows
 pub mod Small
 pub mod Signed
+pub mod Back

@@ -12,10 +12,7 @@ use Rattle.swing.specs.declared.Swing.{Swing}
 use Rattle.exports.specs.Face.{wordOf}
 use Rattle.exports.specs.Words.{kindOf, bitsOf, small, boundIn, timeIn, wordOfTime}
 
--- ---- PMC-Mean: the bound's kind and bits; the least and the greatest value; the sum; the length; the last word
-abbrev pub pmcLength : ℕ
-pmcLength = 7
-
+-- ---- PMC-Mean, seven words: the bound's kind and bits; the least and the greatest value; the sum; the length; the last word
 unfoldable pub pmcRow : PMCMean → Bool → List ℕ
 pmcRow s fits =
     kindOf (s .«error_bound»)
@@ -38,11 +35,8 @@ pmcIn row =
       length = cond (small (getD row 2 0) && small (getD row 3 0)) (getD row 5 0) 65537;
     }
 
--- ---- Swing: the bound's kind and bits; the first and the last time; the first value; slope and intercept of the upper and of the lower line; the
--- fraction of the slope with the least error; the length; the last word
-abbrev pub swingLength : ℕ
-swingLength = 13
-
+-- ---- Swing, thirteen words: the bound's kind and bits; the first and the last time; the first value; slope and intercept of the upper and of the lower
+-- line; the fraction of the slope with the least error; the length; the last word
 unfoldable pub swingRow : Swing → Bool → List ℕ
 swingRow s fits =
     kindOf (s .«error_bound»)
