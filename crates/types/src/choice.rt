@@ -13,7 +13,7 @@ use pmc_mean::PMCMean;
 use swing::Swing;
 ghost use mathlib.Core.Path.{_≡_};
 ghost use lib.ListN.{length};
-ghost use Rattle.models.specs.Answers.{answered, verdict, stateless};
+ghost use Rattle.models.specs.Answers.{answered, verdict};
 ghost use Rattle.models.specs.Calls.{saysVerdict};
 ghost use Rattle.pmc_mean.specs.Calls.{costCauses};
 ghost use Rattle.swing.specs.Calls as OfSwing;
@@ -156,7 +156,9 @@ pub fn choose_model(
         Verdict::Refused(r) => ChoiceAnswer::Refused(r),
         Verdict::Passed => match ModelBuilder::new(error_bound) {
             NewAnswer::Refused(r) => ChoiceAnswer::Refused(r),
-            NewAnswer::Answered(b) => finished(b.stepped(timestamps, values), m),
+            NewAnswer::Answered(b) => {
+                ChoiceAnswer::Answered(b.stepped(timestamps, values).selected(m))
+            }
         },
     }
 }
@@ -176,13 +178,4 @@ fn judge_choice(timestamps: &[i64], values: &[u32], error_bound: ErrorBound, m: 
         !models::bound_allowed(error_bound),
         limit,
     )
-}
-
-fn finished(b: ModelBuilder, m: usize) -> ChoiceAnswer
-    ensures { λ r. ⌜ saysChoice r ≡ stateless (finishAnswer b m) ⌝ }
-{
-    match b.finish(m) {
-        FinishAnswer::Answered(model) => ChoiceAnswer::Answered(model),
-        FinishAnswer::Refused(r, _) => ChoiceAnswer::Refused(r),
-    }
 }
