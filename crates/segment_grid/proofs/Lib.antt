@@ -1,0 +1,5 @@
+-- The theorems about the calls, and the laws that the proofs of `segment_grid` share.
+pub mod Promises
+pub mod Owned
+pub mod Counted
+pub mod Placed
