@@ -1,6 +1,6 @@
 -- `listing::find` meets its contract: the bits ahead hold the value. Assumes nothing.
 use borrow.Author.Needs.{needs}
-use mathlib.Core.Path.{_≡_, sym, ap, ap₂, _∙_}
+use mathlib.Core.Path.{_≡_, sym, ap, _∙_}
 use mathlib.Core.Bool.{Bool, true}
 use mathlib.Core.List.{[], _∷_}
 use native.Mathlib.Omega.{arith}
@@ -8,7 +8,7 @@ use lib.Dec.{eqb}
 use lib.ListN.{take}
 use Rattle.models.specs.Answers.{answered}
 use Rattle.stream.specs.Format.{macaque}
-use Rattle.stream.specs.Read.{Step, readOne}
+use Rattle.stream.specs.Read.{readOne}
 use Rattle.coding.specs.Code.{windowIn}
 use Rattle.coding.specs.Ahead.{saysStep}
 use Rattle.macaque_v.specs.ReadRun.{Reads}
