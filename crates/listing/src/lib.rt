@@ -200,21 +200,26 @@ fn find(stream: &[u8], at: Cursor) -> Found
             lead,
             trail,
             used,
-        } => Found::At(
-            Fields {
-                kind: kind_of(raw, ahead.word, ahead.left),
-                lead,
-                bits: used,
-                value,
-            },
-            Cursor {
-                last: value,
-                lead,
-                trail,
-                place: at.place + used,
-                count: at.count + 1,
-            },
-        ),
+        } => {
+            let kind = kind_of(raw, ahead.word, ahead.left);
+            let place = at.place + used;
+            let count = at.count + 1;
+            Found::At(
+                Fields {
+                    kind,
+                    lead,
+                    bits: used,
+                    value,
+                },
+                Cursor {
+                    last: value,
+                    lead,
+                    trail,
+                    place,
+                    count,
+                },
+            )
+        }
     }
 }
 

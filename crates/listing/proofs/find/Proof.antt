@@ -55,11 +55,11 @@ enum-known-value c = search needs
 kind-of-requires : tie.Need-kind-of-requires
 kind-of-requires c κs = search needs
 
-add-t14 : tie.Need-add-t14
-add-t14 c = omega (arith, (read-one (c .before .before .before)) .stands .near)
+add-place : tie.Need-add-place
+add-place c = omega (arith, (read-one (c .before .before .before)) .stands .near)
 
-add-t15 : tie.Need-add-t15
-add-t15 c = search needs
+add-count : tie.Need-add-count
+add-count c = search needs
 
 returns : tie.Need-returns
 unfolding nextRow
@@ -90,7 +90,7 @@ find-spec =
     enum-known-r
     enum-known-value
     kind-of-requires
-    add-t14
-    add-t15
+    add-place
+    add-count
     returns
     returns-2)
