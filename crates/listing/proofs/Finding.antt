@@ -7,9 +7,9 @@ use Prim.Native.Nat.{ℕ, zero, suc, _+_, _-_, _*_, _/_, _%_, _^_, _≤_, _<_}
 use native.Mathlib.Omega.{arith}
 use borrow.Author.Tests.{ltb-true, ltb-false, leb-true, eqb-true, eqb-false, lt-ltb, le-ltb, le-leb, lt-leb}
 use lib.Dec.{eqb, leb, ltb}
-use lib.ListN.{length, take, drop}
+use lib.ListN.{length, take}
 use lib.Pow.{shr-shr, shr-lt}
-use Rattle.bits.specs.Bits.{bit, field, starts, bitsOf}
+use Rattle.bits.specs.Bits.{bit, field, starts}
 use Rattle.stream.specs.Format.{macaque, Window}
 use Rattle.stream.specs.Read.{Step, readWord, readOne, stepAt}
 use Rattle.coding.specs.Code.{windowIn}
@@ -19,7 +19,6 @@ use Rattle.macaque_v.specs.declared.read_run.Cursor.{Cursor}
 use Rattle.macaque_v.proofs.Stepping.{raw-is}
 use Rattle.listing.specs.Rows.{listed, kindRead}
 use Rattle.listing.specs.Calls.{mayStand, ahead}
-use Rattle.listing.specs.declared.Kind.{Kind}
 use Rattle.listing.specs.declared.Kind.the-variants.{Raw, Same, New, Keep}
 
 -- ---- the kind, by the first two bits of a word

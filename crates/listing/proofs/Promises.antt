@@ -1,10 +1,9 @@
 -- The promise of the calls together: start reading here. `printed` is what a caller prints who judges an input first, and then prints the one line of
 -- its refusal; or the header, the line of each row in turn, and the total, all but the header through one array of 80 bytes. Each part is what the
 -- contract of the call says that it answers and leaves in the array. That is the listing of 01. Assumes nothing.
-use mathlib.Core.Path.{_≡_, refl, sym, ap, ap₂, _∙_, subst}
+use mathlib.Core.Path.{_≡_, refl, sym, ap, ap₂, _∙_}
 use mathlib.Core.Bool.{Bool, true, false, false≢true}
 use mathlib.Core.List.{List, [], _∷_, _++_, append-assoc}
-use mathlib.Core.Option.{Option, none, some}
 use Prim.Native.Nat.{ℕ, zero, suc, _+_, _≤_, _<_}
 use native.Mathlib.Nat.{add-zero, zero-add}
 use native.Mathlib.Numerals.{add-one}
@@ -16,9 +15,9 @@ use Rattle.bits.specs.Bits.{bitsOf}
 use Rattle.models.specs.Answers.{Said, answered, refused, Cause, _when_, judge}
 use Rattle.models.specs.Limits.{mostValues}
 use Rattle.models.proofs.Judged.{NoneHolds}
-use Rattle.stream.specs.Format.{macaque, Window, State, isRaw, advance}
+use Rattle.stream.specs.Format.{Window, State, isRaw, advance}
 use Rattle.stream.specs.Read as stream
-use Rattle.stream.specs.Read.{Step, Reading, done, stopped, push, follow, leftover, judged, ended, stepAt, readN}
+use Rattle.stream.specs.Read.{Step, Reading, done, stopped, push, follow, ended, stepAt, readN}
 use Rattle.coding.specs.Code.{windowIn}
 use Rattle.coding.proofs.Words.{read-of-45}
 use Rattle.macaque_v.specs.ReadRun.{stateAt, Stands}
@@ -30,7 +29,7 @@ use Rattle.macaque_v.proofs.ReadingAll.{start-stands}
 use Rattle.listing.specs.Text.{headerText, rowText, totalText, refusedText, laid}
 use Rattle.listing.specs.Rows.{listed, rowOf, rowsBy, rowsFrom, bitsIn, rowsText}
 use Rattle.listing.specs.Listing.{countIn, streamIn, inputCauses, start, readWhole, textBy, streamText, listingText}
-use Rattle.listing.specs.Calls.{counted, judgeAnswer, ahead, nextBy, nextRow, NextRow, Line, lineOf, lineIn, rowAnswer, rowMemory}
+use Rattle.listing.specs.Calls.{counted, judgeAnswer, ahead, nextBy, nextRow, Line, lineOf, lineIn, rowAnswer, rowMemory}
 use Rattle.listing.specs.declared.Fields.{Fields}
 use Rattle.listing.proofs.Putting.{row-most, total-most, refused-most, text-stands}
 use Rattle.listing.proofs.Finding.{stands-back}

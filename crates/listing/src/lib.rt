@@ -1,7 +1,6 @@
 // The listing of a with-first stream, line by line: the header, a row for each value, the total; or the one line of a refusal.
 // A line's text goes to the front of a lent array, and the call answers how long it is.
 ghost use mathlib.Core.Path.{_≡_};
-ghost use mathlib.Core.Bool.{true};
 ghost use Prim.Native.Nat.{_+_, _*_, _≤_, _<_};
 ghost use lib.ListN.{length};
 ghost use Rattle.coding.specs.Ahead.{bitsIn as wordBits};
@@ -201,21 +200,26 @@ fn find(stream: &[u8], at: Cursor) -> Found
             lead,
             trail,
             used,
-        } => Found::At(
-            Fields {
-                kind: kind_of(raw, ahead.word, ahead.left),
-                lead,
-                bits: used,
-                value,
-            },
-            Cursor {
-                last: value,
-                lead,
-                trail,
-                place: at.place + used,
-                count: at.count + 1,
-            },
-        ),
+        } => {
+            let kind = kind_of(raw, ahead.word, ahead.left);
+            let place = at.place + used;
+            let count = at.count + 1;
+            Found::At(
+                Fields {
+                    kind,
+                    lead,
+                    bits: used,
+                    value,
+                },
+                Cursor {
+                    last: value,
+                    lead,
+                    trail,
+                    place,
+                    count,
+                },
+            )
+        }
     }
 }
 

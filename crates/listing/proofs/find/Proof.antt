@@ -1,6 +1,6 @@
 -- `listing::find` meets its contract: the bits ahead hold the value. Assumes nothing.
 use borrow.Author.Needs.{needs}
-use mathlib.Core.Path.{_≡_, sym, ap, ap₂, _∙_}
+use mathlib.Core.Path.{_≡_, sym, ap, _∙_}
 use mathlib.Core.Bool.{Bool, true}
 use mathlib.Core.List.{[], _∷_}
 use native.Mathlib.Omega.{arith}
@@ -8,7 +8,7 @@ use lib.Dec.{eqb}
 use lib.ListN.{take}
 use Rattle.models.specs.Answers.{answered}
 use Rattle.stream.specs.Format.{macaque}
-use Rattle.stream.specs.Read.{Step, readOne}
+use Rattle.stream.specs.Read.{readOne}
 use Rattle.coding.specs.Code.{windowIn}
 use Rattle.coding.specs.Ahead.{saysStep}
 use Rattle.macaque_v.specs.ReadRun.{Reads}
@@ -55,11 +55,11 @@ enum-known-value c = search needs
 kind-of-requires : tie.Need-kind-of-requires
 kind-of-requires c κs = search needs
 
-add-t14 : tie.Need-add-t14
-add-t14 c = omega (arith, (read-one (c .before .before .before)) .stands .near)
+add-place : tie.Need-add-place
+add-place c = omega (arith, (read-one (c .before .before .before)) .stands .near)
 
-add-t15 : tie.Need-add-t15
-add-t15 c = search needs
+add-count : tie.Need-add-count
+add-count c = search needs
 
 returns : tie.Need-returns
 unfolding nextRow
@@ -90,7 +90,7 @@ find-spec =
     enum-known-r
     enum-known-value
     kind-of-requires
-    add-t14
-    add-t15
+    add-place
+    add-count
     returns
     returns-2)

@@ -1,6 +1,6 @@
 -- `listing::judge_stream` meets its contract. Assumes nothing.
 use borrow.Author.Needs.{needs}
-use mathlib.Core.Path.{_≡_, sym, ap, _∙_, subst}
+use mathlib.Core.Path.{sym, ap, _∙_, subst}
 use mathlib.Core.Bool.{true}
 use native.Mathlib.Omega.{arith}
 use Rattle.models.specs.Answers.{refused}
@@ -8,7 +8,6 @@ use Rattle.macaque_v.specs.ReadRun.{Stands, WholeSays}
 use Rattle.macaque_v.specs.Read.{startOf}
 use Rattle.macaque_v.specs.declared.Opening.the-variants.{First}
 use Rattle.macaque_v.specs.declared.read_run.Cursor.{Cursor}
-use Rattle.macaque_v.specs.declared.read_run.Walk.{Walk}
 use Rattle.macaque_v.specs.declared.read_run.Aim.the-variants as OfAim
 use Rattle.macaque_v.proofs.ReadingAll.{start-stands}
 use Rattle.macaque_v.proofs.ReadingEnd.{ends-right}

@@ -1,16 +1,16 @@
 -- `listing::row` meets its contract. Assumes nothing.
 use borrow.Author.Needs.{needs}
-use mathlib.Core.Path.{_≡_, refl, sym, ap, ap₂, _∙_}
+use mathlib.Core.Path.{_≡_, refl, sym, ap, _∙_}
 use mathlib.Core.Bool.{Bool, true, false, not}
 use mathlib.Core.List.{List}
 use Prim.Native.Nat.{ℕ}
 use native.Mathlib.Omega.{arith}
 use borrow.Author.Tests.{le-leb, lt-leb}
 use lib.ListN.{length}
-use Rattle.models.specs.Answers.{Said, answered, judge}
+use Rattle.models.specs.Answers.{answered, judge}
 use Rattle.models.specs.Limits.{mostValues}
 use Rattle.macaque_v.specs.declared.read_run.Cursor.{Cursor}
-use Rattle.listing.specs.Calls.{mayStand, NextRow, nextRow, saysFound, Line, lineOf, lineIn, rowAnswer, rowMemory}
+use Rattle.listing.specs.Calls.{mayStand, nextRow, saysFound, lineOf, lineIn, rowAnswer, rowMemory}
 use Rattle.listing.specs.declared.Found.the-variants as OfFound
 use Rattle.listing.proofs.Finding.{stands}
 use Rattle.listing.proofs.row.Statement.{statement}

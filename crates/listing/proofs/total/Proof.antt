@@ -1,7 +1,5 @@
 -- `listing::total` meets its contract. Assumes nothing.
 use borrow.Author.Needs.{needs}
-use mathlib.Core.Path.{_≡_}
-use native.Mathlib.Omega.{arith}
 use Rattle.listing.specs.Text.{totalWord, field, lastField, decimal, totalText}
 use Rattle.listing.proofs.Putting.{put-then, put-laid}
 use Rattle.listing.proofs.total.Statement.{statement}

@@ -1,13 +1,12 @@
 -- `listing::line::digits` meets its contract. The invariant: what is left to put completes the digits. Assumes nothing.
 use borrow.Author.Needs.{needs}
 use mathlib.Core.Path.{_≡_, refl, sym, ap, _∙_}
-use mathlib.Core.List.{List}
-use Prim.Native.Nat.{ℕ, suc, _+_, _-_, _/_, _%_, _≤_, _<_}
+use Prim.Native.Nat.{ℕ, suc, _+_, _-_, _/_, _≤_}
 use native.Mathlib.Nat.{mod-lt}
 use native.Mathlib.Omega.{arith}
-use lib.ListN.{length, set}
+use lib.ListN.{set}
 use lib.Seq.{sets}
-use Rattle.listing.specs.Text.{digitText, digitsOf}
+use Rattle.listing.specs.Text.{digitsOf}
 use Rattle.listing.proofs.Putting.{digits-step}
 use Rattle.listing.proofs.line.digits.Statement.{statement}
 use Rattle.listing.proofs.line.digits.Tie as tie

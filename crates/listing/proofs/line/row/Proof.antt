@@ -2,7 +2,6 @@
 use borrow.Author.Needs.{needs}
 use mathlib.Core.List.{List, _++_}
 use Prim.Native.Nat.{ℕ}
-use native.Mathlib.Omega.{arith}
 use Rattle.listing.specs.Text.{kindWord, leadText, decimal, hexadecimal, field, lastField, rowText}
 use Rattle.listing.proofs.Putting.{put-then, put-laid}
 use Rattle.listing.proofs.line.row.Statement.{statement}

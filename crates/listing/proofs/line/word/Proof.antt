@@ -1,13 +1,11 @@
 -- `listing::line::word` meets its contract. The invariant: what is left to put completes the word. Assumes nothing.
 use borrow.Author.Needs.{needs}
-use mathlib.Core.Path.{_≡_, refl, sym, ap, _∙_}
-use mathlib.Core.List.{List}
-use Prim.Native.Nat.{ℕ, suc, _+_, _-_, _≤_, _<_}
+use mathlib.Core.Path.{_≡_, sym, ap, _∙_}
+use Prim.Native.Nat.{ℕ, _+_, _-_, _≤_}
 use native.Mathlib.Nat.{add-zero}
 use native.Mathlib.Omega.{arith}
 use lib.ListN.{length, drop}
 use lib.Seq.{sets, drop-length}
-use Rattle.listing.specs.Text.{Put}
 use Rattle.listing.proofs.Putting.{word-step}
 use Rattle.listing.proofs.line.word.Statement.{statement}
 use Rattle.listing.proofs.line.word.Tie as tie
