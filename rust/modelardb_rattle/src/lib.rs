@@ -19,7 +19,10 @@ pub mod ffi;
 pub mod macaque_v;
 pub mod models;
 pub mod numbers;
+pub mod pmc_mean;
 mod refusal;
+pub mod swing;
+pub mod types;
 
 pub use macaque_v::{MacaqueV, Opening};
 pub use models::{
@@ -27,4 +30,7 @@ pub use models::{
     maximum_allowed_deviation, maximum_allowed_deviation_bits,
 };
 pub use numbers::{narrow, narrow_bits, widen, widen_bits};
+pub use pmc_mean::PMCMean;
 pub use refusal::Refusal;
+pub use swing::{Line, Swing};
+pub use types::{ModelBuilder, SelectedModel, choose_model, choose_model_bits};
