@@ -13,7 +13,7 @@ pub use line::{
 /// The place of the word that says whether a step's point fitted.
 const FITS: usize = SWING_WORDS - 1;
 
-/// The points fitted so far: the first one, the steepest and the flattest line from it that pass within
+/// The points fitted so far: the first one, the highest and the lowest line from it that pass within
 /// the bound of all others, and the sums of the slope with the least error.
 ///
 /// ```
@@ -89,7 +89,7 @@ impl Swing {
     /// // One point makes no line: its last value is NaN.
     /// room.fit_data_point(0, 0.0)?;
     /// assert!(room.model()?.1.is_nan());
-    /// // Two make the steepest that is allowed.
+    /// // Two make the highest that is allowed.
     /// room.fit_data_point(10, 5.0)?;
     /// assert_eq!(room.model(), Ok((0.0, 6.0)));
     /// # Ok::<(), Refusal>(())
@@ -121,7 +121,7 @@ impl Swing {
         self.row[3] as i64
     }
 
-    /// The slopes of the steepest and of the flattest line that are allowed, NaN before two points.
+    /// The slopes of the highest and of the lowest line that are allowed, NaN before two points.
     pub fn slopes(&self) -> (f64, f64) {
         (f64::from_bits(self.row[5]), f64::from_bits(self.row[7]))
     }
