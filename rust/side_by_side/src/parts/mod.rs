@@ -31,6 +31,7 @@ pub const ALL: &[Part] = &[
     Part::new("library: short runs", library_fit::short_runs),
     Part::new("library: runs", library_fit::runs),
     Part::new("library: lines", library_fit::lines),
+    Part::new("library: costs", library_fit::costs),
     Part::new("library: fitted states", library_fit::states),
     Part::new("library: causes of the fit", library_fit::causes),
     Part::new("library: marked cases", library_stream::marked),

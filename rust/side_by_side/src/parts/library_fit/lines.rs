@@ -28,7 +28,7 @@ pub fn lines(context: &mut Context) {
             by_each_call(context, ends, &times);
         }
     }
-    for _ in 0..context.rounds(60_000) {
+    for _ in 0..context.rounds(120_000) {
         let (count, asked) = (context.inputs.below(9), context.inputs.below(9));
         let around = context.inputs.any_times(count as usize + 2);
         let times = context.inputs.any_times(asked as usize);

@@ -3,6 +3,7 @@
 
 mod both;
 mod causes;
+mod costs;
 mod kinds;
 mod lines;
 mod runs;
@@ -11,6 +12,7 @@ mod short;
 mod states;
 
 pub use causes::causes;
+pub use costs::costs;
 pub use lines::lines;
 pub use runs::runs;
 pub use short::short_runs;

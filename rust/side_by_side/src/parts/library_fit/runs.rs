@@ -1,11 +1,11 @@
 //! Runs of up to a thousand points, at times that are allowed or not, and runs about the limit of 65,536.
 
-use super::kinds::{BUILDER, KINDS, PMC_MEAN, SWING};
+use super::kinds::{BUILDER, KINDS, Kind, PMC_MEAN, SWING};
 use super::{METADATA, STALE_WORD, both, safe};
 use crate::context::Context;
 use crate::face;
 use crate::parts::choice;
-use modelardb_rattle::ffi::SELECTED_MODEL_WORDS;
+use modelardb_rattle::ffi::{SELECTED_MODEL_WORDS, Words};
 use oracle::paper::judge_times;
 use oracle::paper::models::ErrorBound::{self, Absolute, Lossless, Relative};
 use oracle::paper::refusal;
@@ -21,7 +21,7 @@ pub struct Run {
 
 impl Run {
     /// The points at which each step is tried.
-    pub fn points(&self) -> impl Iterator<Item = (i64, u32)> {
+    pub fn points(&self) -> impl Iterator<Item = Point> {
         self.times.iter().copied().zip(self.values.iter().copied())
     }
 }
@@ -34,7 +34,7 @@ impl Display for Run {
 }
 
 pub fn runs(context: &mut Context) {
-    for _ in 0..context.rounds(3_000) {
+    for _ in 0..context.rounds(5_000) {
         let most = context.inputs.pick(&[8, 64, 64, 1000]);
         let count = context.inputs.below(most + 1) as usize;
         let run = Run {
@@ -52,15 +52,25 @@ pub fn runs(context: &mut Context) {
     }
 }
 
+/// A time and a value's bits.
+pub type Point = (i64, u32);
+
+/// The row of a fresh state that was stepped over the points; a refused step leaves it alone.
+pub fn stepped(context: &mut Context, kind: &Kind, bound: Words, points: &[Point]) -> Vec<u64> {
+    let mut row = kind.fresh(context, bound);
+    for &point in points {
+        (_, row) = both::step(context, kind, &row, point);
+    }
+    row
+}
+
 /// Stepped by each kind of state, and by the whole rule.
 fn over(context: &mut Context, run: &Run) {
     let bound = face::bound_words(run.bound);
     let mut finished = (0, vec![]);
     for kind in &KINDS {
-        let mut row = kind.fresh(context, bound);
-        for point in run.points() {
-            (_, row) = both::step(context, kind, &row, point);
-        }
+        let points: Vec<Point> = run.points().collect();
+        let row = stepped(context, kind, bound, &points);
         kind.asked(context, &row, run.m);
         if kind.words == BUILDER.words {
             finished = both::finish(context, &row, run.m, &[STALE_WORD; SELECTED_MODEL_WORDS]);
@@ -88,10 +98,8 @@ fn long(context: &mut Context, bound: ErrorBound, count: usize) {
     both::choose(context, (&times, &values), (words, 12), &out);
     if count == 65_536 {
         for kind in &KINDS {
-            let mut row = kind.fresh(context, words);
-            for &time in &times {
-                (_, row) = both::step(context, kind, &row, (time, values[0]));
-            }
+            let points: Vec<Point> = times.iter().map(|&time| (time, values[0])).collect();
+            let row = stepped(context, kind, words, &points);
             kind.asked(context, &row, 12);
             let next = (400_000, values[0]);
             let (number, _) = both::step(context, kind, &row, next);

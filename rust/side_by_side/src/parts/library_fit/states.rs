@@ -3,6 +3,7 @@
 use super::METADATA;
 use super::both;
 use super::kinds::{KINDS, Kind};
+use super::runs::{Point, stepped};
 use crate::context::Context;
 use crate::face;
 
@@ -45,8 +46,8 @@ const WORDS: [u64; 32] = [
 
 pub fn states(context: &mut Context) {
     for kind in &KINDS {
-        for _ in 0..context.rounds(60) {
-            let (row, last) = stepped(context, kind);
+        for _ in 0..context.rounds(100) {
+            let (row, last) = any_run(context, kind);
             for place in 0..kind.words {
                 for word in WORDS {
                     let mut changed = row.clone();
@@ -55,7 +56,7 @@ pub fn states(context: &mut Context) {
                 }
             }
         }
-        for _ in 0..context.rounds(250_000) {
+        for _ in 0..context.rounds(400_000) {
             let (row, last) = any_row(context, kind);
             handed_in(context, kind, &row, last);
         }
@@ -63,14 +64,12 @@ pub fn states(context: &mut Context) {
 }
 
 /// A state after a few steps, and the time of the last one.
-fn stepped(context: &mut Context, kind: &Kind) -> (Vec<u64>, i64) {
+fn any_run(context: &mut Context, kind: &Kind) -> (Vec<u64>, i64) {
     let count = context.inputs.below(6) as usize;
     let (times, values) = (context.inputs.times(count), context.inputs.values(count));
     let bound = face::bound_words(context.inputs.bound());
-    let mut row = kind.fresh(context, bound);
-    for (&time, value) in times.iter().zip(values) {
-        (_, row) = both::step(context, kind, &row, (time, value));
-    }
+    let points: Vec<Point> = times.iter().copied().zip(values).collect();
+    let row = stepped(context, kind, bound, &points);
     (row, times.last().copied().unwrap_or(0))
 }
 
