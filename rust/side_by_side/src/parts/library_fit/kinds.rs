@@ -16,6 +16,8 @@ pub struct Kind {
     pub name: &'static str,
     /// How long a state's row is.
     pub words: usize,
+    /// Whether a state of PMC-Mean and one of Swing stand in it.
+    pub holds: [bool; 2],
     pub new: [New; 2],
     pub step: [Step; 2],
     pub asks: &'static [Ask],
@@ -31,6 +33,7 @@ pub struct Ask {
 pub const PMC_MEAN: Kind = Kind {
     name: "PMC",
     words: PMC_MEAN_WORDS,
+    holds: [true, false],
     new: [fit::pmc_mean_new, ffi::pmc_mean_new],
     step: [
         |row, _, value| fit::pmc_mean_fit_value(row, value),
@@ -56,6 +59,7 @@ pub const PMC_MEAN: Kind = Kind {
 pub const SWING: Kind = Kind {
     name: "Swing",
     words: SWING_WORDS,
+    holds: [false, true],
     new: [fit::swing_new, ffi::swing_new],
     step: [fit::swing_fit_data_point, ffi::swing_fit_data_point],
     asks: &[
@@ -79,6 +83,7 @@ pub const SWING: Kind = Kind {
 pub const BUILDER: Kind = Kind {
     name: "builder",
     words: MODEL_BUILDER_WORDS,
+    holds: [true, true],
     new: [choice::new, ffi::model_builder_new],
     step: [
         choice::try_to_update_models,
@@ -90,6 +95,10 @@ pub const BUILDER: Kind = Kind {
 pub const KINDS: [Kind; 3] = [PMC_MEAN, SWING, BUILDER];
 
 impl Kind {
+    pub fn is_builder(&self) -> bool {
+        self.holds == [true, true]
+    }
+
     /// The row of a fresh state.
     pub fn fresh(&self, context: &mut Context, bound: Words) -> Vec<u64> {
         let row = vec![STALE_WORD; self.words];
@@ -102,7 +111,7 @@ impl Kind {
         for ask in self.asks {
             both::ask(context, ask, row, m, &[STALE_VALUE; 3][..ask.words + 1]);
         }
-        if self.asks.is_empty() {
+        if self.is_builder() {
             both::finish(context, row, m, &[STALE_WORD; SELECTED_MODEL_WORDS + 1]);
         }
     }

@@ -1,6 +1,6 @@
 //! Runs of up to a thousand points, at times that are allowed or not, and runs about the limit of 65,536.
 
-use super::kinds::{BUILDER, KINDS, Kind, PMC_MEAN, SWING};
+use super::kinds::{KINDS, Kind};
 use super::{METADATA, STALE_WORD, both, safe};
 use crate::context::Context;
 use crate::face;
@@ -68,22 +68,22 @@ pub fn stepped(context: &mut Context, kind: &Kind, bound: Words, points: &[Point
 fn over(context: &mut Context, run: &Run) {
     let bound = face::bound_words(run.bound);
     let mut finished = (0, vec![]);
+    let points: Vec<Point> = run.points().collect();
     for kind in &KINDS {
-        let points: Vec<Point> = run.points().collect();
         let row = stepped(context, kind, bound, &points);
         kind.asked(context, &row, run.m);
-        if kind.words == BUILDER.words {
+        if kind.is_builder() {
             finished = both::finish(context, &row, run.m, &[STALE_WORD; SELECTED_MODEL_WORDS]);
         }
     }
-    let points = (&run.times[..], &run.values[..]);
+    let lists = (&run.times[..], &run.values[..]);
     let out = [STALE_WORD; SELECTED_MODEL_WORDS];
-    let chosen = both::choose(context, points, (bound, run.m), &out);
+    let chosen = both::choose(context, lists, (bound, run.m), &out);
     let are_allowed = judge_times(&run.times).is_ok();
     if are_allowed {
         context.same("in one call", finished, chosen, || run.to_string());
         if !run.values.is_empty() && (1..65_536).contains(&run.m) {
-            choice::over_list(context, points, run.bound, run.m as u32);
+            choice::over_list(context, lists, run.bound, run.m as u32);
         }
     }
     safe::over(context, run);
@@ -98,7 +98,7 @@ fn long(context: &mut Context, bound: ErrorBound, count: usize) {
     both::choose(context, (&times, &values), (words, 12), &out);
     if count == 65_536 {
         for kind in &KINDS {
-            let points: Vec<Point> = times.iter().map(|&time| (time, values[0])).collect();
+            let points: Vec<Point> = times.iter().copied().zip(values.clone()).collect();
             let row = stepped(context, kind, words, &points);
             kind.asked(context, &row, 12);
             let next = (400_000, values[0]);
@@ -107,15 +107,11 @@ fn long(context: &mut Context, bound: ErrorBound, count: usize) {
             context.same("library", refusal::LIMIT, number, input);
         }
     }
-    // A last value that does not fit, and one at the front that only Swing's line takes.
+    // A last value that no model takes; then another first value too.
     for (at, value) in [(count.wrapping_sub(1), 0x7FC0_0000), (0, 0x41A3_0000)] {
         if let Some(place) = values.get_mut(at) {
             *place = value;
             both::choose(context, (&times, &values), (words, 65_535), &out);
         }
-    }
-    for kind in [&PMC_MEAN, &SWING] {
-        let fresh = kind.fresh(context, words);
-        kind.asked(context, &fresh, 12);
     }
 }

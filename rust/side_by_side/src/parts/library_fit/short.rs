@@ -50,8 +50,7 @@ pub fn short_runs(context: &mut Context) {
 fn runs_from(context: &mut Context, kind: &Kind, row: &[u64], times: &[i64]) {
     let m = 1 + context.inputs.below(16) as usize;
     kind.asked(context, row, m);
-    let is_builder = kind.words == BUILDER.words;
-    if is_builder && row[5] > 0 {
+    if kind.is_builder() && row[5] > 0 {
         choice::choose(context, builder_in(row), m as u32);
     }
     let [time, later @ ..] = times else {
@@ -59,7 +58,7 @@ fn runs_from(context: &mut Context, kind: &Kind, row: &[u64], times: &[i64]) {
     };
     for value in DOZEN {
         let (_, after) = both::step(context, kind, row, (*time, value));
-        if is_builder {
+        if kind.is_builder() {
             choice::step(context, builder_in(row), *time, value);
         }
         runs_from(context, kind, &after, later);

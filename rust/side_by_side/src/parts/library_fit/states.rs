@@ -89,14 +89,14 @@ fn any_row(context: &mut Context, kind: &Kind) -> (Vec<u64>, i64) {
     let inputs = &mut context.inputs;
     let bound = inputs.any_bound();
     let mut row = vec![];
-    // The words of PMC-Mean, for it and for the builder; then those of Swing.
-    if kind.words != 13 {
+    let [has_pmc_mean, has_swing] = kind.holds;
+    if has_pmc_mean {
         row.extend(bound.row());
         row.extend([inputs.value(), inputs.value()].map(u64::from));
         row.extend([inputs.wide().to_bits(), inputs.below(65_538)]);
         row.push(inputs.below(8).min(1));
     }
-    if kind.words != 7 {
+    if has_swing {
         let length = match inputs.below(3) {
             0 => inputs.below(3),
             _ => inputs.below(65_538),
