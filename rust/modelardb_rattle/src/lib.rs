@@ -4,6 +4,9 @@
 //! Values are f32. Where a NaN's payload matters, a call on the value's bits stands beside the call
 //! on floats.
 //!
+//! [`choose_model`] says which model stores a run of values, [`PMCMean`] or [`Swing`]; [`MacaqueV`]
+//! writes values as a stream, such as those behind a model.
+//!
 //! ```
 //! use modelardb_rattle::{ErrorBound, Refusal, is_value_within_error_bound};
 //!

@@ -10,8 +10,7 @@ use oracle::paper::refusal::{LIMIT, NO_MODEL, OUTPUT, STATE, TIMES};
 const ONE: u32 = 0x3F80_0000;
 const LATEST: i64 = 1 << 52;
 
-/// A state's length and times, the cause that it brings to any call, and whether it is of length 0 or
-/// takes no more.
+/// A state's length and times, and the cause that they bring to any call of Swing.
 #[derive(Clone, Copy, Debug)]
 struct State {
     length: u64,
@@ -29,7 +28,7 @@ const fn state(length: u64, start: i64, end: i64, cause: u32) -> State {
     }
 }
 
-/// Those of Swing; of PMC-Mean the lengths count.
+/// Of PMC-Mean's states only the lengths count.
 const STATES: [State; 14] = [
     state(0, 5, 3, 0),
     state(0, i64::MIN, i64::MAX, 0),
