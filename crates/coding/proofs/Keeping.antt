@@ -1,4 +1,4 @@
--- What is kept, step by step; that it is of 32 bits; and that s is the greatest. Assumes nothing.
+-- What is kept, step by step, and that it is of 32 bits. Assumes nothing.
 use mathlib.Core.Path.{_≡_, refl, sym, ap, _∙_, subst}
 use mathlib.Core.Bool.{Bool, true, false, cond}
 use Prim.Native.Nat.{ℕ, zero, suc, _-_, _/_, _*_, _^_, _≤_, _<_}

@@ -1,3 +1,4 @@
--- What the proofs of MacaqueV's C face share.
+-- What the proofs of MacaqueV's C face share, and what its rows promise.
 pub mod Words
 pub mod Faces
+pub mod Promises

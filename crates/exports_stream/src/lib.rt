@@ -158,7 +158,11 @@ fn opening_of(mode: u32, opening: u32) -> Opening
 fn count_in(mode: u32, count: usize) -> usize
     ensures { λ r. ⌜ r ≡ countIn mode count ⌝ }
 {
-    if mode <= 1 { count } else { 65537 }
+    if mode <= 1 {
+        count
+    } else {
+        MacaqueV::MOST_VALUES + 1
+    }
 }
 
 // ---- the causes of refusal of a call that hands out a state: the row has to hold it

@@ -93,11 +93,11 @@ pub fn writer_of(row: &[u64]) -> MacaqueV
     if !stands_for_state(row) {
         return MacaqueV {
             error_bound,
-            min_value: 0x7fc0_0000,
-            max_value: 0x7fc0_0000,
+            min_value: models::FRESH_BITS,
+            max_value: models::FRESH_BITS,
             last_value: 0,
-            last_leading_zero_bits: 255,
-            last_trailing_zero_bits: 0,
+            last_leading_zero_bits: MacaqueV::OPENING_LEADING,
+            last_trailing_zero_bits: MacaqueV::OPENING_TRAILING,
             with_first: false,
             place: 1,
             length: 0,

@@ -2,14 +2,16 @@
 -- that they answer and leave in lent memory. Assumes nothing.
 use mathlib.Core.Path.{_≡_, refl, sym, ap, ap₂, _∙_, subst}
 use mathlib.Core.Bool.{Bool, true, false, cond, not}
-use mathlib.Core.List.{List, [], _∷_, _++_}
+use mathlib.Core.List.{List, [], _∷_, _++_, foldl}
 use Prim.Native.Nat.{ℕ, _+_, _*_, _^_, _≤_, _<_, min}
 use native.Mathlib.Nat.{min-eq-left}
 use native.Mathlib.Omega.{arith}
 use borrow.Author.Tests.{le-leb, le-ltb}
 use lib.Dec.{ltb}
 use lib.ListN.{length, take, drop}
+use lib.Seq.{length-take-le}
 use Rattle.bits.specs.Bits.{Below, bitsOf, wholeBytes, laidIn, cutIn}
+use Rattle.bits.proofs.Below.{below-take}
 use Rattle.bits.proofs.InBytes.{length-cutIn}
 use Rattle.models.specs.Answers.{Said, answered, refused, SaidOn, answeredOn, refusedOn, Done, Cause, _when_, judge, verdict}
 use Rattle.models.specs.Bound.{boundAllowed}
@@ -22,11 +24,12 @@ use Rattle.stream.specs.Write.{wrote, kept, wroteIn, streamOf}
 use Rattle.stream.specs.Read.{Reading, done, stopped, readAll, Reopened, reopened, bufferAfter}
 use Rattle.stream.specs.Made as theory
 use Rattle.stream.proofs.Formats.{macaque-good}
+use Rattle.stream.proofs.Promises.{gathers-over-the-kept-values, gathers-each-value-once}
 use Rattle.stream.proofs.Writing.{count-after, length-kept, wrote-append, kept-lossless}
 use Rattle.stream.proofs.Made as spine
 use Rattle.stream.proofs.AnyStream.{any-resumed}
 use Rattle.coding.specs.Keep.{keepRule}
-use Rattle.macaque_v.specs.State.{Ends, streamIn, stateOf, writerOf, isFirst, openingValue, opened}
+use Rattle.macaque_v.specs.State.{Ends, taken, gatherEnds, modeOf, streamIn, stateOf, writerOf, isFirst, openingValue, opened}
 use Rattle.macaque_v.specs.Write.{writerAt, wroteBy, writtenBy}
 use Rattle.macaque_v.specs.Calls.{newAnswer, lentBytes, tooMany, writeCauses, writeAnswer, writeMemory}
 use Rattle.macaque_v.specs.Read.{valuesRead, valuesIn, gridAnswer, gridMemory, reopening, resumed, reopenAnswer, reopenMemory}
@@ -35,6 +38,7 @@ use Rattle.macaque_v.specs.declared.MacaqueV.{MacaqueV}
 use Rattle.macaque_v.specs.declared.Opening.{Opening}
 use Rattle.coding.proofs.Keeping.{keeps}
 use Rattle.macaque_v.proofs.Accepting.{accepted}
+use Rattle.macaque_v.proofs.Writing.{place-grows}
 
 -- ---- the spine, as the theory of streams has it
 
@@ -53,6 +57,18 @@ in-theory {b} {o} {xs} {buf} {m} M =
       state = refl;
       bytes = subst (λ (w : MacaqueV). take (wholeBytes (w .place)) buf ≡ streamOf (keepRule b) (streamIn (isFirst o)) (openingValue o) xs) (M .writer) (M .bytes);
     }
+
+-- a state that may be used, under an allowed bound: where room and count limit allow, nothing refuses
+allowed : (b : ErrorBound) (o : Opening) (s : State Ends) (ys buf : List ℕ) → boundAllowed b ≡ true → usable macaque (length buf) s ≡ true
+    → s .count + length ys ≤ 65536 → (wrote (keepRule b) (streamIn (isFirst o)) s ys) .place ≤ 8 * length buf → length buf ≤ 2 ^ 60
+    → writeAnswer (writerOf b (isFirst o) s) ys buf ≡ answeredOn (writerOf b (isFirst o) (wrote (keepRule b) (streamIn (isFirst o)) s ys))
+unfolding writeAnswer judge
+allowed b o s ys buf ok free most room long =
+    let all : lentBytes (length buf) ≡ length buf = min-eq-left long in
+    let may : usable macaque (lentBytes (length buf)) s ≡ true = ap (λ (n : ℕ). usable macaque n s) all ∙ free in
+    let few : tooMany (s .count) (length ys) ≡ false = le-ltb 65536 (s .count + length ys) (omega arith) in
+    let fits = le-leb ((wrote (keepRule b) (streamIn (isFirst o)) s ys) .place) (8 * lentBytes (length buf)) (omega arith) in
+    rw (ok, may, few, fits)
 
 -- ---- writing, from the state s that the theory speaks of
 
@@ -79,19 +95,31 @@ module _ (b : ErrorBound) (o : Opening) (xs buf : List ℕ) (s : State Ends)
   accepts : Below 32 xs → openingValue o < 2 ^ 32 → boundAllowed b ≡ true → (ys : List ℕ) → length xs + length ys ≤ 65536
       → (wrote (keepRule b) (streamIn (isFirst o)) s ys) .place ≤ 8 * length buf → length buf ≤ 2 ^ 60
       → writeAnswer (writerOf b (isFirst o) s) ys buf ≡ answeredOn (writerOf b (isFirst o) (wrote (keepRule b) (streamIn (isFirst o)) s ys))
-  unfolding writeAnswer judge
   accepts bx hl ok ys most room long =
-      let m : MacaqueV = writerOf b (isFirst o) s in
-      let all : lentBytes (length buf) ≡ length buf = min-eq-left long in
       let vs : List ℕ = kept (keepRule b) (streamIn (isFirst o)) (opened o) xs in
       let counted : s .count ≡ length xs =
       ap (λ (t : State Ends). t .count) (M .state) ∙ count-after (streamIn (isFirst o)) (opened o) vs ∙ omega (arith, length-kept (streamIn (isFirst o)) (keepRule b) (opened o) xs) in
-      let free : usable macaque (lentBytes (length buf)) s ≡ true =
-      ap (λ (n : ℕ). usable macaque n s) all
-      ∙ spine.made-usable (keepRule b) (streamIn (isFirst o)) (openingValue o) M macaque-good (keeps b 32) hl bx (omega arith) in
-      let few : tooMany (s .count) (length ys) ≡ false = le-ltb 65536 (s .count + length ys) (omega arith) in
-      let fits = le-leb ((wrote (keepRule b) (streamIn (isFirst o)) s ys) .place) (8 * lentBytes (length buf)) (omega arith) in
-      rw (ok, free, few, fits)
+      let free : usable macaque (length buf) s ≡ true =
+      spine.made-usable (keepRule b) (streamIn (isFirst o)) (openingValue o) M macaque-good (keeps b 32) hl bx (omega arith) in
+      allowed b o s ys buf ok free (omega arith) room long
+
+-- reopening the first `used` bytes of buf, which hold xs, at k, and writing ys: what is answered, and what is left
+pub record ResumesAsOne (b : ErrorBound) (o : Opening) (xs buf : List ℕ) (used k : ℕ) (ys : List ℕ) : Type 0 where
+  pub opens : reopenAnswer buf used (length xs) k o b ≡ answered (writerOf b (isFirst o) (stateAfter b o (take k xs)))
+  pub accepts : writeAnswer (writerOf b (isFirst o) (stateAfter b o (take k xs))) ys (reopenMemory buf used (length xs) k o b)
+      ≡ answeredOn (writerOf b (isFirst o) (stateAfter b o (take k xs ++ ys)))
+  pub made : Made b o (take k xs ++ ys) (writeMemory (writerOf b (isFirst o) (stateAfter b o (take k xs))) ys (reopenMemory buf used (length xs) k o b))
+      (writerOf b (isFirst o) (stateAfter b o (take k xs ++ ys)))
+
+-- the first inputs take no more bits than all
+place-first : (b : ErrorBound) (o : Opening) (xs : List ℕ) (k : ℕ) → (stateAfter b o (take k xs)) .place ≤ (stateAfter b o xs) .place
+place-first b o xs k = place-grows (writerOf b (isFirst o) (opened o)) xs k
+
+-- ---- the bytes in use and the writer are told by the bound, the opening and the inputs
+
+pub made-once : {b : ErrorBound} {o : Opening} {xs buf other : List ℕ} {m n : MacaqueV} → Made b o xs buf m → Made b o xs other n
+    → (m ≡ n) × (take (wholeBytes (m .place)) buf ≡ take (wholeBytes (n .place)) other)
+made-once M N = (M .writer ∙ sym (N .writer), M .bytes ∙ sym (N .bytes))
 
 -- ---- demand 3, writing
 
@@ -139,9 +167,6 @@ module _ {b : ErrorBound} {o : Opening} {xs buf : List ℕ} {m : MacaqueV} (M : 
             }),
       )
 
-  -- so reopening at k and an accepted write of ys leave the bytes and the writer of one fresh run over the first k inputs and ys: by
-  -- `a-write-goes-on`, whose premise is the second part of `reopening-goes-back`; and `a-write-is-accepted` says that room and count limit suffice
-
   -- ---- demand 2: the bytes in use read back as the kept values, where the output has room; later places of it stay
   pub grid-reads-back : Below 32 xs → openingValue o < 2 ^ 32 → length xs ≤ 65536 → (out : List ℕ) → length xs ≤ length out
       → (gridAnswer (take (wholeBytes (m .place)) buf) (length xs) o (length out) ≡ answered tt)
@@ -158,6 +183,48 @@ module _ {b : ErrorBound} {o : Opening} {xs buf : List ℕ} {m : MacaqueV} (M : 
         rw (few, room, values),
         rw (few, room, values, length-kept S (keepRule b) (opened o) xs),
       )
+
+-- ---- demand 3 as one theorem
+
+module _ {b : ErrorBound} {o : Opening} {xs buf : List ℕ} {m : MacaqueV} (M : Made b o xs buf m) where
+  -- the buffer stays as long as it was
+  reopened-long : Below 32 xs → openingValue o < 2 ^ 32 → boundAllowed b ≡ true → length xs ≤ 65536 → (k : ℕ) → k ≤ length xs
+      → length (reopenMemory buf (wholeBytes (m .place)) (length xs) k o b) ≡ length buf
+  unfolding reopenMemory judge
+  reopened-long bx hl ok most k le =
+      let S = streamIn (isFirst o) in
+      let T = in-theory M in
+      let back = spine.made-reopen (keepRule b) S (openingValue o) T macaque-good (keeps b 32) hl bx k le in
+      let at : m .place ≡ (stateAfter b o xs) .place = ap (λ (w : MacaqueV). w .place) (M .writer) in
+      let room : wholeBytes ((stateAfter b o xs) .place) ≤ length buf = spine.made-room (keepRule b) S (openingValue o) T in
+      let opens : reopening (take (wholeBytes (m .place)) buf) (length xs) k o ≡ reopened (stateAfter b o (take k xs)) =
+      ap (λ (p : ℕ). reopening (take (wholeBytes p) buf) (length xs) k o) at ∙ back .0 in
+      let few : ltb 65536 (length xs) ≡ false = le-ltb 65536 (length xs) most in
+      let inside : ltb (length xs) k ≡ false = le-ltb (length xs) k le in
+      let held : ltb (length buf) (wholeBytes (m .place)) ≡ false = le-ltb (length buf) (wholeBytes (m .place)) (subst (λ (p : ℕ). wholeBytes p ≤ length buf) (sym at) room) in
+      let before : (stateAfter b o (take k xs)) .place ≤ (stateAfter b o xs) .place = place-first b o xs k in
+      rw (ok, few, inside, held)
+      (ap (λ (q : Reopened Ends). length (bufferAfter q buf)) opens ∙ length-cutIn buf ((stateAfter b o (take k xs)) .place) (omega (arith, before)))
+
+  -- reopened at any k, any further list that room and count limit allow is accepted, and leaves the bytes and the writer of one fresh
+  -- run over the first k inputs and the list
+  pub resumed-as-one-run : Below 32 xs → openingValue o < 2 ^ 32 → boundAllowed b ≡ true → length xs ≤ 65536 → (k : ℕ) → k ≤ length xs → (ys : List ℕ)
+      → k + length ys ≤ 65536 → (stateAfter b o (take k xs ++ ys)) .place ≤ 8 * length buf → length buf ≤ 2 ^ 60
+      → ResumesAsOne b o xs buf (wholeBytes (m .place)) k ys
+  resumed-as-one-run bx hl ok most k le ys few room long =
+      let used : ℕ = wholeBytes (m .place) in
+      let back = reopening-goes-back M bx hl ok most k le in
+      let same : length (reopenMemory buf used (length xs) k o b) ≡ length buf = reopened-long bx hl ok most k le in
+      let firsts : length (take k xs) ≡ k = length-take-le k xs le in
+      let accepted = a-write-is-accepted (back .1) (below-take 32 k xs bx) hl ok ys (omega arith) (omega (arith, room)) (omega (arith, long)) in
+      record { opens = back .0; accepts = accepted; made = a-write-goes-on (back .1) ys _ accepted }
+
+-- "Minimum and maximum start fresh and take in each kept value from the left, the raw first one too, and never an input that was not kept": the writer after
+-- xs has those of what it kept of xs; the opening value is not among them
+pub ends-of-the-kept : (b : ErrorBound) (o : Opening) (xs : List ℕ) → (stateAfter b o xs) .seen ≡ foldl taken (gatherEnds .none) (keptOf b o xs)
+ends-of-the-kept b o xs =
+    gathers-over-the-kept-values (keepRule b) (streamIn (isFirst o)) (opened o) xs
+    ∙ gathers-each-value-once gatherEnds (λ e v. refl) (modeOf (isFirst o)) 0 (gatherEnds .none) (keptOf b o xs)
 
 -- lossless keeps the inputs, so it is they that read back
 pub lossless-keeps-the-inputs : (o : Opening) (xs : List ℕ) → keptOf Lossless o xs ≡ xs
@@ -189,6 +256,9 @@ a-fresh-writer b o buf m h = go (boundAllowed b) h
 pub record Resumes (b : ErrorBound) (o : Opening) (n k used : ℕ) (buf vs : List ℕ) : Type 0 where
   pub writer : MacaqueV
   pub opens : reopenAnswer buf used n k o b ≡ answered writer
+  -- any further list that room and count limit allow is accepted
+  pub accepts : (ys : List ℕ) → k + length ys ≤ 65536 → (wroteBy writer ys) .place ≤ 8 * length buf → length buf ≤ 2 ^ 60
+      → writeAnswer writer ys (reopenMemory buf used n k o b) ≡ answeredOn (writerAt writer (wroteBy writer ys))
   pub reads : (ys : List ℕ) → Below 32 ys → (after : MacaqueV) → writeAnswer writer ys (reopenMemory buf used n k o b) ≡ answeredOn after
       → valuesIn (take (wholeBytes (after .place)) (writeMemory writer ys (reopenMemory buf used n k o b))) (k + length ys) o
       ≡ answered (take k vs ++ kept (keepRule b) (streamIn (isFirst o)) (stateOf writer) ys)
@@ -233,6 +303,9 @@ any-stream-resumes b o n k used buf vs ok hl most le fits h =
     record {
       writer = writerOf b (isFirst o) t;
       opens = rw (ok, few, inside, held) (ap (resumed b (isFirst o)) (R .opens));
+      accepts = λ ys most room most-bytes.
+          ap (writeAnswer (writerOf b (isFirst o) t) ys) memory
+          ∙ allowed b o t ys (cutIn buf (t .place)) ok (subst (λ (z : ℕ). usable macaque z t ≡ true) (sym long) (R .mayBeUsed)) (omega (arith, R .counted)) (omega (arith, long)) (omega (arith, long));
       reads = λ ys by after e.
           let u = wrote-on b o t ys (cutIn buf (t .place)) after (ap (writeAnswer (writerOf b (isFirst o) t) ys) (sym memory) ∙ e) in
           let room : (wrote (keepRule b) S t ys) .place ≤ 8 * length buf = omega (arith, u .1, long) in

@@ -50,7 +50,7 @@ pub fn grid(bytes: &[u8], count: usize, opening: Opening, out: &mut [u32]) -> Gr
 pub fn sum(bytes: &[u8], count: usize, opening: Opening) -> ValueAnswer
     ensures { λ r. ⌜ saysValue r ≡ sumAnswer (now (bytes .entry)) count opening ⌝ }
 {
-    if 65536 < count {
+    if MacaqueV::MOST_VALUES < count {
         return ValueAnswer::Refused(Refusal::OverLimit);
     }
     match read_run::go_to_end(bytes, is_first(opening), start(opening), count, Aim::Sum) {
@@ -86,7 +86,7 @@ fn judge_grid(count: usize, room: usize) -> Verdict
     ensures { λ r. ⌜ saysVerdict r ≡ verdict (gridCauses count room) ⌝ }
 {
     let short = models::when(Refusal::OutputTooShort, room < count, Verdict::Passed);
-    models::when(Refusal::OverLimit, 65536 < count, short)
+    models::when(Refusal::OverLimit, MacaqueV::MOST_VALUES < count, short)
 }
 
 pub fn judge_reopen(
@@ -103,7 +103,7 @@ pub fn judge_reopen(
         (count < k) | (room < used),
         Verdict::Passed,
     );
-    let many = models::when(Refusal::OverLimit, 65536 < count, counts);
+    let many = models::when(Refusal::OverLimit, MacaqueV::MOST_VALUES < count, counts);
     models::when(
         Refusal::BoundNotAllowed,
         !models::bound_allowed(error_bound),
@@ -131,8 +131,8 @@ fn start(opening: Opening) -> Cursor
     };
     Cursor {
         last,
-        lead: 255,
-        trail: 0,
+        lead: MacaqueV::OPENING_LEADING,
+        trail: MacaqueV::OPENING_TRAILING,
         place: 0,
         count: 0,
     }

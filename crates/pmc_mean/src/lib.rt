@@ -229,7 +229,7 @@ fn judge_grid(count: usize, room: usize) -> Verdict
     models::when(Refusal::OverLimit, 65536 < count, short)
 }
 
-fn fill(bits: u32, count: usize, out: &mut [u32])
+pub fn fill(bits: u32, count: usize, out: &mut [u32])
     requires { ⌜ count ≤ length (now out) ⌝ }
     ensures { λ _. ⌜ now (out .exit) ≡ filled bits count (now (out .entry)) ⌝ }
 {

@@ -25,7 +25,7 @@ same-itself : (a : ℤ) → sameTime a a ≡ true
 same-itself (pos a) = rw (le-leb a a (omega arith))
 same-itself (negsuc a) = rw (le-leb a a (omega arith))
 
-before-both : (a b c : ℤ) → ltZ a b ≡ true → ltZ b c ≡ true → ltZ a c ≡ true
+pub before-both : (a b c : ℤ) → ltZ a b ≡ true → ltZ b c ≡ true → ltZ a c ≡ true
 before-both (pos a) (pos b) (pos c) p q = lt-ltb a c (omega (arith, ltb-true a b p, ltb-true b c q))
 before-both (pos a) (pos b) (negsuc c) p q = q
 before-both (pos a) (negsuc b) c p q = absurd (false≢true p)

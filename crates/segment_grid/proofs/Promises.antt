@@ -1,0 +1,259 @@
+-- The promises of the calls on a segment: start reading here. `gridAnswer`, `gridMemory` and `sumAnswer` are what the contracts of the calls say that
+-- they answer and leave in the lent output; `ends` is what the parameter bytes read as. Assumes nothing.
+use mathlib.Core.Path.{_≡_, refl, sym, ap, ap₂, _∙_, subst}
+use mathlib.Core.Bool.{Bool, true, false, cond, not, _&&_}
+use mathlib.Core.List.{List, [], _∷_, _++_, append-assoc}
+use Prim.Native.Nat.{ℕ, _+_, _-_, _^_, _<_}
+use native.Mathlib.Omega.{arith}
+use borrow.Author.Tests.{le-ltb, eqb-false, ne-eqb}
+use lib.Dec.{eqb, ltb}
+use lib.IntN.{ℤ}
+use lib.Signed.{ltZ}
+use lib.ListN.{length, take, drop, length-append}
+use lib.Seq.{take-at, drop-at, getD-at}
+use Rattle.bits.specs.Bits.{Below, firstBytes, bytesOf, padded, wholeBytes}
+use Rattle.models.specs.Answers.{Said, answered, refused, Done, Cause, _when_, judge, judged, verdict}
+use Rattle.models.specs.Limits.{mostValues}
+use Rattle.models.specs.declared.ErrorBound.{ErrorBound}
+use Rattle.models.specs.declared.ErrorBound.the-variants.{Lossless}
+use Rattle.models.proofs.Judged.{NoneHolds, none}
+use Rattle.models.proofs.Laws.{and-both}
+use Rattle.models.proofs.Judged as judging
+use Rattle.stream.specs.Format.{Stream, fresh}
+use Rattle.stream.specs.Write.{keptFrom, encode, written, streamOf}
+use Rattle.stream.specs.Read.{readAll}
+use Rattle.stream.proofs.Formats.{macaque-good}
+use Rattle.stream.proofs.Holds.{padded-back}
+use Rattle.stream.proofs.Reopen.{fresh-read}
+use Rattle.coding.specs.Keep.{keepRule}
+use Rattle.coding.proofs.Keeping.{keeps}
+use Rattle.macaque_v.specs.State as macaque-v
+use Rattle.macaque_v.specs.State.{streamIn, opened}
+use Rattle.macaque_v.specs.Read as stream
+use Rattle.macaque_v.specs.Read.{valuesRead, valuesIn, drawn, drawnIn}
+use Rattle.macaque_v.specs.Made.{Made}
+use Rattle.macaque_v.specs.declared.MacaqueV.{MacaqueV}
+use Rattle.macaque_v.specs.declared.Opening.the-variants.{On}
+use Rattle.macaque_v.proofs.Promises.{keptOf, lossless-keeps-the-inputs}
+use Rattle.lines.specs.Times.{timeAllowed, inOrder}
+use Rattle.lines.specs.Values.{inTime, noLine}
+use Rattle.lines.specs.declared.Point.{Point}
+use Rattle.lines.proofs.Ordered.{in-order-at}
+use Rattle.pmc_mean.specs.Grid as pmc-mean
+use Rattle.swing.specs.Grid as swing
+use Rattle.parameters.specs.Forms.{Ends}
+use Rattle.segment_grid.specs.Segment.{countIn, streamBytes, residualsIn, given, owned, ownedTimes, isSwing, startOf, endOf, modelValues, modelSum}
+use Rattle.segment_grid.specs.Calls.{formWrong, gridCauses, sumCauses, behind, segmentValues, gridAnswer, gridMemory, plus, withResiduals, residualSum, segmentSum, sumAnswer}
+use Rattle.segment_grid.proofs.Owned.{length-owned, length-model, Clear, clear, no-room-asked, in-order-later, in-order-take, neither}
+use Rattle.segment_grid.proofs.Counted.{as-many-values}
+
+-- ---- what is drawn
+
+never : {A : Type 0} (n : ℕ) (a : A) → _≡_ {A = Said A} (refused n) (answered a) → ⊥
+never n a e = let z : _≡_ {A = ℕ} 0 1 = cc in omega arith
+
+-- no cause held, and what was left to answer is answered
+only-accepted : (causes : List Cause) (x : Said Done) → judge refused causes x ≡ answered tt → (verdict causes ≡ answered tt) × (x ≡ answered tt)
+unfolding judge
+only-accepted [] x h = (refl, h)
+only-accepted (n when true ∷ causes) x h = absurd (never n tt h)
+only-accepted (n when false ∷ causes) x h = only-accepted causes x h
+
+-- the residual stream was read
+was-read : (ms : List ℕ) (q : Said (List ℕ)) → drawn (behind ms q) ≡ answered tt → (vs : List ℕ) × (q ≡ answered vs)
+was-read ms (answered vs) h = (vs, refl)
+was-read ms (refused n) h = absurd (never n tt h)
+
+module _ (model : ℕ) (ts : List ℤ) (ends : Said Ends) (residuals out : List ℕ) where
+  -- a segment that no cause refuses, and whose residual stream reads as vs: the model's values, then these; later places stay
+  pub drawn-with : (vs : List ℕ) → verdict (gridCauses model ts ends residuals (length out)) ≡ answered tt → residualsIn residuals (given ends .1) ≡ answered vs
+      → (gridAnswer model ts ends residuals (length out) ≡ answered tt)
+      × (gridMemory model ts ends residuals out ≡ modelValues model (ownedTimes ts residuals) (given ends) ++ vs ++ drop (length ts) out)
+  unfolding gridAnswer gridMemory
+  drawn-with vs free reads =
+      let causes : List Cause = gridCauses model ts ends residuals (length out) in
+      let ms : List ℕ = modelValues model (ownedTimes ts residuals) (given ends) in
+      let all : segmentValues model ts (given ends) residuals ≡ answered (ms ++ vs) = ap (behind ms) reads in
+      let held : length vs ≡ countIn residuals = as-many-values (streamBytes residuals) (countIn residuals) (On (given ends .1)) vs reads in
+      let many : length (ms ++ vs) ≡ length ts =
+      omega (arith, length-append ms vs, length-model model (ownedTimes ts residuals) (given ends), length-owned ts residuals, held, (clear model ts ends residuals (length out) free) .some) in (
+        sym (judging.accepted refused (drawn (segmentValues model ts (given ends) residuals)) causes (none causes free)) ∙ ap drawn all,
+        sym (judging.accepted (λ (n : ℕ). out) (drawnIn out (segmentValues model ts (given ends) residuals)) causes (none causes free))
+            ∙ ap (drawnIn out) all ∙ ap (λ (n : ℕ). (ms ++ vs) ++ drop n out) many,
+      )
+
+  module _ (h : gridAnswer model ts ends residuals (length out) ≡ answered tt) where
+    free-of-causes : (verdict (gridCauses model ts ends residuals (length out)) ≡ answered tt) × (drawn (segmentValues model ts (given ends) residuals) ≡ answered tt)
+    unfolding gridAnswer
+    free-of-causes = only-accepted (gridCauses model ts ends residuals (length out)) (drawn (segmentValues model ts (given ends) residuals)) h
+
+    -- an accepted grid begins with the model's values at the times that it owns
+    pub the-models-part : take (owned ts residuals) (gridMemory model ts ends residuals out) ≡ modelValues model (ownedTimes ts residuals) (given ends)
+    the-models-part =
+        let ms : List ℕ = modelValues model (ownedTimes ts residuals) (given ends) in
+        let r = was-read ms (residualsIn residuals (given ends .1)) (free-of-causes .1) in
+        let many : length ms ≡ owned ts residuals = length-model model (ownedTimes ts residuals) (given ends) ∙ length-owned ts residuals in
+        ap (take (owned ts residuals)) (drawn-with (r .0) (free-of-causes .0) (r .1) .1 ∙ append-assoc ms (r .0) (drop (length ts) out))
+        ∙ take-at ms (r .0 ++ drop (length ts) out) (owned ts residuals) many
+
+    -- and its residual part is the stream's own reading: "The reader opens on the decoded last value", not on the last that is drawn
+    pub the-residual-part : valuesIn (streamBytes residuals) (countIn residuals) (On (given ends .1))
+        ≡ answered (take (countIn residuals) (drop (owned ts residuals) (gridMemory model ts ends residuals out)))
+    the-residual-part =
+        let ms : List ℕ = modelValues model (ownedTimes ts residuals) (given ends) in
+        let r = was-read ms (residualsIn residuals (given ends .1)) (free-of-causes .1) in
+        let vs : List ℕ = r .0 in
+        let many : length ms ≡ owned ts residuals = length-model model (ownedTimes ts residuals) (given ends) ∙ length-owned ts residuals in
+        let held : length vs ≡ countIn residuals = as-many-values (streamBytes residuals) (countIn residuals) (On (given ends .1)) vs (r .1) in
+        let rest : drop (owned ts residuals) (gridMemory model ts ends residuals out) ≡ vs ++ drop (length ts) out =
+        ap (drop (owned ts residuals)) (drawn-with vs (free-of-causes .0) (r .1) .1 ∙ append-assoc ms vs (drop (length ts) out))
+        ∙ drop-at ms (vs ++ drop (length ts) out) (owned ts residuals) many in
+        r .1 ∙ ap answered (sym (ap (take (countIn residuals)) rest ∙ take-at vs (drop (length ts) out) (countIn residuals) held))
+
+-- ---- what was written reads back
+
+-- the residual bytes hold the stream that one fresh run wrote of xs, opened on the model's last value, and then their count
+pub record Stored (b : ErrorBound) (last : ℕ) (xs residuals : List ℕ) : Type 0 where
+  pub stream : streamBytes residuals ≡ streamOf (keepRule b) (streamIn false) last xs
+  pub count : countIn residuals ≡ length xs
+
+-- "then one count byte"
+pub counted : (stream : List ℕ) (n : ℕ) → (streamBytes (stream ++ (n ∷ [])) ≡ stream) × (countIn (stream ++ (n ∷ [])) ≡ n)
+counted stream n =
+    let bytes : List ℕ = stream ++ (n ∷ []) in
+    let at : length stream ≡ length bytes - 1 = omega (arith, length-append stream (n ∷ [])) in
+    (take-at stream (n ∷ []) (length bytes - 1) at, getD-at stream n [] 0 (length bytes - 1) at)
+
+nothing-written : {A : Type 0} (rule : ℕ → ℕ → ℕ) (S : Stream A) (l : ℕ) → streamOf rule S l [] ≡ []
+unfolding firstBytes bytesOf padded encode keptFrom
+nothing-written rule S l = refl
+
+-- "No residuals, no byte." These are the residual bytes of one fresh run over xs.
+pub stored : (b : ErrorBound) (last : ℕ) (xs : List ℕ)
+    → Stored b last xs (cond (eqb (length xs) 0) [] (streamOf (keepRule b) (streamIn false) last xs ++ (length xs ∷ [])))
+stored b last [] = record { stream = sym (nothing-written (keepRule b) (streamIn false) last); count = refl }
+stored b last (x ∷ xs) =
+    let bytes : List ℕ = streamOf (keepRule b) (streamIn false) last (x ∷ xs) in
+    let c = counted bytes (length (x ∷ xs)) in
+    subst (λ (none : Bool). Stored b last (x ∷ xs) (cond none [] (bytes ++ (length (x ∷ xs) ∷ [])))) (sym (ne-eqb (length (x ∷ xs)) 0 (λ e. absurd (omega (arith, e))))) (record { stream = c .0; count = c .1 })
+
+-- so are those in a buffer that any chain of writes, stops and resumes has made, and the count behind them
+pub stored-by-a-writer : (b : ErrorBound) (last : ℕ) (xs buf : List ℕ) (m : MacaqueV) → Made b (On last) xs buf m
+    → Stored b last xs (take (wholeBytes (m .place)) buf ++ (length xs ∷ []))
+stored-by-a-writer b last xs buf m M =
+    let c = counted (take (wholeBytes (m .place)) buf) (length xs) in
+    record { stream = c .0 ∙ M .bytes; count = c .1 }
+
+-- 9 is no cause for them, where the parameter bytes read
+pub stored-as-allowed : (b : ErrorBound) (last : ℕ) (xs : List ℕ) (ends : Ends)
+    → formWrong (answered ends) (cond (eqb (length xs) 0) [] (streamOf (keepRule b) (streamIn false) last xs ++ (length xs ∷ []))) ≡ false
+stored-as-allowed b last [] ends = refl
+stored-as-allowed b last (x ∷ xs) ends =
+    let bytes : List ℕ = cond (eqb (length (x ∷ xs)) 0) [] (streamOf (keepRule b) (streamIn false) last (x ∷ xs) ++ (length (x ∷ xs) ∷ [])) in
+    let some : eqb (countIn bytes) 0 ≡ false = ne-eqb (countIn bytes) 0 (λ e. absurd (omega (arith, e, (stored b last (x ∷ xs)) .count))) in
+    neither-way (not (eqb (length bytes) 0)) (eqb (countIn bytes) 0) some
+  where
+    neither-way : (p q : Bool) → q ≡ false → (p && q) ≡ false
+    neither-way true q h = h
+    neither-way false q h = refl
+
+-- they read as what was kept
+reads-as-kept : (b : ErrorBound) (last : ℕ) (xs : List ℕ) → Below 32 xs → last < 2 ^ 32
+    → valuesIn (streamOf (keepRule b) (streamIn false) last xs) (length xs) (On last) ≡ answered (keptOf b (On last) xs)
+reads-as-kept b last xs small low =
+    let S : Stream macaque-v.Ends = streamIn false in
+    ap valuesRead
+    (ap (readAll S (length xs) (opened (On last))) (padded-back (written (keepRule b) S (fresh S last) xs))
+    ∙ fresh-read S macaque-good last low (keepRule b) (keeps b 32) xs small)
+
+module _ (b : ErrorBound) (model : ℕ) (ts : List ℤ) (first last : ℕ) (xs residuals out : List ℕ) (S : Stored b last xs residuals) (small : Below 32 xs) (low : last < 2 ^ 32)
+    (ends : Said Ends) (e : ends ≡ answered (first, last)) (free : verdict (gridCauses model ts ends residuals (length out)) ≡ answered tt) where
+  -- where the parameter bytes read as the model's ends and no cause holds, the grid is accepted, whatever the bound: the drawn values at the model's
+  -- timestamps, and then the kept residuals bit for bit
+  pub a-segment-reads-back : (gridAnswer model ts ends residuals (length out) ≡ answered tt)
+      × (gridMemory model ts ends residuals out ≡ modelValues model (take (length ts - length xs) ts) (first, last) ++ keptOf b (On last) xs ++ drop (length ts) out)
+  a-segment-reads-back =
+      let known : given ends ≡ (first, last) = ap given e in
+      let reads : residualsIn residuals (given ends .1) ≡ answered (keptOf b (On last) xs) =
+      ap (λ (e : Ends). residualsIn residuals (e .1)) known
+      ∙ ap₂ (λ (bytes : List ℕ) (n : ℕ). valuesIn bytes n (On last)) (S .stream) (S .count)
+      ∙ reads-as-kept b last xs small low in
+      let w = drawn-with model ts ends residuals out (keptOf b (On last) xs) free reads in
+      (w .0, w .1 ∙ ap₂ (λ (n : ℕ) (e : Ends). modelValues model (take (length ts - n) ts) e ++ keptOf b (On last) xs ++ drop (length ts) out) (S .count) known)
+
+-- and lossless as the residuals handed in
+pub lossless-reads-back : (model : ℕ) (ts : List ℤ) (first last : ℕ) (xs residuals out : List ℕ) → Stored Lossless last xs residuals → Below 32 xs → last < 2 ^ 32
+    → (ends : Said Ends) → ends ≡ answered (first, last) → verdict (gridCauses model ts ends residuals (length out)) ≡ answered tt
+    → (gridAnswer model ts ends residuals (length out) ≡ answered tt)
+    × (gridMemory model ts ends residuals out ≡ modelValues model (take (length ts - length xs) ts) (first, last) ++ xs ++ drop (length ts) out)
+lossless-reads-back model ts first last xs residuals out S small low ends e free =
+    let w = a-segment-reads-back Lossless model ts first last xs residuals out S small low ends e free in
+    (w .0, w .1 ∙ ap (λ (vs : List ℕ). modelValues model (take (length ts - length xs) ts) (first, last) ++ vs ++ drop (length ts) out) (lossless-keeps-the-inputs (On last) xs))
+
+-- ---- sums
+
+has-an-answer : (causes : List Cause) (sum : ℕ) → NoneHolds causes → (v : ℕ) × (judged causes sum ≡ answered v)
+has-an-answer causes sum free = (sum, sym (judging.accepted refused (answered sum) causes free))
+
+module _ (model : ℕ) (ts : List ℤ) (ends : Said Ends) (residuals : List ℕ) (h : verdict (sumCauses model ts ends residuals) ≡ answered tt) where
+  abbrev times : List ℤ
+  times = ownedTimes ts residuals
+
+  abbrev a : Point
+  a = startOf times (given ends)
+
+  abbrev b : Point
+  b = endOf times (given ends)
+
+  asked : Clear ts residuals (length ts)
+  asked = clear model ts ends residuals (length ts) (no-room-asked model ts ends residuals refused (answered tt) ∙ h)
+
+  ordered : inOrder times ≡ true
+  ordered = in-order-take (owned ts residuals) ts (asked .ordered)
+
+  few : ltb mostValues (length times) ≡ false
+  few = le-ltb mostValues (length times) (omega (arith, length-owned ts residuals, asked .few))
+
+  -- the line of a Swing segment that nothing refuses: its end is after its start, and it can be drawn
+  pub a-swing-has-a-line : isSwing model ≡ true → (inTime a b ≡ true) × (noLine a b ≡ false)
+  unfolding inTime
+  a-swing-has-a-line e =
+      let c = none (sumCauses model ts ends residuals) h in
+      let last : ℕ = length times - 1 in
+      let more : owned ts residuals ≡ 1 → ⊥ = eqb-false (owned ts residuals) 1 (past e (neither (not (inOrder ts)) (isSwing model && eqb (owned ts residuals) 1) (c .1 .1 .0) .1)) in
+      let far : 0 < last = omega (arith, length-owned ts residuals, asked .some, more) in
+      let within : last < length times = omega arith in (
+        and-both (timeAllowed (a .time)) (timeAllowed (b .time) && ltZ (a .time) (b .time)) (in-order-at times 0 ordered (omega arith))
+            (and-both (timeAllowed (b .time)) (ltZ (a .time) (b .time)) (in-order-at times last ordered within) (in-order-later times last ordered far within)),
+        past e (c .1 .1 .1 .1 .0),
+      )
+    where
+      past : {x y : Bool} → x ≡ true → (x && y) ≡ false → y ≡ false
+      past {x} {y} e h = sym (ap (λ (z : Bool). z && y) e) ∙ h
+
+  -- the model has a sum, in either form: after the causes, what is refused is the residual stream alone
+  pub the-model-has-a-sum : (form : Bool) → (sum : ℕ) × (modelSum form model times (given ends) ≡ answered sum)
+  unfolding modelSum pmc-mean.sumAnswer swing.averageAnswer swing.sumAnswer
+  the-model-has-a-sum form = go (isSwing model) refl form
+    where
+      go : (s : Bool) → isSwing model ≡ s → (form : Bool)
+          → (sum : ℕ) × (cond s (cond form (swing.averageAnswer a b (length times)) (swing.sumAnswer a b times)) (pmc-mean.sumAnswer (length times) (given ends .0)) ≡ answered sum)
+      go false e form = has-an-answer (3 when ltb mostValues (length times) ∷ []) _ (few, tt)
+      go true e true =
+          let l = a-swing-has-a-line e in
+          has-an-answer (swing.averageCauses a b (length times)) _ (few, (ap not (l .0), (l .1, tt)))
+      go true e false =
+          let l = a-swing-has-a-line e in
+          has-an-answer (swing.sumCauses a b times) _ (few, (ap not (and-both (inTime a b) (inOrder times) (l .0) ordered), (l .1, tt)))
+
+  -- the residuals that are added are those that a grid draws, from the left, from 0; without any, the model's sum stays as it is
+  pub a-segments-sum : (form : Bool) (vs : List ℕ) → residualsIn residuals (given ends .1) ≡ answered vs
+      → sumAnswer form model ts ends residuals
+      ≡ answered (cond (eqb (countIn residuals) 0) (the-model-has-a-sum form .0) (plus (the-model-has-a-sum form .0) (stream.sumOf false vs)))
+  unfolding sumAnswer stream.sumAnswer judge
+  a-segments-sum form vs reads =
+      let causes : List Cause = sumCauses model ts ends residuals in
+      let count : ltb mostValues (countIn residuals) ≡ false = le-ltb mostValues (countIn residuals) (omega (arith, asked .few, asked .some)) in
+      let rest : residualSum residuals (given ends .1) ≡ answered (stream.sumOf false vs) = rw count (ap (stream.summed false) reads) in
+      sym (judging.accepted refused (segmentSum form model ts (given ends) residuals) causes (none causes h))
+      ∙ ap₂ (withResiduals (countIn residuals)) (the-model-has-a-sum form .1) rest
