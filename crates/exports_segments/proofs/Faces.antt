@@ -61,13 +61,7 @@ module _ (form : Form) (out row : List ℕ) where
       )
 
 -- ---- writing a segment, by the verdict on its causes
-module _
-    (model first last : ℕ)
-    (b : ErrorBound)
-    (xs valuesOut residualsOut row : List ℕ)
-    (v : Verdict)
-    (says : saysVerdict v ≡ verdict (segmentCauses model b xs (length row)))
-where
+module _ (model first last : ℕ) (b : ErrorBound) (xs valuesOut residualsOut row : List ℕ) (v : Verdict) (says : saysVerdict v ≡ verdict (segmentCauses model b xs (length row))) where
   abbrev Left : ℕ → List ℕ → List ℕ → List ℕ → Type 0
   Left n values residuals words =
       (n ≡ segmentNumber model first last b xs valuesOut residualsOut row)
