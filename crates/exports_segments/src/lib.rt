@@ -227,13 +227,6 @@ pub extern "C" fn modelardb_segment_sum_over(
     ensures number { λ r. ⌜ r ≡ sumNumber overTimes model (now (timestamps .entry)) «min_value» «max_value» (now (values .entry)) (now (residuals .entry)) (now (out .entry)) ⌝ }
     ensures row { λ r. ⌜ now (out .exit) ≡ sumOut overTimes model (now (timestamps .entry)) «min_value» «max_value» (now (values .entry)) (now (residuals .entry)) (now (out .entry)) ⌝ }
 {
-    let answer = segment_grid::sum_over(
-        model,
-        timestamps,
-        min_value,
-        max_value,
-        values,
-        residuals,
-    );
+    let answer = segment_grid::sum_over(model, timestamps, min_value, max_value, values, residuals);
     rows::put_value(answer, out)
 }
