@@ -200,4 +200,68 @@ uint32_t modelardb_choose_model(const int64_t *timestamps, size_t timestamps_len
                                 size_t values_length, uint32_t kind, uint32_t bound, size_t m, uint64_t *out,
                                 size_t out_length);
 
+
+/* ---- parameter bytes and segments (rt staticlib exports_segments: target/staticlib/libexports_segments.a)
+ *
+ * A segment stores of its model its least and its greatest value, parameter bytes, and residual bytes: the
+ * values that follow the model's, as a stream that opens on the model's last value, then one byte that
+ * counts them, 1 to 255. No residuals, no byte. Model 0 is PMC-Mean, whose first value is its only one, and 1
+ * is Swing; any other is refused with 3. Values, the least and the greatest are bits of an f32.
+ *
+ * Parameter bytes are 0, 1 or 4 of PMC-Mean's, and 0, 1, 5 or 8 of Swing's; residual bytes are at most 1,436.
+ */
+
+/* out: PMC-Mean's parameter bytes; row[0]: how many they are. The residuals' least and greatest value are
+ * both 7FC00000 where there are none. Refusals: 4 (an empty row, or out). */
+uint32_t modelardb_encode_values_for_pmc_mean(uint32_t value, uint32_t residuals_min_value,
+                                              uint32_t residuals_max_value, uint8_t *out, size_t out_length,
+                                              uint64_t *row, size_t row_length);
+
+/* out: Swing's parameter bytes; row[0]: how many they are. Refusals: 4 (an empty row, or out). */
+uint32_t modelardb_encode_values_for_swing(uint32_t first_value, uint32_t last_value, uint32_t residuals_min_value,
+                                           uint32_t residuals_max_value, uint8_t *out, size_t out_length,
+                                           uint64_t *row, size_t row_length);
+
+/* out[0]: the value that PMC-Mean's parameter bytes give with the segment's least and greatest value.
+ * Refusals: 4; 9. */
+uint32_t modelardb_decode_values_for_pmc_mean(uint32_t min_value, uint32_t max_value, const uint8_t *values,
+                                              size_t values_length, uint32_t *out, size_t out_length);
+
+/* out[0] and out[1]: the first and the last value that Swing's parameter bytes give with the segment's least
+ * and greatest value. Refusals: 4; 9. */
+uint32_t modelardb_decode_values_for_swing(uint32_t min_value, uint32_t max_value, const uint8_t *values,
+                                           size_t values_length, uint32_t *out, size_t out_length);
+
+/* values_out: the parameter bytes; residuals_out: the residual bytes; segment[0] and segment[1]: the least and
+ * the greatest value; segment[2] and segment[3]: how many parameter bytes and how many residual bytes there
+ * are. The bound is the residuals'. Refusals: 1; 3 (model, or over 255 residuals); 4 (a row under four words,
+ * or either output). */
+uint32_t modelardb_segment_write(uint32_t model, uint32_t first_value, uint32_t last_value, uint32_t kind,
+                                 uint32_t bound, const uint32_t *residuals, size_t residuals_length,
+                                 uint8_t *values_out, size_t values_out_length, uint8_t *residuals_out,
+                                 size_t residuals_out_length, uint64_t *segment, size_t segment_length);
+
+/* The reading calls take all timestamps of a segment: the model owns the first ones, the residuals as many of
+ * the last as their count byte says. Their refusals, in this order: 3 (model, or over 65,536 timestamps); 12
+ * (no timestamp left for the model); 4; 10 (a timestamp, or Swing with one only); 9 (the parameter bytes, or a
+ * count byte of 0); 11; then 5 to 8 of the residual stream. */
+
+/* out[0] to out[timestamps_length - 1]: the values, the model's and then the residuals'. */
+uint32_t modelardb_segment_grid(uint32_t model, const int64_t *timestamps, size_t timestamps_length,
+                                uint32_t min_value, uint32_t max_value, const uint8_t *values, size_t values_length,
+                                const uint8_t *residuals, size_t residuals_length, uint32_t *out,
+                                size_t out_length);
+
+/* out[0]: the f32 sum of the values, of Swing's by the average of its ends. */
+uint32_t modelardb_segment_sum_by_average(uint32_t model, const int64_t *timestamps, size_t timestamps_length,
+                                          uint32_t min_value, uint32_t max_value, const uint8_t *values,
+                                          size_t values_length, const uint8_t *residuals, size_t residuals_length,
+                                          uint32_t *out, size_t out_length);
+
+/* out[0]: the f32 sum of the values, of Swing's one by one at its timestamps. */
+uint32_t modelardb_segment_sum_over(uint32_t model, const int64_t *timestamps, size_t timestamps_length,
+                                    uint32_t min_value, uint32_t max_value, const uint8_t *values,
+                                    size_t values_length, const uint8_t *residuals, size_t residuals_length,
+                                    uint32_t *out, size_t out_length);
+
 #endif

@@ -1,0 +1,2 @@
+-- What the proofs of the C face of parameter bytes and segments share.
+pub mod Faces

@@ -1,0 +1,93 @@
+-- What the calls on parameter bytes and segments answer and leave through the C face: the number, and the lent memory afterwards, by what the call behind
+-- says. Assumes nothing.
+use mathlib.Core.Bool.{Bool}
+use mathlib.Core.List.{List, [], _∷_, _++_}
+use Prim.Native.Nat.{ℕ}
+use lib.Dec.{ltb}
+use lib.IntN.{ℤ}
+use lib.ListN.{length, drop}
+use Rattle.models.specs.Answers.{Said, answered, refused, Cause, _when_, judge, judgedMemory}
+use Rattle.models.specs.declared.ErrorBound.{ErrorBound}
+use Rattle.parameters.specs.Forms.{Ends, formBytes}
+use Rattle.parameters.specs.Calls.{lengthAnswer, bytesAfter}
+use Rattle.parameters.specs.declared.Form.{Form}
+use Rattle.segments.specs.Calls.{writeCauses, writeAnswer, valuesAfter, residualsAfter}
+use Rattle.segments.specs.declared.Segment.{Segment}
+use Rattle.segment_grid.specs.Segment.{endsIn}
+use Rattle.segment_grid.specs.Calls.{gridAnswer, gridMemory, sumAnswer}
+use Rattle.exports.specs.Face.{boundOf, numberOf, rowAfter}
+
+-- ---- the words of an answer
+
+-- a value, or how many bytes there are
+abbrev pub oneWord : ℕ → List ℕ
+oneWord w = w ∷ []
+
+-- a line's first and last value
+abbrev pub endsWords : Ends → List ℕ
+endsWords ends = ends .0 ∷ ends .1 ∷ []
+
+-- a segment's least and greatest value, and how many bytes each of its outputs took
+abbrev pub segmentWords : Segment → List ℕ
+segmentWords s = s .«min_value» ∷ s .«max_value» ∷ s .«values_length» ∷ s .«residuals_length» ∷ []
+
+-- ---- of what a call says: the number, and the row with the words at its front
+
+abbrev pub numberIn : {A : Type 0} → Said A → ℕ
+numberIn (answered x) = 0
+numberIn (refused n) = n
+
+abbrev pub rowIn : {A : Type 0} → (A → List ℕ) → List ℕ → Said A → List ℕ
+rowIn words row (answered x) = words x ++ drop (length (words x)) row
+rowIn words row (refused n) = row
+
+-- a row of `room` words that is lent for `need` of them beside other outputs is one of the lent outputs: 4 is judged before any of them is touched
+abbrev pub rowShort : ℕ → ℕ → Cause
+rowShort need room = 4 when ltb room need
+
+-- ---- encode: the bytes of a form, and the row that takes their number
+
+unfoldable pub encodeNumber : Form → List ℕ → List ℕ → ℕ
+encodeNumber form out row = judge (λ (n : ℕ). n) (rowShort 1 (length row) ∷ []) (numberIn (lengthAnswer (formBytes form) out))
+
+unfoldable pub encodeOut : Form → List ℕ → List ℕ → List ℕ
+encodeOut form out row = judgedMemory out (rowShort 1 (length row) ∷ []) (bytesAfter (formBytes form) out)
+
+unfoldable pub encodeRow : Form → List ℕ → List ℕ → List ℕ
+encodeRow form out row = judgedMemory row (rowShort 1 (length row) ∷ []) (rowIn oneWord row (lengthAnswer (formBytes form) out))
+
+-- ---- writing a segment: 1, 3, then 4 for the row, then what the call behind says, which is 4 for the other two outputs
+
+abbrev pub segmentCauses : ℕ → ErrorBound → List ℕ → ℕ → List Cause
+segmentCauses model b xs room = writeCauses model b xs ++ (rowShort 4 room ∷ [])
+
+unfoldable pub segmentNumber : ℕ → ℕ → ℕ → ErrorBound → List ℕ → List ℕ → List ℕ → List ℕ → ℕ
+segmentNumber model first last b xs valuesOut residualsOut row =
+    judge (λ (n : ℕ). n) (segmentCauses model b xs (length row)) (numberIn (writeAnswer model first last b xs valuesOut residualsOut))
+
+unfoldable pub segmentValuesOut : ℕ → ℕ → ℕ → ErrorBound → List ℕ → List ℕ → List ℕ → List ℕ → List ℕ
+segmentValuesOut model first last b xs valuesOut residualsOut row =
+    judgedMemory valuesOut (segmentCauses model b xs (length row)) (valuesAfter model first last b xs valuesOut residualsOut)
+
+unfoldable pub segmentResidualsOut : ℕ → ℕ → ℕ → ErrorBound → List ℕ → List ℕ → List ℕ → List ℕ → List ℕ
+segmentResidualsOut model first last b xs valuesOut residualsOut row =
+    judgedMemory residualsOut (segmentCauses model b xs (length row)) (residualsAfter model first last b xs valuesOut residualsOut)
+
+unfoldable pub segmentRow : ℕ → ℕ → ℕ → ErrorBound → List ℕ → List ℕ → List ℕ → List ℕ → List ℕ
+segmentRow model first last b xs valuesOut residualsOut row =
+    judgedMemory row (segmentCauses model b xs (length row)) (rowIn segmentWords row (writeAnswer model first last b xs valuesOut residualsOut))
+
+-- ---- a segment's grid and sum, of its parameter bytes as they read against its least and greatest value
+
+unfoldable pub gridNumber : ℕ → List ℤ → ℕ → ℕ → List ℕ → List ℕ → List ℕ → ℕ
+gridNumber model ts min max values residuals out = numberIn (gridAnswer model ts (endsIn model min max values) residuals (length out))
+
+unfoldable pub gridOut : ℕ → List ℤ → ℕ → ℕ → List ℕ → List ℕ → List ℕ → List ℕ
+gridOut model ts min max values residuals out = gridMemory model ts (endsIn model min max values) residuals out
+
+-- the output is judged in its place in 01's order: after 3 and 12, before 10, 9, 11 and the residual stream's own
+unfoldable pub sumNumber : Bool → ℕ → List ℤ → ℕ → ℕ → List ℕ → List ℕ → List ℕ → ℕ
+sumNumber form model ts min max values residuals out = numberOf 1 (length out) (sumAnswer form model ts (endsIn model min max values) residuals)
+
+unfoldable pub sumOut : Bool → ℕ → List ℤ → ℕ → ℕ → List ℕ → List ℕ → List ℕ → List ℕ
+sumOut form model ts min max values residuals out = rowAfter 1 oneWord out (sumAnswer form model ts (endsIn model min max values) residuals)

@@ -1,0 +1,2 @@
+-- How parameter bytes and segments cross the C face.
+pub mod Calls
