@@ -15,7 +15,7 @@ use Rattle.segments.specs.Calls.{writeCauses, writeAnswer, valuesAfter, residua
 use Rattle.segments.specs.declared.Segment.{Segment}
 use Rattle.segment_grid.specs.Segment.{endsIn}
 use Rattle.segment_grid.specs.Calls.{gridAnswer, gridMemory, sumAnswer}
-use Rattle.exports.specs.Face.{boundOf, numberOf, rowAfter}
+use Rattle.exports.specs.Face.{numberOf, rowAfter}
 
 -- ---- the words of an answer
 

@@ -1,6 +1,6 @@
 -- `exports_segments::modelardb_segment_grid` meets its contract, by what the call behind it said. Assumes nothing.
 use borrow.Author.Needs.{needs}
-use mathlib.Core.Path.{_≡_, sym, ap, _∙_}
+use mathlib.Core.Path.{sym, ap, _∙_}
 use Rattle.models.specs.Calls.{saysGrid}
 use Rattle.models.specs.declared.GridAnswer.{GridAnswer}
 use Rattle.exports_segments.specs.Calls.{numberIn, gridNumber, gridOut}

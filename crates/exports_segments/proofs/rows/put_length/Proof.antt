@@ -1,6 +1,6 @@
 -- `exports_segments::rows::put_length` meets its contract, case by case. Assumes nothing.
 use borrow.Author.Needs.{needs}
-use mathlib.Core.Path.{_≡_, sym, ap, _∙_}
+use mathlib.Core.Path.{sym, ap, _∙_}
 use Rattle.parameters.specs.Calls.{saysLength}
 use Rattle.parameters.specs.declared.LengthAnswer.{LengthAnswer}
 use Rattle.exports_segments.specs.Calls.{oneWord, numberIn, rowIn}

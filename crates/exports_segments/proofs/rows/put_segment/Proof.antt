@@ -1,6 +1,6 @@
 -- `exports_segments::rows::put_segment` meets its contract, case by case. Assumes nothing.
 use borrow.Author.Needs.{needs}
-use mathlib.Core.Path.{_≡_, sym, ap, _∙_}
+use mathlib.Core.Path.{sym, ap, _∙_}
 use Rattle.segments.specs.Calls.{saysSegment}
 use Rattle.segments.specs.declared.SegmentAnswer.{SegmentAnswer}
 use Rattle.exports_segments.specs.Calls.{segmentWords, numberIn, rowIn}
