@@ -84,6 +84,123 @@ uint32_t modelardb_macaque_v_grid(const uint8_t *bytes, size_t bytes_length, siz
 uint32_t modelardb_macaque_v_sum(const uint8_t *bytes, size_t bytes_length, size_t count, uint32_t mode,
                                  uint32_t opening, uint32_t *out, size_t out_length);
 
+/* ---- PMC-Mean: one value for a run of values, as long as it is within the bound of the least and the greatest
+ * (this part and Swing's: rt staticlib exports_fit, target/staticlib/libexports_fit.a)
+ *
+ * A state is a row of seven words; words behind them are not looked at, and stay:
+ *
+ *    0  the bound's kind              4  the f64 sum of the values
+ *    1  the bits of its f32           5  the length: how many values the model stands for
+ *    2  the f32 of the least value    6  set by a step: 1 where the value fitted, 0 where it did not
+ *    3  the f32 of the greatest
+ *
+ * A row may be used, else 2, if words 2 and 3 have at most 32 bits and the length is at most 65,536. A bound in
+ * words of more than 32 bits is refused with 1, as any that is not allowed. Of a row under seven words no state
+ * can be read: 4 before anything else is judged. Word 6 is never looked at.
+ */
+
+/* state: PMC-Mean before any value. Refusals: 1; 4. */
+uint32_t modelardb_pmc_mean_new(uint32_t kind, uint32_t bound, uint64_t *state, size_t state_length);
+
+/* Tries one more value, the f32 of these bits. state: the model with it and 1 in word 6, or, where it does not
+ * fit, the same model and 0 in word 6. Refusals: 4 (row) first; then 1; 2; 3 (a model of 65,536 values). */
+uint32_t modelardb_pmc_mean_fit_value(uint64_t *state, size_t state_length, uint32_t value);
+
+/* out[0]: the f32 bytes for each value, with metadata of m bytes, 1 to 65,535. Refusals: 4 (row) first; then 1;
+ * 2; 3 (m); 4 (out); 11. */
+uint32_t modelardb_pmc_mean_bytes_per_value(const uint64_t *state, size_t state_length, size_t m, uint32_t *out,
+                                            size_t out_length);
+
+/* out[0]: the f32 that stands for the values. Refusals: 4 (row) first; then 1; 2; 4 (out); 11. */
+uint32_t modelardb_pmc_mean_model(const uint64_t *state, size_t state_length, uint32_t *out, size_t out_length);
+
+/* out[0]: the f32 sum of `count` such values. Refusals: 3 (count above 65,536); 4. */
+uint32_t modelardb_pmc_mean_sum(size_t count, uint32_t value, uint32_t *out, size_t out_length);
+
+/* out[0] to out[count - 1]: the value. Refusals: 3 (count above 65,536); 4. */
+uint32_t modelardb_pmc_mean_grid(uint32_t value, size_t count, uint32_t *out, size_t out_length);
+
+/* ---- Swing: a line from the first point of a run on that passes each later one within the bound
+ *
+ * Timestamps lie from -2^52 to 2^52 and increase strictly, else 10. A state is a row of thirteen words; words
+ * behind them are not looked at, and stay:
+ *
+ *    0  the bound's kind              7  the f64 slope of the lower line
+ *    1  the bits of its f32           8  its f64 intercept
+ *    2  the first time                9  the f64 numerator of the slope with the least error
+ *    3  the last time                10  its f64 denominator
+ *    4  the f64 of the first value   11  the length: how many points the model stands for
+ *    5  the f64 slope of the upper   12  set by a step: 1 where the point fitted, 0 where it did not
+ *       line
+ *    6  its f64 intercept
+ *
+ * Times are in two's complement. A row may be used, else 2, if the length is at most 65,536 and, at length 1,
+ * the times are equal, at length 2 or more, the first is before the last, both within the limits. The bound, a
+ * row under thirteen words and word 12 are as with PMC-Mean.
+ */
+
+/* state: Swing before any point. Refusals: 1; 4. */
+uint32_t modelardb_swing_new(uint32_t kind, uint32_t bound, uint64_t *state, size_t state_length);
+
+/* Tries one more point. state: the model with it and 1 in word 12, or, where it does not fit, the same model and
+ * 0 in word 12. Refusals: 4 (row) first; then 1; 2; 3 (a model of 65,536 points); 10. */
+uint32_t modelardb_swing_fit_data_point(uint64_t *state, size_t state_length, int64_t timestamp, uint32_t value);
+
+/* out[0]: the f32 bytes for each value, with metadata of m bytes, 1 to 65,535, and one byte more. Refusals: 4
+ * (row) first; then 1; 2; 3 (m); 4 (out); 11. */
+uint32_t modelardb_swing_bytes_per_value(const uint64_t *state, size_t state_length, size_t m, uint32_t *out,
+                                         size_t out_length);
+
+/* out[0], out[1]: the f32 of the line's first and of its last value. Refusals: 4 (row) first; then 1; 2; 4 (out);
+ * 11. */
+uint32_t modelardb_swing_model(const uint64_t *state, size_t state_length, uint32_t *out, size_t out_length);
+
+/* The line through (start_time, first_value) and (end_time, last_value), two f32: its values' f32 sum into out[0],
+ * by the average of its ends for `count` values. Refusals: 3 (count above 65,536); 4; 10; 11. */
+uint32_t modelardb_swing_sum_by_average(int64_t start_time, int64_t end_time, uint32_t first_value,
+                                        uint32_t last_value, size_t count, uint32_t *out, size_t out_length);
+
+/* The same, by adding up its values at the timestamps. Refusals: 3 (over 65,536 timestamps); 4; 10; 11. */
+uint32_t modelardb_swing_sum_over(int64_t start_time, int64_t end_time, uint32_t first_value, uint32_t last_value,
+                                  const int64_t *timestamps, size_t timestamps_length, uint32_t *out,
+                                  size_t out_length);
+
+/* out[0] on: the line's value at each timestamp. Refusals: 3 (over 65,536 timestamps); 4; 10; 11. */
+uint32_t modelardb_swing_grid(int64_t start_time, int64_t end_time, uint32_t first_value, uint32_t last_value,
+                              const int64_t *timestamps, size_t timestamps_length, uint32_t *out, size_t out_length);
+
+/* ---- the choice between the two (rt staticlib exports_choice, target/staticlib/libexports_choice.a)
+ *
+ * A builder is a row of twenty words: the seven of a PMC-Mean state, then the thirteen of a Swing state. Words 6
+ * and 19 are part of it: 1 where the model stands for all points so far, 0 where it has failed and is not tried
+ * again; any other word there is refused with 2. A step fits where one of the two is 1 after it. A model that has
+ * failed causes no refusal of a step. Of a row under twenty words no builder can be read: 4 before anything else.
+ *
+ * The model that is chosen is five words: 0 for PMC-Mean or 1 for Swing; its length; the bits of its first and of
+ * its last value, which for PMC-Mean are the same; the bits of its f32 bytes for each value.
+ */
+
+/* state: a builder before any point. Refusals: 1; 4. */
+uint32_t modelardb_model_builder_new(uint32_t kind, uint32_t bound, uint64_t *state, size_t state_length);
+
+/* Tries one more point with each model that has not failed. state: the builder after it. Refusals: 4 (row) first;
+ * then 1; 2; 3 (a model of 65,536 points); 10. */
+uint32_t modelardb_model_builder_try_to_update_models(uint64_t *state, size_t state_length, int64_t timestamp,
+                                                      uint32_t value);
+
+/* out[0] to out[4]: the model that needs fewer bytes for each value, with metadata of m bytes, 1 to 65,535.
+ * Refusals: 4 (row) first; then 1; 2; 3 (m); 4 (out); 11 (a model of length 0). */
+uint32_t modelardb_model_builder_finish(const uint64_t *state, size_t state_length, size_t m, uint64_t *out,
+                                        size_t out_length);
+
+/* out[0] to out[4]: the model chosen for the points from the first one on, each model fitted until it fails.
+ * Refusals: 1; 3 (over 65,536 values, or m); 12 (unequal lengths); 4; 10 (all timestamps are judged); 11 (no
+ * values). */
+uint32_t modelardb_choose_model(const int64_t *timestamps, size_t timestamps_length, const uint32_t *values,
+                                size_t values_length, uint32_t kind, uint32_t bound, size_t m, uint64_t *out,
+                                size_t out_length);
+
+
 /* ---- parameter bytes and segments (rt staticlib exports_segments: target/staticlib/libexports_segments.a)
  *
  * A segment stores of its model its least and its greatest value, parameter bytes, and residual bytes: the

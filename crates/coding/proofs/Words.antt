@@ -58,39 +58,51 @@ module _ (word left : ℕ) (h : left ≤ 45) where
 
 -- ---- the bits ahead
 
-module _ (bytes : List ℕ) (place left : ℕ) (h : place + left ≤ 8 * length bytes) (most : left ≤ 45) where
+module _ (bytes : List ℕ) (place n : ℕ) (h : place + n ≤ 8 * length bytes) (most : n ≤ 64) where
   rest-long : length (drop place (bitsOf bytes)) ≡ 8 * length bytes - place
-  rest-long = length-drop place (bitsOf bytes) ∙ ap (λ (n : ℕ). n - place) (length-bitsOf bytes)
+  rest-long = length-drop place (bitsOf bytes) ∙ ap (λ (k : ℕ). k - place) (length-bitsOf bytes)
 
-  moved : bitsIn ((fieldAt place left (bitsOf bytes) * 2 ^ (64 - left)) % 2 ^ 64) left ≡ take left (drop place (bitsOf bytes))
+  -- n bits from the place on, moved to the top of a word
+  moved : take n (field 64 (fieldAt place n (bitsOf bytes) * 2 ^ (64 - n))) ≡ take n (drop place (bitsOf bytes))
   moved =
-      let v : ℕ = fieldAt place left (bitsOf bytes) in
-      let m : ℕ = 64 - left in
-      let e : left + m ≡ 64 = omega arith in
-      let long : length (take left (drop place (bitsOf bytes))) ≡ left = length-take-le left (drop place (bitsOf bytes)) (omega (arith, rest-long)) in
-      ap (λ (n : ℕ). bitsIn n left) (shl-exact left m 64 (fieldAt-lt place left (bitsOf bytes)) (omega arith))
-      ∙ ap (λ (n : ℕ). take left (field n (v * 2 ^ m))) (sym e)
-      ∙ ap (take left) (field-split left m (v * 2 ^ m))
-      ∙ take-at (field left (v * 2 ^ m / 2 ^ m)) (field m (v * 2 ^ m)) left (length-field left (v * 2 ^ m / 2 ^ m))
-      ∙ ap (field left) (shl-shr v m)
-      ∙ ap (λ (n : ℕ). field n v) (sym long)
-      ∙ field-value (take left (drop place (bitsOf bytes)))
+      let v : ℕ = fieldAt place n (bitsOf bytes) in
+      let m : ℕ = 64 - n in
+      let e : n + m ≡ 64 = omega arith in
+      let long : length (take n (drop place (bitsOf bytes))) ≡ n = length-take-le n (drop place (bitsOf bytes)) (omega (arith, rest-long)) in
+      ap (λ (k : ℕ). take n (field k (v * 2 ^ m))) (sym e)
+      ∙ ap (take n) (field-split n m (v * 2 ^ m))
+      ∙ take-at (field n (v * 2 ^ m / 2 ^ m)) (field m (v * 2 ^ m)) n (length-field n (v * 2 ^ m / 2 ^ m))
+      ∙ ap (field n) (shl-shr v m)
+      ∙ ap (λ (k : ℕ). field k v) (sym long)
+      ∙ field-value (take n (drop place (bitsOf bytes)))
 
-  pub ahead-is : (v : ℕ) → v ≡ fieldAt place left (bitsOf bytes) → (left ≡ 45) ⊎ (place + left ≡ 8 * length bytes)
-      → IsAhead bytes place (record { word = (v * 2 ^ (64 - left)) % 2 ^ 64; left = left })
-  ahead-is v e w =
+  -- of 45 bits or more, the first 45
+  pub ahead-of-more : (word : ℕ) → word ≡ fieldAt place n (bitsOf bytes) * 2 ^ (64 - n) → 45 ≤ n → IsAhead bytes place (record { word = word; left = 45 })
+  ahead-of-more word e w =
       record {
-        bits = ap (λ (n : ℕ). bitsIn ((n * 2 ^ (64 - left)) % 2 ^ 64) left) e ∙ moved ∙ ⊎-elim full all w;
-        most = most;
+        bits =
+            ap (λ (x : ℕ). take 45 (field 64 x)) e
+            ∙ sym (take-take 45 n (field 64 (fieldAt place n (bitsOf bytes) * 2 ^ (64 - n))) w)
+            ∙ ap (take 45) moved ∙ take-take 45 n (drop place (bitsOf bytes)) w;
+        most = omega arith;
       }
-    where
-      full : left ≡ 45 → take left (drop place (bitsOf bytes)) ≡ take 45 (drop place (bitsOf bytes))
-      full f = ap (λ (n : ℕ). take n (drop place (bitsOf bytes))) f
 
-      all : place + left ≡ 8 * length bytes → take left (drop place (bitsOf bytes)) ≡ take 45 (drop place (bitsOf bytes))
-      all f =
-          let rest : List Bool = drop place (bitsOf bytes) in
-          take-all left rest (omega (arith, rest-long)) ∙ sym (take-all 45 rest (omega (arith, rest-long)))
+  -- fewer than 45: all that there are
+  pub ahead-of-all : (word : ℕ) → word ≡ fieldAt place n (bitsOf bytes) * 2 ^ (64 - n) → n ≤ 45 → place + n ≡ 8 * length bytes
+      → IsAhead bytes place (record { word = word; left = n })
+  ahead-of-all word e w f =
+      let rest : List Bool = drop place (bitsOf bytes) in
+      record {
+        bits =
+            ap (λ (x : ℕ). take n (field 64 x)) e ∙ moved
+            ∙ take-all n rest (omega (arith, rest-long)) ∙ sym (take-all 45 rest (omega (arith, rest-long)));
+        most = w;
+      }
+
+  -- `v << (64 - n)`
+  pub moved-up : (v : ℕ) → v ≡ fieldAt place n (bitsOf bytes) → (v * 2 ^ (64 - n)) % 2 ^ 64 ≡ fieldAt place n (bitsOf bytes) * 2 ^ (64 - n)
+  moved-up v e =
+      ap (λ (x : ℕ). (x * 2 ^ (64 - n)) % 2 ^ 64) e ∙ shl-exact n (64 - n) 64 (fieldAt-lt place n (bitsOf bytes)) (omega arith)
 
 -- ---- a value is read of its first 45 bits
 

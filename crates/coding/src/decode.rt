@@ -18,7 +18,7 @@ pub struct Ahead {
     pub left: usize,
 }
 
-// No value takes more than 45 bits.
+// No value takes more than 45 bits; eight bytes have at least 57.
 pub fn look(bytes: &[u8], place: usize) -> Ahead
     requires { ⌜ place ≤ 8 * length (now bytes) ⌝ }
     ensures { λ r. ⌜ IsAhead (now (bytes .entry)) place r ⌝ }
@@ -27,7 +27,7 @@ pub fn look(bytes: &[u8], place: usize) -> Ahead
         return look_at_end(bytes, place);
     }
     Ahead {
-        word: bits::get(bytes, place, 45) << 19,
+        word: bits::word_at(bytes, place),
         left: 45,
     }
 }

@@ -1,30 +1,29 @@
 // What the writer keeps of an input: f32 patterns in and out.
 ghost use mathlib.Core.Path.{_≡_};
+ghost use mathlib.Core.Bool.{cond};
 ghost use Prim.Native.Nat.{_<_};
-ghost use Rattle.coding.specs.Keep.{standsFor, cleared, shortened, mostCleared, isLossless, keepRule};
+ghost use Rattle.coding.specs.Keep.{standsFor, cleared, shortened, mostCleared, keepRule};
 use models::ErrorBound;
 
 // The input, the last kept value where that may stand for it, or the input with low bits cleared.
 pub fn kept(error_bound: ErrorBound, last: u32, value: u32) -> u32
     ensures { λ r. ⌜ r ≡ keepRule «error_bound» last value ⌝ }
 {
-    if is_lossless(error_bound) {
-        return value;
+    match error_bound {
+        ErrorBound::Lossless => value,
+        ErrorBound::Absolute(e) => lossy(ErrorBound::Absolute(e), last, value),
+        ErrorBound::Relative(e) => lossy(ErrorBound::Relative(e), last, value),
     }
+}
+
+// The same for a bound that is not Lossless. Its callers name the bound's kind, so that the compiler asks for it once and not in each test.
+fn lossy(error_bound: ErrorBound, last: u32, value: u32) -> u32
+    ensures { λ r. ⌜ r ≡ cond (standsFor «error_bound» value last) last (shortened «error_bound» mostCleared value) ⌝ }
+{
     if stands_for(error_bound, value, last) {
         return last;
     }
     shortest(error_bound, value)
-}
-
-fn is_lossless(error_bound: ErrorBound) -> bool
-    ensures { λ r. ⌜ r ≡ isLossless «error_bound» ⌝ }
-{
-    match error_bound {
-        ErrorBound::Lossless => true,
-        ErrorBound::Absolute(_) => false,
-        ErrorBound::Relative(_) => false,
-    }
 }
 
 fn clear(value: u32, s: u32) -> u32

@@ -1,2 +1,5 @@
 -- What the proofs of the C face share.
 pub mod Rows
+pub mod Small
+pub mod Signed
+pub mod Back

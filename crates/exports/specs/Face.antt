@@ -6,7 +6,7 @@ use Prim.Native.Nat.{ℕ}
 use lib.Dec.{eqb, leb}
 use lib.Ieee.{nan, binary32, ofBits}
 use lib.ListN.{length, drop}
-use Rattle.models.specs.Answers.{Said, answered, refused}
+use Rattle.models.specs.Answers.{Said, answered, refused, SaidOn, answeredOn, refusedOn, stateless}
 use Rattle.models.specs.declared.ErrorBound.{ErrorBound}
 use Rattle.models.specs.declared.ErrorBound.the-variants.{Lossless, Absolute, Relative}
 
@@ -37,3 +37,28 @@ wordOf true = 1
 unfoldable pub rowAfter : {A : Type 0} → ℕ → (A → List ℕ) → List ℕ → Said A → List ℕ
 rowAfter need words row (refused n) = row
 rowAfter need words row (answered x) = cond (leb need (length row)) (words x ++ drop (length (words x)) row) row
+
+-- ---- a call with no values to hand over, but in memory that it was lent for them: the number alone
+abbrev pub plainNumber : {A : Type 0} → Said A → ℕ
+plainNumber (answered x) = 0
+plainNumber (refused n) = n
+
+-- ---- a call on a state in a row of `need` words: of a shorter one no state can be read, which is 4 before anything is judged
+
+-- a step, whose row becomes that of the state after it
+abbrev pub rowOn : {S A : Type 0} → ℕ → (A → List ℕ) → List ℕ → SaidOn S A → List ℕ
+rowOn need words row (answeredOn x) = words x ++ drop need row
+rowOn need words row (refusedOn n s) = row
+
+unfoldable pub stepNumber : {S A : Type 0} → ℕ → List ℕ → SaidOn S A → ℕ
+stepNumber need row said = cond (leb need (length row)) (plainNumber (stateless said)) 4
+
+unfoldable pub stepRow : {S A : Type 0} → ℕ → (A → List ℕ) → List ℕ → SaidOn S A → List ℕ
+stepRow need words row said = cond (leb need (length row)) (rowOn need words row said) row
+
+-- a question, answered in `k` words of another row, `out`
+unfoldable pub askNumber : {S A : Type 0} → ℕ → List ℕ → ℕ → ℕ → SaidOn S A → ℕ
+askNumber need row k room said = cond (leb need (length row)) (numberOf k room (stateless said)) 4
+
+unfoldable pub askRow : {S A : Type 0} → ℕ → List ℕ → ℕ → (A → List ℕ) → List ℕ → SaidOn S A → List ℕ
+askRow need row k words out said = cond (leb need (length row)) (rowAfter k words out (stateless said)) out

@@ -1,2 +1,3 @@
 -- How the calls cross the C face.
 pub mod Face
+pub mod Words

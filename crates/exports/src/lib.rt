@@ -1,6 +1,9 @@
 // The C face of the public calls, for the static library. Numbers cross as their bits, a NaN as the
 // one that 01 names. A call answers 0 or the number of its refusal; its values go into a lent row,
 // of which a refusal changes nothing.
+
+pub mod words;
+
 ghost use mathlib.Core.Path.{_≡_};
 ghost use mathlib.Core.List.{[], _∷_, _++_};
 ghost use Prim.Native.Nat.{_≤_};

@@ -12,7 +12,7 @@ use lib.Ieee.Bits.{ofBits-toBits, toBits-lt, ofBits-fits}
 use lib.ListN.{length, take, drop, getD}
 use Rattle.models.specs.Answers.{Said, answered, refused, SaidOn, answeredOn, refusedOn, Cause, _when_, judge, judgedOn}
 use Rattle.models.specs.Bound.{boundAllowed}
-use Rattle.models.proofs.Judged.{NoneHolds}
+use Rattle.models.proofs.Judged.{NoneHolds, answered-only}
 use Rattle.models.specs.declared.ErrorBound.{ErrorBound}
 use Rattle.models.specs.declared.ErrorBound.the-variants.{Lossless, Absolute, Relative}
 use Rattle.exports.specs.Face.{boundOf, wordOf}
@@ -99,17 +99,7 @@ module _ {b : ErrorBound} {o : Opening} {xs buf : List ℕ} (row : List ℕ) (M 
 
 -- ---- reopening through a row
 
--- an answer tells that no cause held
-answered-only : {A : Type 0} (causes : List Cause) (x : Said A) (a : A) → judge refused causes x ≡ answered a → NoneHolds causes × (x ≡ answered a)
-unfolding judge
-answered-only [] x a h = (tt, h)
-answered-only {A} (n when true ∷ causes) x a h = absurd (never n a h)
-  where
-    never : (n : ℕ) (a : A) → _≡_ {A = Said A} (refused n) (answered a) → ⊥
-    never n a e = let z : _≡_ {A = ℕ} 0 1 = cc in omega arith
-answered-only (n when false ∷ causes) x a h = let r = answered-only causes x a h in ((refl, r .0), r .1)
-
--- and then neither does one more that fails
+-- where no cause holds, and one more fails
 one-more : {X : Type 0} (refuse : ℕ → X) (y : X) (causes : List Cause) (n : ℕ) (t : Bool) → NoneHolds causes → t ≡ false → judge refuse (causes ++ (n when t ∷ [])) y ≡ y
 unfolding judge
 one-more refuse y [] n t h e = rw e

@@ -1,21 +1,22 @@
 -- A loop that writes value after value: what it knows after i of them, and how one more goes. Assumes nothing.
 use mathlib.Core.Path.{_≡_, refl, sym, ap, ap₂, _∙_, subst}
 use mathlib.Core.List.{List, [], _∷_, _++_}
-use mathlib.Core.Bool.{Bool}
+use mathlib.Core.Bool.{Bool, true, false}
 use Prim.Native.Nat.{ℕ, suc, _+_, _*_, _^_, _≤_, _<_}
 use native.Mathlib.Numerals.{add-one}
 use native.Mathlib.Omega.{arith}
 use lib.ListN.{length, take, drop, getD, length-append, take-append-drop}
 use lib.Seq.{take-suc, length-take-le}
-use Rattle.bits.specs.Bits.{field, laidIn}
+use Rattle.bits.specs.Bits.{Below, field, laidIn}
 use Rattle.bits.proofs.Fields.{length-field}
+use Rattle.bits.proofs.InBytes.{laidIn-nothing, length-laidIn}
 use Rattle.stream.specs.Format.{Stream, State, isRaw}
 use Rattle.stream.specs.Write.{keptOne, kept, bitsOne, next, written}
 use Rattle.stream.proofs.Writing.{place-after, count-after, length-kept, written-append}
 use Rattle.stream.proofs.CodeWords.{values-long}
 use Rattle.stream.proofs.Steps.{wrote-more, written-more, laid-more}
 use Rattle.macaque_v.specs.State.{Ends, gatherEnds, modeOf, stateOf}
-use Rattle.macaque_v.specs.Write.{streamBy, ruleBy, writerAt, keptBy, writtenBy, wroteBy, Stepped}
+use Rattle.macaque_v.specs.Write.{streamBy, ruleBy, writerAt, keptBy, writtenBy, wroteBy, laidWhere, Stepped}
 use Rattle.macaque_v.specs.declared.MacaqueV.{MacaqueV}
 use Rattle.macaque_v.specs.declared.write.Step.{Step}
 
@@ -38,6 +39,18 @@ place-grows m xs i =
     let all : writtenBy m xs ≡ writtenBy m (take i xs) ++ written (ruleBy m) (streamBy m) (wroteBy m (take i xs)) (drop i xs) =
     ap (writtenBy m) (sym (take-append-drop i xs)) ∙ written-append (streamBy m) (ruleBy m) (stateOf m) (take i xs) (drop i xs) in
     omega (arith, written-place m xs, written-place m (take i xs), ap length all, length-append (writtenBy m (take i xs)) (written (ruleBy m) (streamBy m) (wroteBy m (take i xs)) (drop i xs)))
+
+-- where there is room for the values' bits, the first i values' leave the buffer as long as it was; and no bits leave it as it was
+pub laid-long : (lay : Bool) (m : MacaqueV) (xs : List ℕ) (i : ℕ) (buf : List ℕ) → (lay ≡ true → (wroteBy m xs) .place ≤ 8 * length buf)
+    → length (laidWhere lay buf (m .place) (writtenBy m (take i xs))) ≡ length buf
+laid-long true m xs i buf room =
+    let all : (wroteBy m xs) .place ≤ 8 * length buf = room refl in
+    length-laidIn buf (m .place) (writtenBy m (take i xs)) (omega (arith, written-place m (take i xs), place-grows m xs i))
+laid-long false m xs i buf room = refl
+
+pub laid-nothing : (lay : Bool) (buf : List ℕ) (p : ℕ) → Below 8 buf → laidWhere lay buf p [] ≡ buf
+laid-nothing true buf p h = laidIn-nothing buf p h
+laid-nothing false buf p h = refl
 
 -- the writer after the first i values
 abbrev pub afterFirst : MacaqueV → List ℕ → ℕ → MacaqueV

@@ -1,9 +1,9 @@
 -- Writing with a state: one value's bits and the state after it, and a list's. Assumes nothing.
 use mathlib.Core.Path.{_≡_}
-use mathlib.Core.Bool.{Bool}
+use mathlib.Core.Bool.{Bool, true, false}
 use mathlib.Core.List.{List}
 use Prim.Native.Nat.{ℕ, _^_, _≤_, _<_}
-use Rattle.bits.specs.Bits.{field}
+use Rattle.bits.specs.Bits.{field, laidIn}
 use Rattle.stream.specs.Format.{Stream, State, isRaw}
 use Rattle.stream.specs.Write.{keptOne, bitsOne, next, written, wrote}
 use Rattle.coding.specs.Keep.{keepRule}
@@ -32,6 +32,11 @@ writtenBy m xs = written (ruleBy m) (streamBy m) (stateOf m) xs
 
 abbrev pub wroteBy : MacaqueV → List ℕ → State Ends
 wroteBy m xs = wrote (ruleBy m) (streamBy m) (stateOf m) xs
+
+-- bits laid at a place, or only counted
+abbrev pub laidWhere : Bool → List ℕ → ℕ → List Bool → List ℕ
+laidWhere true buf p bits = laidIn buf p bits
+laidWhere false buf p bits = buf
 
 -- r is one input's bits, and the writer after it
 pub record Stepped (m : MacaqueV) (x : ℕ) (r : Step) : Type 0 where

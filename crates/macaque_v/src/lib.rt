@@ -1,7 +1,7 @@
 // MacaqueV: a stream of values, each coded by how it differs from the last one that was kept.
 
 pub mod read;
-mod read_run;
+pub mod read_run;
 mod write;
 
 use models::ErrorBound;

@@ -1,9 +1,9 @@
 // The writer's steps: each hands the state back by value.
 ghost use mathlib.Core.Path.{_≡_};
+ghost use mathlib.Core.Bool.{true};
 ghost use Prim.Native.Nat.{_+_, _*_, _^_, _<_, _≤_};
 ghost use lib.Dec.{leb};
 ghost use lib.ListN.{length};
-ghost use Rattle.bits.specs.Bits.{laidIn};
 ghost use Rattle.models.specs.Answers.{verdict};
 ghost use Rattle.models.specs.Calls.{saysVerdict};
 ghost use Rattle.stream.specs.Format.{macaque, openedOn, usable};
@@ -11,7 +11,7 @@ ghost use Rattle.stream.specs.Write.{keptOne};
 ghost use Rattle.coding.specs.Keep.{keepRule};
 ghost use Rattle.macaque_v.specs.State.{modeOf, isFirst, openingValue, stateOf};
 ghost use Rattle.macaque_v.specs.Read.{saysOpen};
-ghost use Rattle.macaque_v.specs.Write.{writerAt, writtenBy, wroteBy, Stepped};
+ghost use Rattle.macaque_v.specs.Write.{writerAt, writtenBy, wroteBy, laidWhere, Stepped};
 ghost use Rattle.macaque_v.specs.Calls.{newAnswer, lentBytes, tooMany, windowUsable, startCauses, writeCauses, saysWrite, writeAnswer, writeMemory};
 use crate::MacaqueV;
 use crate::Opening;
@@ -101,7 +101,7 @@ impl MacaqueV {
     {
         match self.judge_write(values, lent_bytes(buffer.len())) {
             Verdict::Refused(r) => WriteAnswer::Refused(r, self),
-            Verdict::Passed => WriteAnswer::Written(self.write_all(values, buffer)),
+            Verdict::Passed => WriteAnswer::Written(self.write_all(values, buffer, true)),
         }
     }
 
@@ -177,14 +177,9 @@ impl MacaqueV {
         requires { ⌜ (self .length + length (now values) ≤ 65536) × (self .place + 45 * length (now values) < 2 ^ 64) ⌝ }
         ensures { λ r. ⌜ r ≡ wroteBy self (now (values .entry)) .place ⌝ }
     {
-        let mut at = self;
-        let mut i: usize = 0;
-        while i < values.len() {
-            let one = at.step(values[i]);
-            at = one.state;
-            i += 1;
-        }
-        at.place
+        let mut none = [0u8; 1];
+        let end = self.write_all(values, &mut none, false);
+        end.place
     }
 
     // One value more.
@@ -217,19 +212,25 @@ impl MacaqueV {
         }
     }
 
-    // The values go behind the place: there is room for their bits.
-    fn write_all(self, values: &[u32], buffer: &mut [u8]) -> MacaqueV
-        requires { ⌜ (self .length + length (now values) ≤ 65536) × (wroteBy self (now values) .place ≤ 8 * length (now buffer)) × (self .place + 45 * length (now values) < 2 ^ 64) ⌝ }
+    // The values go behind the place, where there is room for their bits; with `lay` false they are only counted. Both are one loop, so that a step has
+    // one caller: the compiler makes it a part of the loop, and the state stays in registers.
+    fn write_all(self, values: &[u32], buffer: &mut [u8], lay: bool) -> MacaqueV
+        requires { ⌜ (self .length + length (now values) ≤ 65536) × (lay ≡ true → wroteBy self (now values) .place ≤ 8 * length (now buffer)) × (self .place + 45 * length (now values) < 2 ^ 64) ⌝ }
         ensures state { λ r. ⌜ r ≡ writerAt self (wroteBy self (now (values .entry))) ⌝ }
-        ensures bytes { λ r. ⌜ now (buffer .exit) ≡ laidIn (now (buffer .entry)) (self .place) (writtenBy self (now (values .entry))) ⌝ }
+        ensures bytes { λ r. ⌜ now (buffer .exit) ≡ laidWhere lay (now (buffer .entry)) (self .place) (writtenBy self (now (values .entry))) ⌝ }
     {
         let mut at = self;
         let mut i: usize = 0;
         while i < values.len() {
             let step = at.step(values[i]);
-            bits::put(buffer, at.place, step.width, step.bits);
-            at = step.state;
-            i += 1;
+            if lay {
+                bits::put(buffer, at.place, step.width, step.bits);
+                at = step.state;
+                i += 1;
+            } else {
+                at = step.state;
+                i += 1;
+            }
         }
         at
     }

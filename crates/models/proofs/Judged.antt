@@ -71,6 +71,15 @@ accepted-only s (n when true ∷ causes) a x h = absurd (never s n x h)
     never s n x e = let z : _≡_ {A = ℕ} 0 1 = cc in omega arith
 accepted-only s (n when false ∷ causes) a x h = accepted-only s causes a x h
 
+pub answered-only : {A : Type 0} (causes : List Cause) (x : Said A) (a : A) → judge refused causes x ≡ answered a → NoneHolds causes × (x ≡ answered a)
+unfolding judge
+answered-only [] x a h = (tt, h)
+answered-only {A} (n when true ∷ causes) x a h = absurd (never n a h)
+  where
+    never : (n : ℕ) (a : A) → _≡_ {A = Said A} (refused n) (answered a) → ⊥
+    never n a e = let z : _≡_ {A = ℕ} 0 1 = cc in omega arith
+answered-only (n when false ∷ causes) x a h = let r = answered-only causes x a h in ((refl, r .0), r .1)
+
 -- ---- by the verdict v that a function gave on them
 module _ (causes : List Cause) (v : Verdict) (says : saysVerdict v ≡ verdict causes) where
   pub none-holds : v ≡ Passed → NoneHolds causes

@@ -30,6 +30,11 @@ abbrev pub stateAfter : {S : Type 0} → SaidOn S (Stepped S) → S
 stateAfter (answeredOn t) = t .state
 stateAfter (refusedOn n s) = s
 
+-- an answer without the state that a refusal hands back
+abbrev pub stateless : {S A : Type 0} → SaidOn S A → Said A
+stateless (answeredOn a) = answered a
+stateless (refusedOn n s) = refused n
+
 -- ---- the causes for which a call is refused, in 01's order: of those that hold the first is given
 
 infix 68 _when_

@@ -43,7 +43,7 @@ use Rattle.pmc_mean.specs.Grid as pmc-mean
 use Rattle.swing.specs.Grid as swing
 use Rattle.parameters.specs.Forms.{Ends}
 use Rattle.segment_grid.specs.Segment.{countIn, streamBytes, residualsIn, given, owned, ownedTimes, isSwing, startOf, endOf, modelValues, modelSum}
-use Rattle.segment_grid.specs.Calls.{gridCauses, sumCauses, behind, segmentValues, gridAnswer, gridMemory, plus, withResiduals, residualSum, segmentSum, sumAnswer}
+use Rattle.segment_grid.specs.Calls.{formWrong, gridCauses, sumCauses, behind, segmentValues, gridAnswer, gridMemory, plus, withResiduals, residualSum, segmentSum, sumAnswer}
 use Rattle.segment_grid.proofs.Owned.{length-owned, length-model, Clear, clear, no-room-asked, in-order-later, in-order-take, neither}
 use Rattle.segment_grid.proofs.Counted.{as-many-values}
 
@@ -143,6 +143,19 @@ pub stored-by-a-writer : (b : ErrorBound) (last : ℕ) (xs buf : List ℕ) (m : 
 stored-by-a-writer b last xs buf m M =
     let c = counted (take (wholeBytes (m .place)) buf) (length xs) in
     record { stream = c .0 ∙ M .bytes; count = c .1 }
+
+-- 9 is no cause for them, where the parameter bytes read
+pub stored-as-allowed : (b : ErrorBound) (last : ℕ) (xs : List ℕ) (ends : Ends)
+    → formWrong (answered ends) (cond (eqb (length xs) 0) [] (streamOf (keepRule b) (streamIn false) last xs ++ (length xs ∷ []))) ≡ false
+stored-as-allowed b last [] ends = refl
+stored-as-allowed b last (x ∷ xs) ends =
+    let bytes : List ℕ = cond (eqb (length (x ∷ xs)) 0) [] (streamOf (keepRule b) (streamIn false) last (x ∷ xs) ++ (length (x ∷ xs) ∷ [])) in
+    let some : eqb (countIn bytes) 0 ≡ false = ne-eqb (countIn bytes) 0 (λ e. absurd (omega (arith, e, (stored b last (x ∷ xs)) .count))) in
+    neither-way (not (eqb (length bytes) 0)) (eqb (countIn bytes) 0) some
+  where
+    neither-way : (p q : Bool) → q ≡ false → (p && q) ≡ false
+    neither-way true q h = h
+    neither-way false q h = refl
 
 -- they read as what was kept
 reads-as-kept : (b : ErrorBound) (last : ℕ) (xs : List ℕ) → Below 32 xs → last < 2 ^ 32

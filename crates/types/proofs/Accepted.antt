@@ -1,5 +1,5 @@
--- choose_model is refused by its own causes only: where none of them holds, both models stand for the first value, so the choice has an answer, and it is
--- never 11 there. The chosen model stands for at least one of the values, Swing's for at least two. Assumes nothing.
+-- choose_model is refused by its own causes only: where none of them holds, both models stand for the first value, so nothing refuses the choice between
+-- them, and it is never 11 there. The chosen model stands for at least one of the values, Swing's for at least two. Assumes nothing.
 use mathlib.Core.Path.{_≡_, refl, sym, ap, _∙_, subst}
 use mathlib.Core.Bool.{Bool, true, false, not}
 use mathlib.Core.List.{List, [], _∷_}
@@ -10,7 +10,7 @@ use lib.Dec.{eqb, ltb}
 use lib.IntN.{ℤ}
 use lib.ListN.{length}
 use lib.Ieee.{Float, binary32, ofBits}
-use Rattle.models.specs.Answers.{answered, refused, answeredOn, refusedOn, stateAfter, Cause, _when_, judge, judged}
+use Rattle.models.specs.Answers.{answered, answeredOn, refusedOn, stateAfter}
 use Rattle.models.specs.Bound.{boundAllowed}
 use Rattle.models.specs.Limits.{metadataAllowed}
 use Rattle.models.specs.declared.ErrorBound.{ErrorBound}
@@ -31,19 +31,12 @@ use Rattle.swing.proofs.Runs as SwingRuns
 use Rattle.types.specs.Builder.{fresh, boundsAllowed, statesAllowed, roomLeft, timeFits, withPmc, withSwing, updatePmc, updateSwing, updated, answeredBy}
 use Rattle.types.specs.Choice.{choiceOf}
 use Rattle.types.specs.Calls.{updateCauses, updateAnswer, finishCauses, finishAnswer}
-use Rattle.types.specs.Run.{next, run, points, choiceCauses, stateless, choiceAnswer}
+use Rattle.types.specs.Run.{next, run, points, choiceCauses, choiceAnswer}
 use Rattle.types.specs.declared.ModelBuilder.{ModelBuilder}
 use Rattle.types.specs.declared.SelectedModel.{SelectedModel}
 use Rattle.types.proofs.Said.{told, neither}
 use Rattle.types.proofs.Parts.{run-usable, run-bounds}
 use Rattle.types.proofs.Chosen.{finish-length, finish-swing, choice-length}
-
--- what is answered where no cause holds is all that a cause leaves open
-judge-same : {X : Type 0} (refuse : ℕ → X) (causes : List Cause) (x y : X) → (NoneHolds causes → x ≡ y) → judge refuse causes x ≡ judge refuse causes y
-unfolding judge
-judge-same refuse [] x y h = h tt
-judge-same refuse (n when true ∷ causes) x y h = refl
-judge-same refuse (n when false ∷ causes) x y h = judge-same refuse causes x y (λ none. h (refl, none))
 
 points-length : (ts : List ℤ) (values : List ℕ) → length (points ts values) ≤ length values
 unfolding points
@@ -121,25 +114,25 @@ module _ (ts : List ℤ) (values : List ℕ) (b : ErrorBound) (m : ℕ) where
   abbrev after-all : ModelBuilder
   after-all = run (fresh b) (points ts values)
 
-  pub choice-finishes : NoneHolds (choiceCauses ts values b m) → finishAnswer after-all m ≡ answeredOn (choiceOf after-all m)
-  unfolding finishAnswer
-  choice-finishes none =
+  pub choice-clear : NoneHolds (choiceCauses ts values b m) → NoneHolds (finishCauses after-all m)
+  choice-clear none =
       let allowed = not-false (boundAllowed b) (none .0) in
       let size = not-false (metadataAllowed m) (neither (ltb 65536 (length values)) (not (metadataAllowed m)) (none .1 .0) .1) in
       let same = eqb-true (length ts) (length values) (not-false (eqb (length ts) (length values)) (none .1 .1 .0)) in
       let ordered = not-false (inOrder ts) (none .1 .1 .1 .0) in
       let some = eqb-false (length values) 0 (none .1 .1 .1 .1 .0) in
-      sym (accepted (λ (n : ℕ). refusedOn n after-all) (answeredOn (choiceOf after-all m)) (finishCauses after-all m) (nothing-refuses b (points ts values) m allowed size (run-some b ts values allowed ordered same some)))
+      nothing-refuses b (points ts values) m allowed size (run-some b ts values allowed ordered same some)
 
-  -- refused by its causes, and by nothing else
-  pub choice-is : choiceAnswer ts values b m ≡ judged (choiceCauses ts values b m) (choiceOf after-all m)
-  unfolding choiceAnswer
-  choice-is = judge-same refused (choiceCauses ts values b m) _ _ (λ none. ap stateless (choice-finishes none))
+  -- so the builder's own choice after the same steps is that answer
+  pub choice-finishes : NoneHolds (choiceCauses ts values b m) → finishAnswer after-all m ≡ answeredOn (choiceOf after-all m)
+  unfolding finishAnswer
+  choice-finishes none = sym (accepted (λ (n : ℕ). refusedOn n after-all) (answeredOn (choiceOf after-all m)) (finishCauses after-all m) (choice-clear none))
 
   -- the model that is chosen
   pub choice-stands : (x : SelectedModel) → choiceAnswer ts values b m ≡ answered x → (1 ≤ x .length) × (x .length ≤ length values) × (x .«model_type_id» ≡ 1 → 2 ≤ x .length)
+  unfolding choiceAnswer
   choice-stands x h =
-      let t = told (choiceCauses ts values b m) (choiceOf after-all m) x (sym h ∙ choice-is) in
+      let t = told (choiceCauses ts values b m) (choiceOf after-all m) x (sym h) in
       let f = choice-finishes (t .0) ∙ ap answeredOn (sym (t .1)) in
       let most : x .length ≤ length (points ts values) = rw (t .1) (choice-length b (points ts values) m) in
       (finish-length after-all m x f, omega (arith, most, points-length ts values), finish-swing after-all m x f)

@@ -6,7 +6,7 @@ use Prim.Native.Nat.{ℕ}
 use lib.Dec.{eqb, ltb}
 use lib.IntN.{ℤ}
 use lib.ListN.{length}
-use Rattle.models.specs.Answers.{Said, answered, refused, SaidOn, answeredOn, refusedOn, stateAfter, Cause, _when_, judge, Injective, told-apart}
+use Rattle.models.specs.Answers.{Said, answered, refused, stateAfter, Cause, _when_, judged, Injective, told-apart}
 use Rattle.models.specs.Refusals.{number, numbered-number, unsaid}
 use Rattle.models.specs.Bound.{boundAllowed}
 use Rattle.models.specs.Limits.{mostValues, metadataAllowed}
@@ -14,7 +14,8 @@ use Rattle.models.specs.declared.ErrorBound.{ErrorBound}
 use Rattle.lines.specs.Times.{inOrder}
 use Rattle.swing.specs.Run.{Given}
 use Rattle.types.specs.Builder.{fresh}
-use Rattle.types.specs.Calls.{updateAnswer, finishAnswer}
+use Rattle.types.specs.Choice.{choiceOf}
+use Rattle.types.specs.Calls.{updateAnswer}
 use Rattle.types.specs.declared.ModelBuilder.{ModelBuilder}
 use Rattle.types.specs.declared.SelectedModel.{SelectedModel}
 use Rattle.types.specs.declared.ChoiceAnswer.{ChoiceAnswer}
@@ -47,14 +48,9 @@ choiceCauses ts values b m =
     ∷ 11 when eqb (length values) 0
     ∷ []
 
--- an answer without the state that a refusal hands back
-abbrev pub stateless : {S A : Type 0} → SaidOn S A → Said A
-stateless (answeredOn a) = answered a
-stateless (refusedOn n s) = refused n
-
+-- refused by these causes only, else the choice after the steps over all points
 unfoldable pub choiceAnswer : List ℤ → List ℕ → ErrorBound → ℕ → Said SelectedModel
-choiceAnswer ts values b m =
-    judge refused (choiceCauses ts values b m) (stateless (finishAnswer (run (fresh b) (points ts values)) m))
+choiceAnswer ts values b m = judged (choiceCauses ts values b m) (choiceOf (run (fresh b) (points ts values)) m)
 
 choice-told : (r : ChoiceAnswer) → unsaid OfChoice.Answered OfChoice.Refused (saysChoice r) ≡ r
 choice-told (OfChoice.Answered model) = refl

@@ -19,7 +19,7 @@ ghost use Rattle.pmc_mean.specs.Calls.{costCauses};
 ghost use Rattle.swing.specs.Calls as OfSwing;
 ghost use Rattle.types.specs.Choice.{pmcModel, swingModel, swingWins, endLost, chosen, choiceOf};
 ghost use Rattle.types.specs.Calls.{finishCauses, saysFinish, finishAnswer};
-ghost use Rattle.types.specs.Run.{next, run, points, choiceCauses, saysChoice, choiceAnswer, stateless};
+ghost use Rattle.types.specs.Run.{next, run, points, choiceCauses, saysChoice, choiceAnswer};
 
 impl ModelBuilder {
     // Chooses the model that needs fewer bytes for each value, with metadata of m bytes.
@@ -156,7 +156,9 @@ pub fn choose_model(
         Verdict::Refused(r) => ChoiceAnswer::Refused(r),
         Verdict::Passed => match ModelBuilder::new(error_bound) {
             NewAnswer::Refused(r) => ChoiceAnswer::Refused(r),
-            NewAnswer::Answered(b) => finished(b.stepped(timestamps, values), m),
+            NewAnswer::Answered(b) => {
+                ChoiceAnswer::Answered(b.stepped(timestamps, values).selected(m))
+            }
         },
     }
 }
@@ -176,13 +178,4 @@ fn judge_choice(timestamps: &[i64], values: &[u32], error_bound: ErrorBound, m: 
         !models::bound_allowed(error_bound),
         limit,
     )
-}
-
-fn finished(b: ModelBuilder, m: usize) -> ChoiceAnswer
-    ensures { λ r. ⌜ saysChoice r ≡ stateless (finishAnswer b m) ⌝ }
-{
-    match b.finish(m) {
-        FinishAnswer::Answered(model) => ChoiceAnswer::Answered(model),
-        FinishAnswer::Refused(r, _) => ChoiceAnswer::Refused(r),
-    }
 }

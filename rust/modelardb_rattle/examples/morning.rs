@@ -2,6 +2,9 @@
 //! off and goes on. Usage: `morning FILE BOUND`, a file with a time and a value on each line, and an
 //! absolute bound.
 
+#[path = "shared/readings.rs"]
+mod readings;
+
 use modelardb_rattle::{ErrorBound, MacaqueV, Opening, Refusal, macaque_v};
 use std::process::ExitCode;
 
@@ -21,8 +24,8 @@ fn main() -> ExitCode {
 }
 
 fn show(file: &str, bound: &str) -> Result<(), String> {
-    let error_bound = ErrorBound::Absolute(number(bound)?);
-    let (times, values) = readings(file)?;
+    let error_bound = ErrorBound::Absolute(readings::number(bound)?);
+    let (times, values) = readings::of_file(file)?;
     let in_words = |refusal: Refusal| refusal.to_string();
     let (writer, bytes) = written(&values, error_bound).map_err(in_words)?;
     let mut kept = vec![0.0; values.len()];
@@ -41,28 +44,6 @@ fn show(file: &str, bound: &str) -> Result<(), String> {
     let same = resumed(&values, half, error_bound).map_err(in_words)? == (writer, bytes);
     println!("broken off, and resumed behind {half}: the same bytes and state: {same}");
     Ok(())
-}
-
-/// The times and values of a file.
-fn readings(file: &str) -> Result<(Vec<String>, Vec<f32>), String> {
-    let text = std::fs::read_to_string(file).map_err(|why| format!("{file}: {why}"))?;
-    let (mut times, mut values) = (vec![], vec![]);
-    for (at, line) in text.lines().enumerate() {
-        if line.starts_with('#') || line.is_empty() {
-            continue;
-        }
-        let (time, value) = line
-            .split_once(' ')
-            .ok_or(format!("{file}:{}: no time and value", at + 1))?;
-        times.push(time.to_string());
-        values.push(number(value)?);
-    }
-    Ok((times, values))
-}
-
-fn number(word: &str) -> Result<f32, String> {
-    let not_one = |_| format!("{word:?} is not a number");
-    word.parse().map_err(not_one)
 }
 
 /// A writer and its stream. No value takes more than 45 bits.

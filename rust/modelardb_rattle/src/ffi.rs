@@ -2,6 +2,19 @@
 //! refusal. The only `unsafe` of this crate stands here: each function lends slices that are valid
 //! for the whole call, and no other memory. The types of this crate are made of these calls.
 
+mod choice;
+mod fit;
+
+pub use choice::{
+    MODEL_BUILDER_WORDS, SELECTED_MODEL_WORDS, choose_model, model_builder_finish,
+    model_builder_new, model_builder_try_to_update_models,
+};
+pub use fit::{
+    Ends, PMC_MEAN_WORDS, SWING_WORDS, pmc_mean_bytes_per_value, pmc_mean_fit_value, pmc_mean_grid,
+    pmc_mean_model, pmc_mean_new, pmc_mean_sum, swing_bytes_per_value, swing_fit_data_point,
+    swing_grid, swing_model, swing_new, swing_sum_by_average, swing_sum_over,
+};
+
 mod c {
     unsafe extern "C" {
         pub safe fn modelardb_widen(bits: u32) -> u64;

@@ -4,6 +4,9 @@
 //! Values are f32. Where a NaN's payload matters, a call on the value's bits stands beside the call
 //! on floats.
 //!
+//! [`choose_model`] says which model stores a run of values, [`PMCMean`] or [`Swing`]; [`MacaqueV`]
+//! writes values as a stream, such as those behind a model.
+//!
 //! ```
 //! use modelardb_rattle::{ErrorBound, Refusal, is_value_within_error_bound};
 //!
@@ -19,7 +22,10 @@ pub mod ffi;
 pub mod macaque_v;
 pub mod models;
 pub mod numbers;
+pub mod pmc_mean;
 mod refusal;
+pub mod swing;
+pub mod types;
 
 pub use macaque_v::{MacaqueV, Opening};
 pub use models::{
@@ -27,4 +33,7 @@ pub use models::{
     maximum_allowed_deviation, maximum_allowed_deviation_bits,
 };
 pub use numbers::{narrow, narrow_bits, widen, widen_bits};
+pub use pmc_mean::PMCMean;
 pub use refusal::Refusal;
+pub use swing::{Line, Swing};
+pub use types::{ModelBuilder, SelectedModel, choose_model, choose_model_bits};

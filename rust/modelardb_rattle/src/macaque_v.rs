@@ -177,12 +177,7 @@ impl MacaqueV {
 
     /// How far a kept value may be from its input.
     pub fn error_bound(&self) -> ErrorBound {
-        let bound = f32::from_bits(self.bits(1));
-        match self.row[0] {
-            0 => ErrorBound::Lossless,
-            1 => ErrorBound::Absolute(bound),
-            _ => ErrorBound::Relative(bound),
-        }
+        ErrorBound::in_row(&self.row)
     }
 
     /// The least value kept, NaN before any.

@@ -23,6 +23,16 @@ impl ErrorBound {
             ErrorBound::Relative(bound) => (2, bound.to_bits()),
         }
     }
+
+    /// The bound that the first two words of a state stand for.
+    pub(crate) fn in_row(row: &[u64]) -> Self {
+        let bound = f32::from_bits(row[1] as u32);
+        match row[0] {
+            0 => ErrorBound::Lossless,
+            1 => ErrorBound::Absolute(bound),
+            _ => ErrorBound::Relative(bound),
+        }
+    }
 }
 
 /// Whether `approximate_value` may stand for `real_value`.

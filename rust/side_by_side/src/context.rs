@@ -19,6 +19,11 @@ impl Part {
     pub const fn new(name: &'static str, run: fn(&mut Context)) -> Self {
         Self { name, run }
     }
+
+    /// Whether its name begins so.
+    pub fn is_named(&self, beginning: &str) -> bool {
+        self.name.starts_with(beginning)
+    }
 }
 
 /// The counts of a part, or of all.

@@ -1,5 +1,9 @@
-//! The C face of MacaqueV by document 01: the paper's program behind rows of words. Each function is
-//! called as its namesake of the compiled library is, and answers 0 or the number of a refusal.
+//! The C face by document 01: the paper's program behind rows of words, here that of MacaqueV. Each
+//! function is called as its namesake of the compiled library is, and answers 0 or the number of a
+//! refusal.
+
+pub mod choice;
+pub mod fit;
 
 use modelardb_rattle::ffi::{STATE_WORDS, Words};
 use oracle::paper::macaque_v::{self, MacaqueV, Opening, Window};
@@ -69,6 +73,15 @@ fn number(call: impl FnOnce() -> Answer<()>) -> u32 {
 pub fn bound_words(bound: ErrorBound) -> Words {
     let [kind, bits] = bound.row();
     (kind as u32, bits as u32)
+}
+
+/// A bound as the safe types take it.
+pub fn safe_bound(bound: ErrorBound) -> modelardb_rattle::ErrorBound {
+    match bound {
+        Lossless => modelardb_rattle::ErrorBound::Lossless,
+        Absolute(bound) => modelardb_rattle::ErrorBound::Absolute(bound),
+        Relative(bound) => modelardb_rattle::ErrorBound::Relative(bound),
+    }
 }
 
 /// An opening's two words.

@@ -171,6 +171,29 @@ impl Inputs {
         times
     }
 
+    /// Times that start or end at a limit or a tick beyond it, or of which one is out of order; or such
+    /// as [`Inputs::times`] gives.
+    pub fn any_times(&mut self, count: usize) -> Vec<i64> {
+        let (limit, mut times) = (1i64 << 52, self.times(count));
+        let (Some(&first), Some(&last)) = (times.first(), times.last()) else {
+            return times;
+        };
+        let shift = match self.below(8) {
+            0 => limit - last,
+            1 => limit + 1 - last,
+            2 => -limit - first,
+            3 => -limit - 1 - first,
+            _ => 0,
+        };
+        times.iter_mut().for_each(|time| *time += shift);
+        if self.below(8) == 0 {
+            let other = self.pick(&times);
+            let at = self.below(count as u64) as usize;
+            times[at] = self.pick(&[other, other - 1, i64::MIN, i64::MAX]);
+        }
+        times
+    }
+
     /// A list of values: constant, a line, steps or a walk with a little noise, or anything.
     pub fn values(&mut self, count: usize) -> Vec<u32> {
         let (kind, base) = (self.below(6), self.unit() * 100.0);

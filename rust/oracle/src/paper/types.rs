@@ -134,7 +134,8 @@ impl ModelBuilder {
 }
 
 /// The rule as one call: a fresh builder stepped until both models have failed or the list ends,
-/// then the choice. Refusals: 1 3 12 10 11.
+/// then the choice. The values are what is counted; timestamps that are not as many are 12. Refusals:
+/// 1 3 12 10 11.
 pub fn choose_model(
     timestamps: &[i64],
     values: &[u32],
@@ -142,7 +143,6 @@ pub fn choose_model(
     m: u32,
 ) -> Answer<Model> {
     let mut builder = ModelBuilder::new(error_bound)?;
-    judge_count(timestamps.len())?;
     judge_count(values.len())?;
     judge_metadata(m)?;
     refuse_if(timestamps.len() != values.len(), refusal::COUNTS)?;

@@ -2,7 +2,7 @@
 
 use crate::context::Context;
 use crate::parts::{pmc_mean, swing};
-use oracle::paper::models::ErrorBound::Lossless;
+use oracle::paper::models::ErrorBound::{self, Lossless};
 use oracle::paper::numbers::canonical;
 use oracle::paper::refusal;
 use oracle::paper::types::{Extremes, Model, ModelBuilder, PMC_MEAN_ID, SWING_ID, choose_model};
@@ -12,7 +12,8 @@ pub fn choice(context: &mut Context) {
     for _ in 0..context.rounds(150_000) {
         let count = 1 + context.inputs.below(40) as usize;
         let (times, values) = (context.inputs.times(count), context.inputs.values(count));
-        over_list(context, &times, &values);
+        let (bound, m) = (context.inputs.bound(), 1 + context.inputs.below(200) as u32);
+        over_list(context, (&times, &values), bound, m);
     }
     for _ in 0..context.rounds(1_000_000) {
         let (builder, next_time) = any_builder(context);
@@ -26,8 +27,13 @@ pub fn choice(context: &mut Context) {
     }
 }
 
-fn over_list(context: &mut Context, times: &[i64], values: &[u32]) {
-    let (bound, m) = (context.inputs.bound(), 1 + context.inputs.below(200) as u32);
+/// The paper's builder stepped over a list of points, beside the Rust's text.
+pub fn over_list(
+    context: &mut Context,
+    (times, values): (&[i64], &[u32]),
+    bound: ErrorBound,
+    m: u32,
+) {
     let mut builder = ModelBuilder::new(bound).expect("an allowed bound");
     for (&time, &value) in times.iter().zip(values) {
         let (fits, next) = step(context, builder, time, value);
@@ -46,7 +52,7 @@ fn over_list(context: &mut Context, times: &[i64], values: &[u32]) {
     });
 }
 
-fn step(
+pub fn step(
     context: &mut Context,
     builder: ModelBuilder,
     time: i64,
@@ -71,7 +77,7 @@ fn zero(builder: ModelBuilder) -> bool {
     pmc_mean.min_value == 0.0 || pmc_mean.max_value == 0.0 || builder.swing.first_value == 0.0
 }
 
-fn choose(context: &mut Context, builder: ModelBuilder, m: u32) {
+pub fn choose(context: &mut Context, builder: ModelBuilder, m: u32) {
     let paper = builder.finish(m);
     let input = || format!("choice of {:X?}, M {m}", builder.row());
     // "A state of length 0 .. given to the choice": 11. Listed: it is chosen from there.

@@ -1,16 +1,17 @@
 //! The list of differences from the published text: each has an input that is run here, and both
 //! answers must be as listed. The numbers are those of the list.
 
+mod fitting;
+
 use crate::context::Context;
 use oracle::paper::macaque_v::{self, MacaqueV, Opening};
-use oracle::paper::models::ErrorBound::{self, Absolute, Lossless, Relative};
-use oracle::paper::models::{is_value_within_error_bound, maximum_allowed_deviation};
+use oracle::paper::models::ErrorBound::{Absolute, Lossless, Relative};
+use oracle::paper::models::is_value_within_error_bound;
 use oracle::paper::numbers::{NAN_32, canonical};
 use oracle::paper::segments::{Segment, write};
-use oracle::paper::swing::Swing;
 use oracle::paper::types::{
-    Extremes, Model, ModelBuilder, choose_model, decode_values_for_pmc_mean,
-    decode_values_for_swing, pmc_mean_bytes, swing_bytes,
+    Extremes, Model, decode_values_for_pmc_mean, decode_values_for_swing, pmc_mean_bytes,
+    swing_bytes,
 };
 use oracle::rust::{Call, Calls};
 
@@ -23,54 +24,22 @@ const NONE: Extremes = Extremes {
 };
 
 pub fn differences(context: &mut Context) {
+    fitting::fitting(context);
     for rust in context.rust.iter().filter(|rust| !rust.is_filled()) {
-        deviation(context, rust);
         rewriting(context, rust);
         residuals_of_a_line(context, rust);
         parameters(context, rust);
-        choice(context, rust);
         payloads(context, rust);
         writers(context, rust);
         accepted_there(context, rust);
-        choice_of_one(context, rust);
         accepted_streams(context, rust);
         faults_there(context, rust);
         wraps_there(context, rust);
-        far_times(context, rust);
     }
 }
 
 fn bits(value: f32) -> u32 {
     value.to_bits()
-}
-
-/// 1: The published deviation is 0.99 × bound, or divides by 100.1.
-fn deviation(context: &mut Context, rust: &Calls) {
-    let one = 1f64.to_bits();
-    let answers = |bound| {
-        let paper = maximum_allowed_deviation(bound, one).map(f64::from_bits);
-        (paper, Ok(f64::from_bits((rust.deviation)(bound, one))))
-    };
-    let (paper, theirs) = answers(Absolute(1.0));
-    let listed = (Ok(1.0), Ok(0.99));
-    context.listed(paper, theirs, listed, "1: deviation, Absolute(1)");
-    let (paper, theirs) = answers(Relative(100.0));
-    let listed = (Ok(1.0), Ok(100.0 / 100.1));
-    context.listed(paper, theirs, listed, "1: deviation, Relative(100)");
-
-    let what = "1: Swing, Absolute(1), 0 at 0 and 5 at 10";
-    let (mut paper, mut theirs) = (swing(Absolute(1.0)), swing(Absolute(1.0)));
-    for (time, value) in [(0, 0.0), (10, 5.0)] {
-        (_, paper) = paper.fit_data_point(time, bits(value)).expect("a step");
-        (_, theirs) = (rust.swing_step)(theirs, time, bits(value));
-    }
-    let theirs = Ok((rust.swing_model)(theirs));
-    let listed = (Ok((0, bits(6.0))), Ok((0, bits(5.99))));
-    context.listed(paper.model(), theirs, listed, what);
-}
-
-fn swing(bound: ErrorBound) -> Swing {
-    Swing::new(bound).expect("an allowed bound")
 }
 
 /// 2: The published text finds the bits to clear by log2 and leaves NaNs alone.
@@ -194,26 +163,6 @@ fn parameters(context: &mut Context, rust: &Calls) {
     context.listed(paper, theirs, (8, 1), "5: Swing (-0, +0)");
 }
 
-/// 6: A line that runs off to infinity is chosen there.
-fn choice(context: &mut Context, rust: &Calls) {
-    let (bound, max) = (Absolute(3e38), bits(f32::MAX));
-    let values = [max | 1 << 31, max];
-    let paper = choose_model(&[0, 1], &values, bound, 2).map(|m| (m.id, m.last_value));
-    let mut builder = ModelBuilder::new(bound).expect("an allowed bound");
-    for (time, value) in (0..).zip(values) {
-        (_, builder) = (rust.builder_step)(builder, time, value);
-    }
-    let theirs = (rust.choose)(builder, 2);
-    let listed = (Ok((0, values[0])), Ok((1, INFINITY)));
-    let theirs = Ok((theirs.id, theirs.last_value));
-    context.listed(
-        paper,
-        theirs,
-        listed,
-        "6: choice of -MAX, MAX, Absolute(3e38)",
-    );
-}
-
 /// 7: A NaN model is read with its payload there, and residuals open on that.
 fn payloads(context: &mut Context, rust: &Calls) {
     let bytes = Written::new(0, (NAN_32, NAN_32), &[NAN_32 + 1]);
@@ -262,20 +211,8 @@ fn writers(context: &mut Context, rust: &Calls) {
     twice(ONE, Opening::WithFirst, listed, what);
 }
 
-/// 9: Times and segments that are accepted there and refused here.
+/// 9: Segments that are accepted there and refused here.
 fn accepted_there(context: &mut Context, rust: &Calls) {
-    let (_, one) = swing(Lossless)
-        .fit_data_point(5, ONE)
-        .expect("a first point");
-    let paper = one.fit_data_point(5, TWO).map(|(fits, _)| fits);
-    let theirs = Ok((rust.swing_step)(one, 5, TWO).0);
-    context.listed(
-        paper,
-        theirs,
-        (Err(10), Ok(true)),
-        "9: two points at one time",
-    );
-
     let mut bytes = Written::new(0, (ONE, ONE), &[]);
     bytes.residuals = vec![0x80, 0];
     let mut out = [0];
@@ -293,21 +230,6 @@ fn accepted_there(context: &mut Context, rust: &Calls) {
     let theirs = theirs.map(|grid| grid.into_iter().map(canonical).collect());
     let listed = (Err(11), Ok(vec![NAN_32; 2]));
     context.listed(paper, theirs, listed, "9: a line from 1 to infinity");
-}
-
-/// 9: A choice where one of the two models has no value.
-fn choice_of_one(context: &mut Context, rust: &Calls) {
-    let mut builder = ModelBuilder::new(Lossless).expect("an allowed bound");
-    (_, builder.pmc_mean) = builder.pmc_mean.fit_value(ONE).expect("a first value");
-    let paper = builder.finish(1).map(|model| (model.id, model.last_value));
-    let theirs = (rust.choose)(builder, 1);
-    let theirs = Ok((theirs.id, theirs.last_value));
-    context.listed(
-        paper,
-        theirs,
-        (Err(11), Ok((0, ONE))),
-        "9: a choice with a fresh Swing",
-    );
 }
 
 /// 9 and 10: Streams that are accepted there in a release build and refused here.
@@ -391,32 +313,4 @@ fn wraps_there(context: &mut Context, rust: &Calls) {
     let theirs = Ok(theirs.last().copied());
     let paper = paper.map(|_| None);
     context.listed(paper, theirs, (Err(3), Ok(Some(0))), "10: 256 residuals");
-
-    let empty = ModelBuilder::new(Lossless).expect("an allowed bound");
-    let paper = empty
-        .finish(1)
-        .map(|model| (model.length, model.last_value));
-    let theirs = (rust.choose)(empty, 1);
-    let theirs = Ok((theirs.length, theirs.last_value));
-    context.listed(
-        paper,
-        theirs,
-        (Err(11), Ok((0, NAN_32))),
-        "10: a choice of nothing",
-    );
-}
-
-/// 10: Times at the ends of i64: their difference faults there where overflow is checked, else it
-/// wraps.
-fn far_times(context: &mut Context, rust: &Calls) {
-    let (_, first) = (rust.swing_step)(swing(Lossless), i64::MIN, ONE);
-    let paper = swing(Lossless).fit_data_point(i64::MIN, ONE).map(|_| 0.0);
-    let (_, second) = (rust.swing_step)(first, i64::MAX, TWO);
-    let theirs = Ok(second.upper_bound_slope);
-    context.listed(
-        paper,
-        theirs,
-        (Err(10), Ok(-1.0)),
-        "10: times at the ends of i64",
-    );
 }

@@ -3,6 +3,7 @@
 mod bounds;
 mod choice;
 mod differences;
+mod library_fit;
 mod library_stream;
 mod macaque_v;
 mod numbers;
@@ -27,6 +28,12 @@ pub const ALL: &[Part] = &[
     Part::new("MacaqueV damaged", macaque_v::damaged),
     Part::new("MacaqueV resumed", macaque_v::resumed),
     Part::new("MacaqueV's greatest s", macaque_v::greatest),
+    Part::new("library: short runs", library_fit::short_runs),
+    Part::new("library: runs", library_fit::runs),
+    Part::new("library: lines", library_fit::lines),
+    Part::new("library: costs", library_fit::costs),
+    Part::new("library: fitted states", library_fit::states),
+    Part::new("library: causes of the fit", library_fit::causes),
     Part::new("library: marked cases", library_stream::marked),
     Part::new("library: short lists", library_stream::short_lists),
     Part::new("library: lists", library_stream::lists),

@@ -2,6 +2,7 @@
 
 use crate::context::Context;
 use crate::inputs::SPECIAL;
+use oracle::paper::Answer;
 use oracle::paper::models::ErrorBound::Lossless;
 use oracle::paper::refusal;
 use oracle::paper::swing::{self, Line, Swing};
@@ -114,13 +115,24 @@ fn one_line(context: &mut Context, first_value: u32, last_value: u32) {
     let refusal = is_no_line(first_value, last_value).then_some(refusal::NO_MODEL);
     let refusals = (drawn.err(), sum.err());
     context.same("no line", refusals, (refusal, refusal), input);
-    if refusal.is_some() {
-        return; // Listed: a line with an infinite end is drawn there.
+    if refusal.is_none() {
+        beside_the_rust(context, line, &times, (sum, &grid));
     }
+}
+
+/// The paper's sum and grid of a line beside those of the Rust's text, the sum by average where the Rust
+/// takes the times for regular. Listed: a line with an infinite end is drawn there.
+pub fn beside_the_rust(
+    context: &mut Context,
+    line: Line,
+    times: &[i64],
+    (sum, grid): (Answer<u32>, &[u32]),
+) {
+    let input = || format!("{line:X?} over {times:?}");
     for rust in context.rust {
-        context.same(rust.name, sum, Ok((rust.swing_sum)(line, &times)), input);
-        let theirs = (rust.swing_grid)(line, &times);
-        context.same(rust.name, &grid, &theirs, input);
+        context.same(rust.name, sum, Ok((rust.swing_sum)(line, times)), input);
+        let theirs = (rust.swing_grid)(line, times);
+        context.same(rust.name, grid, &theirs[..], input);
     }
 }
 

@@ -1,9 +1,10 @@
--- `coding::decode::look` meets its contract: there are 45 bits. Assumes nothing.
+-- `coding::decode::look` meets its contract: eight bytes have more than 45 bits from the place on. Assumes nothing.
 use borrow.Author.Needs.{needs}
-use mathlib.Core.Path.{refl}
-use mathlib.Core.Logic.{inl}
+use mathlib.Core.Path.{_≡_, ap, _∙_}
+use Prim.Native.Nat.{ℕ, _-_, _*_, _%_, _^_}
 use native.Mathlib.Omega.{arith}
-use Rattle.coding.proofs.Words.{ahead-is}
+use Rattle.bits.specs.Bits.{fieldAt, bitsOf}
+use Rattle.coding.proofs.Words.{ahead-of-more}
 use Rattle.coding.proofs.decode.look.Statement.{statement}
 use Rattle.coding.proofs.decode.look.Tie as tie
 
@@ -16,13 +17,16 @@ look-at-end-requires c κs = search needs
 returns : tie.Need-returns
 returns c = search needs
 
-get-requires : tie.Need-get-requires
-get-requires c κs = search needs
+word-at-requires : tie.Need-word-at-requires
+word-at-requires c κs = search needs
 
 returns-2 : tie.Need-returns-2
 returns-2 c =
     let a = c .before .before .before .args in
-    ahead-is (a .bytes .now) (a .place) 45 (omega arith) (omega arith) (c .get .result) (c .get .ensures) (inl refl)
+    let n = 64 - a .place % 8 in
+    let up : a .place % 8 ≡ 64 - n = omega arith in
+    ahead-of-more (a .bytes .now) (a .place) n (omega arith) (omega arith) (c .word-at .result)
+    (c .word-at .ensures ∙ ap (λ (k : ℕ). fieldAt (a .place) n (bitsOf (a .bytes .now)) * 2 ^ k) up) (omega arith)
 
 pub look-spec : {M : Type 1} → statement M
-look-spec = tie.close (tie.spec sub-if1 look-at-end-requires returns get-requires returns-2)
+look-spec = tie.close (tie.spec sub-if1 look-at-end-requires returns word-at-requires returns-2)

@@ -1,32 +1,43 @@
--- `coding::keep::kept` meets its contract, test by test. Assumes nothing.
+-- `coding::keep::kept` meets its contract, bound by bound. Assumes nothing.
 use borrow.Author.Needs.{needs}
-use mathlib.Core.Path.{sym, _∙_}
+use mathlib.Core.Path.{sym, ap, _∙_}
+use Rattle.models.specs.declared.ErrorBound.{ErrorBound}
 use Rattle.coding.specs.Keep.{keepRule}
 use Rattle.coding.proofs.keep.kept.Statement.{statement}
 use Rattle.coding.proofs.keep.kept.Tie as tie
 
-is-lossless-requires : tie.Need-is-lossless-requires
-is-lossless-requires c κs = search needs
+enum-told : tie.Need-enum-told
+enum-told c = search needs
+
+enum-known-error-bound : tie.Need-enum-known-error-bound
+enum-known-error-bound c = search needs
+
+lossy-requires : tie.Need-lossy-requires
+lossy-requires c κs = search needs
+
+enum-known-error-bound-2 : tie.Need-enum-known-error-bound-2
+enum-known-error-bound-2 c = search needs
+
+lossy-requires-2 : tie.Need-lossy-requires-2
+lossy-requires-2 c κs = search needs
 
 returns : tie.Need-returns
 unfolding keepRule
-returns c = rw (sym (c .before .is-lossless .ensures) ∙ c .if1 .taken)
-
-stands-for-requires : tie.Need-stands-for-requires
-stands-for-requires c κs = search needs
+returns c =
+    let a = c .before .before .args in
+    sym (ap (λ (b : ErrorBound). keepRule b (a .last) (a .value)) (c .enum-told .given .1))
 
 returns-2 : tie.Need-returns-2
 unfolding keepRule
-returns-2 c = rw (sym (c .before .before .before .is-lossless .ensures) ∙ c .before .before .if1 .left, sym (c .before .stands-for .ensures) ∙ c .if2 .taken)
-
-shortest-requires : tie.Need-shortest-requires
-shortest-requires c κs = search needs
+returns-2 c =
+    let a = c .before .before .before .before .args in
+    c .lossy .ensures ∙ sym (ap (λ (b : ErrorBound). keepRule b (a .last) (a .value)) (c .before .before .error-bound .given .1))
 
 returns-3 : tie.Need-returns-3
 unfolding keepRule
 returns-3 c =
-    rw (sym (c .before .before .before .before .is-lossless .ensures) ∙ c .before .before .before .if1 .left, sym (c .before .before .stands-for .ensures) ∙ c .before .if2 .left)
-    (c .shortest .ensures)
+    let a = c .before .before .before .before .args in
+    c .lossy2 .ensures ∙ sym (ap (λ (b : ErrorBound). keepRule b (a .last) (a .value)) (c .before .before .error-bound2 .given .1))
 
 pub kept-spec : {M : Type 1} → statement M
-kept-spec = tie.close (tie.spec is-lossless-requires returns stands-for-requires returns-2 shortest-requires returns-3)
+kept-spec = tie.close (tie.spec enum-told enum-known-error-bound lossy-requires enum-known-error-bound-2 lossy-requires-2 returns returns-2 returns-3)

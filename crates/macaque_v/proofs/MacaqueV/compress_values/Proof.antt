@@ -46,7 +46,8 @@ enum-told c = search needs
 write-all-requires : tie.Need-write-all-requires
 write-all-requires c κs =
     let a = c .before .before .before .before .before .before .before .args in
-    accepted (a .self) (a .values .now) (a .buffer .now) (clear (c .before))
+    let s = accepted (a .self) (a .values .now) (a .buffer .now) (clear (c .before)) in
+    (s .0, (λ _. s .1), s .2)
 
 returns : tie.Need-returns
 unfolding writeAnswer writeMemory

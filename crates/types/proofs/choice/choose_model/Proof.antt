@@ -6,9 +6,11 @@ use denote.Ref.{now}
 use Rattle.models.specs.Answers.{refused, answered}
 use Rattle.models.proofs.Judged.{NoneHolds, none-holds, accepted, when-passed, when-refused}
 use Rattle.types.specs.Builder.{fresh}
-use Rattle.types.specs.Calls.{saysNew, newAnswer, finishAnswer}
-use Rattle.types.specs.Run.{run, points, stateless, choiceCauses, choiceAnswer}
+use Rattle.types.specs.Calls.{saysNew, newAnswer, finishCauses}
+use Rattle.types.specs.Run.{run, points, choiceCauses, choiceAnswer}
+use Rattle.types.specs.declared.ModelBuilder.{ModelBuilder}
 use Rattle.types.proofs.Said.{apart, same-answer}
+use Rattle.types.proofs.Accepted.{choice-clear}
 use borrow.Author.Needs.{needs}
 use Rattle.types.proofs.choice.choose_model.Statement.{statement}
 use Rattle.types.proofs.choice.choose_model.Tie as tie
@@ -20,6 +22,12 @@ clear c = none-holds _ _ (c .before .before .judge-choice .ensures) (c .enum-tol
 made : (c : tie.After-new) → saysNew (c .new .result) ≡ answered (fresh (c .before .before .before .before .before .args .error-bound))
 unfolding newAnswer
 made c = c .new .ensures ∙ sym (accepted refused _ _ (clear (c .before) .0, tt))
+
+stepped : (c : tie.After-stepped) → c .stepped .result ≡ run (fresh (c .before .before .before .before .before .before .before .before .before .args .error-bound)) (points (now (c .before .before .before .before .before .before .before .before .before .args .timestamps)) (now (c .before .before .before .before .before .before .before .before .before .args .values)))
+stepped c =
+    let a = c .before .before .before .before .before .before .before .before .before .args in
+    let b = same-answer _ _ (sym (ap saysNew (c .before .before .b .given .1)) ∙ made (c .before .before .before .before)) in
+    c .stepped .ensures ∙ ap (λ (s : ModelBuilder). run s (points (now (a .timestamps)) (now (a .values)))) b
 
 judge-choice-requires : tie.Need-judge-choice-requires
 judge-choice-requires c κs = search needs
@@ -45,8 +53,12 @@ stepped-requires c κs =
     let vs = now (c .before .before .before .before .before .before .before .before .args .values) in
     eqb-true (length ts) (length vs) (not-false _ (clear (c .before .before .before .before) .1 .1 .0))
 
-finished-requires : tie.Need-finished-requires
-finished-requires c κs = search needs
+selected-requires : tie.Need-selected-requires
+selected-requires c κs =
+    let a = c .before .before .before .before .before .before .before .before .before .args in
+    let causes = finishCauses (run (fresh (a .error-bound)) (points (now (a .timestamps)) (now (a .values)))) (a .m) in
+    rw (stepped c)
+    (sym (accepted refused (answered tt) causes (choice-clear (now (a .timestamps)) (now (a .values)) (a .error-bound) (a .m) (clear (c .before .before .before .before .before)))))
 
 returns : tie.Need-returns
 unfolding choiceAnswer
@@ -58,11 +70,8 @@ returns-2 c = absurd (apart _ _ (sym (ap saysNew (c .before .r2 .given .1)) ∙ 
 returns-3 : tie.Need-returns-3
 unfolding choiceAnswer
 returns-3 c =
-    let a = c .before .before .before .before .before .before .before .before .before .before .args in
-    let b = same-answer _ _ (sym (ap saysNew (c .before .before .before .b .given .1)) ∙ made (c .before .before .before .before .before)) in
-    c .finished .ensures
-    ∙ ap (λ s. stateless (finishAnswer s (a .m))) (c .before .stepped .ensures ∙ ap (λ s. run s (points (now (a .timestamps)) (now (a .values)))) b)
-    ∙ when-passed _ _ (c .before .before .before .before .before .before .before .before .judge-choice .ensures) refused _ (c .before .before .before .before .before .before .enum-told .given .1)
+    rw (c .selected .ensures, stepped (c .before))
+    (when-passed _ _ (c .before .before .before .before .before .before .before .before .judge-choice .ensures) refused _ (c .before .before .before .before .before .before .enum-told .given .1))
 
 pub choose-model-spec : {M : Type 1} → statement M
 choose-model-spec =
@@ -75,7 +84,7 @@ choose-model-spec =
     enum-known-r-2
     enum-known-b
     stepped-requires
-    finished-requires
+    selected-requires
     returns
     returns-2
     returns-3)

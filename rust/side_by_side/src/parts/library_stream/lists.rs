@@ -3,9 +3,10 @@
 
 use super::{STALE_VALUE, Stream, both, room_for};
 use crate::context::Context;
+use crate::face;
 use crate::inputs::DOZEN;
 use crate::parts::macaque_v::{self, BOUNDS};
-use modelardb_rattle::{self as library, ErrorBound as Bound};
+use modelardb_rattle as library;
 use oracle::paper::macaque_v::Opening;
 use oracle::paper::models::ErrorBound::{self, Absolute, Lossless, Relative};
 use oracle::paper::refusal;
@@ -163,11 +164,7 @@ fn by_the_safe_type(context: &mut Context, bound: ErrorBound, opening: Opening, 
         Opening::WithFirst => library::Opening::First,
         Opening::On(bits) => library::Opening::on_bits(bits),
     };
-    let bound = match bound {
-        Lossless => Bound::Lossless,
-        Absolute(bound) => Bound::Absolute(bound),
-        Relative(bound) => Bound::Relative(bound),
-    };
+    let bound = face::safe_bound(bound);
     let mut buffer = vec![0; stream.bytes.len()];
     let mut writer = library::MacaqueV::new(bound, opening).expect("an allowed bound");
     let answer = writer.compress_values_bits(&stream.values, &mut buffer);

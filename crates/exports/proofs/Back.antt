@@ -1,0 +1,55 @@
+-- What was put into a word is read back from it. Assumes nothing.
+use mathlib.Core.Path.{_≡_, refl, sym, ap, _∙_}
+use mathlib.Core.Bool.{Bool, true, false}
+use Prim.Native.Nat.{_%_, _^_}
+use native.Mathlib.Nat.{mod-eq-of-lt}
+use borrow.Author.Tests.{lt-ltb}
+use lib.Dec.{T, eqb, leb}
+use lib.IntN.{ℤ, pos, negsuc}
+use lib.Ieee.{Float, binary32, fits, ofBits, toBits}
+use lib.Ieee.Bits.{ofBits-toBits, toBits-lt}
+use mir.Syntax.{w64}
+use mir.Val.{SFits, ofZ}
+use mir.ValLaws.{toZ-ofZ}
+use Rattle.models.specs.declared.ErrorBound.{ErrorBound}
+use Rattle.models.specs.declared.ErrorBound.the-variants.{Lossless, Absolute, Relative}
+use Rattle.exports.specs.Face.{boundOf, wordOf}
+use Rattle.exports.specs.Words.{kindOf, bitsOf, small, boundIn, timeIn, wordOfTime}
+use Rattle.exports.proofs.Signed.{read-signed}
+
+-- ---- a 32-bit value
+pub is-small : (x : Float) → T (fits binary32 x) → small (toBits binary32 x) ≡ true
+is-small x ok = lt-ltb (toBits binary32 x) (2 ^ 32) (toBits-lt binary32 x ok)
+
+pub value-back : (x : Float) → T (fits binary32 x) → ofBits binary32 (toBits binary32 x % 2 ^ 32) ≡ x
+value-back x ok = ap (ofBits binary32) (mod-eq-of-lt (toBits-lt binary32 x ok)) ∙ ofBits-toBits binary32 x ok
+
+-- ---- a bound, whose number is an f32
+abbrev pub BoundHeld : ErrorBound → Type 0
+BoundHeld Lossless = T true
+BoundHeld (Absolute e) = T (fits binary32 e)
+BoundHeld (Relative e) = T (fits binary32 e)
+
+pub bound-back : (b : ErrorBound) → BoundHeld b → boundIn (kindOf b) (bitsOf b) ≡ b
+unfolding boundIn boundOf
+bound-back Lossless ok = refl
+bound-back (Absolute e) ok = rw (is-small e ok) (ap Absolute (ofBits-toBits binary32 e ok))
+bound-back (Relative e) ok = rw (is-small e ok) (ap Relative (ofBits-toBits binary32 e ok))
+
+-- ---- a timestamp
+same-word : (t : ℤ) → wordOfTime t ≡ ofZ w64 t
+unfolding wordOfTime
+same-word (pos n) = refl
+same-word (negsuc n) = refl
+
+pub time-back : (t : ℤ) → SFits w64 t → timeIn (wordOfTime t) ≡ t
+time-back t ok = ap timeIn (same-word t) ∙ sym (read-signed (ofZ w64 t)) ∙ toZ-ofZ w64 t ok
+
+-- ---- a flag
+pub flag-small : (f : Bool) → leb (wordOf f) 1 ≡ true
+flag-small true = refl
+flag-small false = refl
+
+pub flag-back : (f : Bool) → eqb (wordOf f) 1 ≡ f
+flag-back true = refl
+flag-back false = refl

@@ -1,0 +1,35 @@
+-- The words of a state's row: a bound's two, a 32-bit value, a timestamp. What a word cannot stand for is not allowed: the call behind refuses it.
+use mathlib.Core.Bool.{Bool, cond, _&&_}
+use Prim.Native.Nat.{ℕ, suc, _-_, _^_}
+use lib.Dec.{ltb}
+use lib.IntN.{ℤ, pos, negsuc}
+use lib.Ieee.{nan, binary32, toBits}
+use Rattle.models.specs.declared.ErrorBound.{ErrorBound}
+use Rattle.models.specs.declared.ErrorBound.the-variants.{Lossless, Absolute, Relative}
+use Rattle.exports.specs.Face.{boundOf}
+
+-- ---- a bound
+abbrev pub kindOf : ErrorBound → ℕ
+kindOf Lossless = 0
+kindOf (Absolute e) = 1
+kindOf (Relative e) = 2
+
+abbrev pub bitsOf : ErrorBound → ℕ
+bitsOf Lossless = 0
+bitsOf (Absolute e) = toBits binary32 e
+bitsOf (Relative e) = toBits binary32 e
+
+abbrev pub small : ℕ → Bool
+small w = ltb w (2 ^ 32)
+
+-- words that are not of 32 bits are no bound, and stand for one that is not allowed
+unfoldable pub boundIn : ℕ → ℕ → ErrorBound
+boundIn kind bits = cond (small kind && small bits) (boundOf kind bits) (Absolute nan)
+
+-- ---- a timestamp, in two's complement
+unfoldable pub timeIn : ℕ → ℤ
+timeIn w = cond (ltb w (2 ^ 63)) (pos w) (negsuc (2 ^ 64 - suc w))
+
+unfoldable pub wordOfTime : ℤ → ℕ
+wordOfTime (pos n) = n
+wordOfTime (negsuc n) = 2 ^ 64 - suc n

@@ -1,0 +1,3 @@
+-- What the proofs of the choice's C face share.
+pub mod Parts
+pub mod Back

@@ -1,0 +1,2 @@
+-- How the choice crosses the C face.
+pub mod Row

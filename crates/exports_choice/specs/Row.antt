@@ -1,0 +1,61 @@
+-- A builder's row is that of PMC-Mean and then that of Swing, and the last word of each says whether the model stands for all values so far, 1, or has
+-- failed, 0. The model that is chosen is five words.
+use mathlib.Core.Bool.{Bool, cond, not, _&&_, _||_}
+use mathlib.Core.List.{List, [], _∷_, _++_}
+use Prim.Native.Nat.{ℕ}
+use lib.Dec.{eqb, leb}
+use lib.ListN.{drop, getD}
+use lib.Ieee.{binary32, toBits}
+use Rattle.models.specs.Answers.{Stepped}
+use Rattle.pmc_mean.specs.declared.PMCMean.{PMCMean}
+use Rattle.types.specs.declared.ModelBuilder.{ModelBuilder}
+use Rattle.types.specs.declared.SelectedModel.{SelectedModel}
+use Rattle.exports_fit.specs.Row.{pmcRow, pmcIn, swingRow, swingIn}
+
+unfoldable pub builderRow : ModelBuilder → List ℕ
+builderRow b =
+    pmcRow (b .«pmc_mean») (b .«pmc_mean_could_fit_all»)
+    ++ swingRow (b .swing) (b .«swing_could_fit_all»)
+
+-- ---- the builder that words stand for
+
+-- the state that may not be used
+abbrev pub unusable : PMCMean → PMCMean
+unusable s =
+    record {
+      «error_bound» = s .«error_bound»;
+      «min_value» = s .«min_value»;
+      «max_value» = s .«max_value»;
+      «sum_of_values» = s .«sum_of_values»;
+      length = 65537;
+    }
+
+-- a flag is 0 or 1; where one is neither, both models are taken as live, and the first may not be used
+abbrev pub flags : List ℕ → Bool
+flags row = leb (getD row 6 0) 1 && leb (getD row 19 0) 1
+
+abbrev pub live : List ℕ → ℕ → Bool
+live row at = not (flags row) || eqb (getD row at 0) 1
+
+unfoldable pub builderIn : List ℕ → ModelBuilder
+builderIn row =
+    record {
+      «pmc_mean» = cond (flags row) (pmcIn row) (unusable (pmcIn row));
+      «pmc_mean_could_fit_all» = live row 6;
+      swing = swingIn (drop 7 row);
+      «swing_could_fit_all» = live row 19;
+    }
+
+-- the row of what a step gives
+abbrev pub builderStep : Stepped ModelBuilder → List ℕ
+builderStep t = builderRow (t .state)
+
+-- ---- the chosen model: 0 for PMC-Mean or 1 for Swing; the length; the first and the last value; the f32 pattern of the bytes for each value
+unfoldable pub modelWords : SelectedModel → List ℕ
+modelWords m =
+    m .«model_type_id»
+    ∷ m .length
+    ∷ m .«first_value»
+    ∷ m .«last_value»
+    ∷ toBits binary32 (m .«bytes_per_value»)
+    ∷ []

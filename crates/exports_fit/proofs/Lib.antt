@@ -1,0 +1,3 @@
+-- What the proofs of the C face of the models share.
+pub mod Lengths
+pub mod Back

@@ -1,0 +1,2 @@
+-- How the states of PMC-Mean and Swing cross the C face.
+pub mod Row

@@ -1,0 +1,88 @@
+-- The states of PMC-Mean and Swing as rows of words. A row ends in a word that a step sets, to 1 where the value fitted and to 0 where it did not; a
+-- model's own calls do not look at it, and in a builder's row it says whether the model stands for all values so far.
+use mathlib.Core.Bool.{Bool, cond, _&&_}
+use mathlib.Core.List.{List, [], _∷_}
+use Prim.Native.Nat.{ℕ, _%_, _^_}
+use lib.ListN.{getD}
+use lib.Ieee.{binary32, binary64, ofBits, toBits}
+use Rattle.models.specs.Answers.{Stepped}
+use Rattle.pmc_mean.specs.declared.PMCMean.{PMCMean}
+use Rattle.swing.specs.Model.{Ends}
+use Rattle.swing.specs.declared.Swing.{Swing}
+use Rattle.exports.specs.Face.{wordOf}
+use Rattle.exports.specs.Words.{kindOf, bitsOf, small, boundIn, timeIn, wordOfTime}
+
+-- ---- PMC-Mean, seven words: the bound's kind and bits; the least and the greatest value; the sum; the length; the last word
+unfoldable pub pmcRow : PMCMean → Bool → List ℕ
+pmcRow s fits =
+    kindOf (s .«error_bound»)
+    ∷ bitsOf (s .«error_bound»)
+    ∷ toBits binary32 (s .«min_value»)
+    ∷ toBits binary32 (s .«max_value»)
+    ∷ toBits binary64 (s .«sum_of_values»)
+    ∷ s .length
+    ∷ wordOf fits
+    ∷ []
+
+-- a word that is no f32 makes a length that no state may have
+unfoldable pub pmcIn : List ℕ → PMCMean
+pmcIn row =
+    record {
+      «error_bound» = boundIn (getD row 0 0) (getD row 1 0);
+      «min_value» = ofBits binary32 (getD row 2 0 % 2 ^ 32);
+      «max_value» = ofBits binary32 (getD row 3 0 % 2 ^ 32);
+      «sum_of_values» = ofBits binary64 (getD row 4 0);
+      length = cond (small (getD row 2 0) && small (getD row 3 0)) (getD row 5 0) 65537;
+    }
+
+-- ---- Swing, thirteen words: the bound's kind and bits; the first and the last time; the first value; slope and intercept of the upper and of the lower
+-- line; the fraction of the slope with the least error; the length; the last word
+unfoldable pub swingRow : Swing → Bool → List ℕ
+swingRow s fits =
+    kindOf (s .«error_bound»)
+    ∷ bitsOf (s .«error_bound»)
+    ∷ wordOfTime (s .«start_time»)
+    ∷ wordOfTime (s .«end_time»)
+    ∷ toBits binary64 (s .«first_value»)
+    ∷ toBits binary64 (s .«upper_bound_slope»)
+    ∷ toBits binary64 (s .«upper_bound_intercept»)
+    ∷ toBits binary64 (s .«lower_bound_slope»)
+    ∷ toBits binary64 (s .«lower_bound_intercept»)
+    ∷ toBits binary64 (s .«slope_with_minimum_mse_numerator»)
+    ∷ toBits binary64 (s .«slope_with_minimum_mse_denominator»)
+    ∷ s .length
+    ∷ wordOf fits
+    ∷ []
+
+unfoldable pub swingIn : List ℕ → Swing
+swingIn row =
+    record {
+      «error_bound» = boundIn (getD row 0 0) (getD row 1 0);
+      «start_time» = timeIn (getD row 2 0);
+      «end_time» = timeIn (getD row 3 0);
+      «first_value» = ofBits binary64 (getD row 4 0);
+      «upper_bound_slope» = ofBits binary64 (getD row 5 0);
+      «upper_bound_intercept» = ofBits binary64 (getD row 6 0);
+      «lower_bound_slope» = ofBits binary64 (getD row 7 0);
+      «lower_bound_intercept» = ofBits binary64 (getD row 8 0);
+      «slope_with_minimum_mse_numerator» = ofBits binary64 (getD row 9 0);
+      «slope_with_minimum_mse_denominator» = ofBits binary64 (getD row 10 0);
+      length = getD row 11 0;
+    }
+
+-- ---- the row of what a step or a fresh state gives
+abbrev pub pmcStep : Stepped PMCMean → List ℕ
+pmcStep t = pmcRow (t .state) (t .fits)
+
+abbrev pub swingStep : Stepped Swing → List ℕ
+swingStep t = swingRow (t .state) (t .fits)
+
+-- ---- the words of an answer
+abbrev pub oneWord : ℕ → List ℕ
+oneWord w = w ∷ []
+
+abbrev pub endsAt : ℕ → ℕ → Ends
+endsAt first last = record { first = first; last = last }
+
+abbrev pub twoWords : Ends → List ℕ
+twoWords e = e .first ∷ e .last ∷ []

@@ -1,0 +1,24 @@
+-- `list::print_front` is safe: the bytes that it prints are there. Assumes nothing.
+use borrow.Author.Needs.{needs}
+use mathlib.Core.Path.{sym}
+use lib.Seq.{length-take-le}
+use Rattle.list.proofs.print_front.Statement.{statement}
+use Rattle.list.proofs.print_front.Tie as tie
+
+slice-aggregate-write-all : tie.Need-slice-aggregate-write-all
+slice-aggregate-write-all c =
+    let a = c .before .before .before .args in
+    sym (length-take-le (a .n) (a .line .now) (search needs))
+
+write-all-requires : tie.Need-write-all-requires
+write-all-requires c κs = search needs
+
+returns : tie.Need-returns
+returns c = search needs
+
+returns-2 : tie.Need-returns-2
+returns-2 c = search needs
+
+pub print-front-spec : {M : Type 1} → statement M
+print-front-spec =
+    tie.close (tie.spec slice-aggregate-write-all write-all-requires returns returns-2)

@@ -1,0 +1,73 @@
+-- `listing::judge` meets its contract. Assumes nothing.
+use borrow.Author.Needs.{needs}
+use mathlib.Core.Path.{ap₂, _∙_}
+use mathlib.Core.List.{List}
+use Prim.Native.Nat.{ℕ, _-_}
+use native.Mathlib.Omega.{arith}
+use borrow.Author.Tests.{lt-ltb, le-ltb}
+use lib.ListN.{length, drop, length-drop}
+use lib.Seq.{take-all}
+use Rattle.models.specs.Answers.{judge}
+use Rattle.models.specs.Limits.{mostValues}
+use Rattle.listing.specs.Listing.{countIn, readWhole}
+use Rattle.listing.specs.Calls.{counted, judgeAnswer}
+use Rattle.listing.proofs.judge.Statement.{statement}
+use Rattle.listing.proofs.judge.Tie as tie
+
+returns : tie.Need-returns
+unfolding judgeAnswer judge
+returns c =
+    let l = length (c .before .before .args .input .now) in
+    rw (lt-ltb 32768 l (omega arith))
+
+returns-2 : tie.Need-returns-2
+unfolding judgeAnswer judge
+returns-2 c =
+    let l = length (c .before .before .before .args .input .now) in
+    rw (le-ltb 32768 l (omega arith), lt-ltb l 4 (omega arith))
+
+count-in-requires : tie.Need-count-in-requires
+count-in-requires c κs = search needs
+
+returns-3 : tie.Need-returns-3
+unfolding judgeAnswer judge
+returns-3 c =
+    let input = c .before .before .before .before .before .args .input .now in
+    let l = length input in
+    let n = countIn input in
+    rw (le-ltb 32768 l (omega arith), le-ltb l 4 (omega arith), lt-ltb mostValues n (omega (arith, c .before .count-in .ensures)))
+
+sub-judge-stream : tie.Need-sub-judge-stream
+sub-judge-stream c = search needs
+
+part-judge-stream-start : tie.Need-part-judge-stream-start
+part-judge-stream-start c = search needs
+
+part-judge-stream-end : tie.Need-part-judge-stream-end
+part-judge-stream-end c = search needs
+
+judge-stream-requires : tie.Need-judge-stream-requires
+judge-stream-requires c κs = search needs
+
+returns-4 : tie.Need-returns-4
+unfolding judgeAnswer judge
+returns-4 c =
+    let input = c .before .before .before .before .before .before .before .args .input .now in
+    let l = length input in
+    let n = countIn input in
+    rw (le-ltb 32768 l (omega arith), le-ltb l 4 (omega arith), le-ltb mostValues n (omega (arith, c .before .before .before .count-in .ensures)))
+    (c .judge-stream .ensures ∙ ap₂ (λ (k : ℕ) (bytes : List ℕ). counted k (readWhole k bytes)) (c .before .before .before .count-in .ensures) (take-all (l - 4) (drop 4 input) (omega (arith, length-drop 4 input))))
+
+pub judge-spec : {M : Type 1} → statement M
+judge-spec =
+    tie.close
+    (tie.spec
+    returns
+    returns-2
+    count-in-requires
+    returns-3
+    sub-judge-stream
+    part-judge-stream-start
+    part-judge-stream-end
+    judge-stream-requires
+    returns-4)

@@ -1,0 +1,52 @@
+-- `listing::line::number` meets its contract. Assumes nothing.
+use borrow.Author.Needs.{needs}
+use mathlib.Core.Path.{_≡_, refl, ap, _∙_}
+use Prim.Native.Nat.{ℕ, _+_}
+use native.Mathlib.Omega.{arith}
+use lib.Seq.{sets}
+use Rattle.listing.specs.Text.{digitsOf, places, decimal}
+use Rattle.listing.proofs.Putting.{put-byte, length-digits}
+use Rattle.listing.proofs.line.number.Statement.{statement}
+use Rattle.listing.proofs.line.number.Tie as tie
+
+places-requires : tie.Need-places-requires
+places-requires c κs = search needs
+
+digits-requires : tie.Need-digits-requires
+digits-requires c κs = search needs
+
+add-line : tie.Need-add-line
+add-line c = search needs
+
+element-write-line : tie.Need-element-write-line
+element-write-line c = search needs
+
+add-result : tie.Need-add-result
+add-result c = search needs
+
+add-result-2 : tie.Need-add-result-2
+add-result-2 c = search needs
+
+returns : tie.Need-returns
+returns c =
+    let a = c .before .before .before .args in
+    let k = c .before .before .places .result in
+    let e : k ≡ places (a .n) = c .before .before .places .ensures .0 in (
+      put-byte (decimal (a .n)) (a .end) (a .at + k + 1)
+          (c .digits .ensures ∙ ap (λ (j : ℕ). sets (a .line .now) (a .at) (digitsOf 10 j (a .n))) e)
+          (omega (arith, length-digits 10 (places (a .n)) (a .n)))
+          refl,
+      omega arith,
+    )
+
+pub number-spec : {M : Type 1} → statement M
+number-spec =
+    tie.close
+    (tie.spec
+    places-requires
+    digits-requires
+    add-line
+    element-write-line
+    add-result
+    add-result-2
+    returns)

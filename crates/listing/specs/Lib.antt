@@ -1,0 +1,5 @@
+-- What the contracts of `listing` cite.
+pub mod Text
+pub mod Rows
+pub mod Listing
+pub mod Calls

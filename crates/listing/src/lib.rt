@@ -1,0 +1,247 @@
+// The listing of a with-first stream, line by line: the header, a row for each value, the total; or the one line of a refusal.
+// A line's text goes to the front of a lent array, and the call answers how long it is.
+ghost use mathlib.Core.Path.{_≡_};
+ghost use Prim.Native.Nat.{_+_, _*_, _≤_, _<_};
+ghost use lib.ListN.{length};
+ghost use Rattle.coding.specs.Ahead.{bitsIn as wordBits};
+ghost use Rattle.models.specs.Refusals.{number};
+ghost use Rattle.macaque_v.specs.declared.Opening.the-variants.{First};
+ghost use Rattle.macaque_v.specs.ReadRun.{Stands};
+ghost use Rattle.macaque_v.specs.Read.{startOf};
+ghost use Rattle.listing.specs.Text.{headerText, totalText, refusedText, laid};
+ghost use Rattle.listing.specs.Rows.{kindRead};
+ghost use Rattle.listing.specs.Listing.{countIn, readWhole};
+ghost use Rattle.listing.specs.Calls.{counted, judgeAnswer, saysJudged, mayStand, nextRow, saysFound, rowAnswer, rowMemory, saysRow};
+
+mod line;
+
+use coding::decode;
+use coding::decode::Decoded;
+use macaque_v::MacaqueV;
+use macaque_v::read_run;
+use macaque_v::read_run::Aim;
+use macaque_v::read_run::Cursor;
+use macaque_v::read_run::Walk;
+use models::Refusal;
+
+// How a value stands in the stream: in full, as a repeat, with a new window, or in the window that is kept.
+pub enum Kind {
+    Raw,
+    Same,
+    New,
+    Keep,
+}
+
+// What a row says, but for its number.
+pub struct Fields {
+    pub kind: Kind,
+    // The leading zeros of the window.
+    pub lead: u32,
+    // How many bits the value takes.
+    pub bits: usize,
+    pub value: u32,
+}
+
+// How many rows there are, or why there are none.
+pub enum Judged {
+    Rows(usize),
+    Refused(Refusal),
+}
+
+// The length of a row's line and where reading stands behind its value; or why there is no row.
+pub enum RowAnswer {
+    Row { length: usize, next: Cursor },
+    Refused(Refusal),
+}
+
+// ---- the public calls
+
+// Judges a whole input: four bytes of count, then the stream.
+pub fn judge(input: &[u8]) -> Judged
+    ensures { λ r. ⌜ saysJudged r ≡ judgeAnswer (now (input .entry)) ⌝ }
+{
+    if 32768 < input.len() {
+        return Judged::Refused(Refusal::OverLimit);
+    }
+    if input.len() < 4 {
+        return Judged::Refused(Refusal::EndsEarly);
+    }
+    let count = count_in(input);
+    if 65536 < count {
+        return Judged::Refused(Refusal::OverLimit);
+    }
+    judge_stream(&input[4..], count)
+}
+
+// The first line.
+pub fn header() -> [u8; 24]
+    ensures { λ r. ⌜ r ≡ headerText ⌝ }
+{
+    *b"no kind lead bits value\n"
+}
+
+// Where reading stands before the first row.
+pub fn start() -> Cursor
+    ensures { λ r. ⌜ r ≡ startOf First ⌝ }
+{
+    Cursor {
+        last: 0,
+        lead: MacaqueV::OPENING_LEADING,
+        trail: MacaqueV::OPENING_TRAILING,
+        place: 0,
+        count: 0,
+    }
+}
+
+// The line of the next value.
+pub fn row(stream: &[u8], at: Cursor, line: &mut [u8; 80]) -> RowAnswer
+    ensures answer { λ r. ⌜ saysRow r ≡ rowAnswer (now (stream .entry)) at ⌝ }
+    ensures text { λ r. ⌜ now (line .exit) ≡ rowMemory (now (stream .entry)) at (now (line .entry)) ⌝ }
+{
+    if !may_stand(stream.len(), at) {
+        return RowAnswer::Refused(Refusal::StateNotAllowed);
+    }
+    if 65536 <= at.count {
+        return RowAnswer::Refused(Refusal::OverLimit);
+    }
+    match find(stream, at) {
+        Found::Refused(r) => RowAnswer::Refused(r),
+        Found::At(row, next) => {
+            let length = line::row(at.count, row, line);
+            RowAnswer::Row { length, next }
+        }
+    }
+}
+
+// The last line, by the bits of all rows.
+pub fn total(bits: usize, line: &mut [u8; 80]) -> usize
+    ensures length { λ r. ⌜ r ≡ length (totalText bits) ⌝ }
+    ensures text { λ r. ⌜ now (line .exit) ≡ laid (totalText bits) (now (line .entry)) ⌝ }
+{
+    let at = line::word(b"total ", line, 0);
+    line::number(bits, b'\n', line, at)
+}
+
+// The only line of an input that is refused.
+pub fn refusal(cause: Refusal, line: &mut [u8; 80]) -> usize
+    ensures length { λ r. ⌜ r ≡ length (refusedText (number cause)) ⌝ }
+    ensures text { λ r. ⌜ now (line .exit) ≡ laid (refusedText (number cause)) (now (line .entry)) ⌝ }
+{
+    let at = line::word(b"refused ", line, 0);
+    line::number(models::number_of(cause) as usize, b'\n', line, at)
+}
+
+// ---- the input
+
+fn count_in(input: &[u8]) -> usize
+    requires { ⌜ 4 ≤ length (now input) ⌝ }
+    ensures { λ r. ⌜ r ≡ countIn (now (input .entry)) ⌝ }
+{
+    joined(input[0], input[1], input[2], input[3])
+}
+
+// Four bytes, the lowest first.
+fn joined(a: u8, b: u8, c: u8, d: u8) -> usize
+    ensures { λ r. ⌜ r ≡ a + 256 * (b + 256 * (c + 256 * d)) ⌝ }
+{
+    (a as usize) + 256 * ((b as usize) + 256 * ((c as usize) + 256 * (d as usize)))
+}
+
+fn judge_stream(stream: &[u8], count: usize) -> Judged
+    requires { ⌜ count ≤ 65536 ⌝ }
+    ensures { λ r. ⌜ saysJudged r ≡ counted count (readWhole count (now (stream .entry))) ⌝ }
+{
+    match read_run::go_to_end(stream, true, start(), count, Aim::Nothing) {
+        Walk::Refused(r) => Judged::Refused(r),
+        Walk::To(_, _) => Judged::Rows(count),
+    }
+}
+
+// ---- one row
+
+// A row, and where reading stands behind its value.
+pub enum Found {
+    At(Fields, Cursor),
+    Refused(Refusal),
+}
+
+// Whether reading may stand there, in a stream of so many bytes.
+fn may_stand(room: usize, at: Cursor) -> bool
+    ensures { λ r. ⌜ r ≡ mayStand room at ⌝ }
+{
+    if 65536 < at.count {
+        return false;
+    }
+    if 45 * at.count < at.place {
+        return false;
+    }
+    if room < (at.place + 7) / 8 {
+        return false;
+    }
+    if at.lead == 255 {
+        return true;
+    }
+    if 32 <= at.lead {
+        return false;
+    }
+    at.trail < 32 - at.lead
+}
+
+fn find(stream: &[u8], at: Cursor) -> Found
+    requires { ⌜ Stands (now stream) at × (at .count < 65536) ⌝ }
+    ensures { λ r. ⌜ saysFound r ≡ nextRow (now (stream .entry)) at ⌝ }
+{
+    let raw = at.count == 0;
+    let ahead = decode::look(stream, at.place);
+    match decode::decode(raw, ahead.word, ahead.left, at.lead, at.trail, at.last) {
+        Decoded::Refused(r) => Found::Refused(r),
+        Decoded::Got {
+            value,
+            lead,
+            trail,
+            used,
+        } => {
+            let kind = kind_of(raw, ahead.word, ahead.left);
+            let place = at.place + used;
+            let count = at.count + 1;
+            Found::At(
+                Fields {
+                    kind,
+                    lead,
+                    bits: used,
+                    value,
+                },
+                Cursor {
+                    last: value,
+                    lead,
+                    trail,
+                    place,
+                    count,
+                },
+            )
+        }
+    }
+}
+
+// The kind of the value that the first `left` bits of `word` begin with: `0` keeps the window, `10` repeats, `11` sets a window.
+fn kind_of(raw: bool, word: u64, left: usize) -> Kind
+    ensures { λ r. ⌜ r ≡ kindRead raw (wordBits word left) ⌝ }
+{
+    if raw {
+        return Kind::Raw;
+    }
+    if left < 1 {
+        return Kind::Raw;
+    }
+    let head = word >> 62;
+    if head < 2 {
+        return Kind::Keep;
+    }
+    if left < 2 {
+        return Kind::Raw;
+    }
+    if head == 2 {
+        return Kind::Same;
+    }
+    Kind::New
+}

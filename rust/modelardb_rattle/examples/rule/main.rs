@@ -1,0 +1,43 @@
+//! The rule that chooses the model of a segment, shown by the proved library. Usage:
+//! `rule FILE BOUND M`: reading by reading, what each model does and which one is chosen, for a file
+//! with a time and a value on each line, a bound (`lossless`, `0.5`, `5%`) and a metadata size.
+//! `rule`: the table of docs/THE-RULE.md.
+
+#[path = "../shared/readings.rs"]
+mod readings;
+mod steps;
+mod table;
+
+use modelardb_rattle::ErrorBound;
+use std::process::ExitCode;
+
+fn main() -> ExitCode {
+    let words: Vec<String> = std::env::args().skip(1).collect();
+    let text = match words.as_slice() {
+        [] => table::table().map_err(|refusal| refusal.to_string()),
+        [file, bound, m] => shown(file, bound, m),
+        _ => Err("usage: rule, or rule FILE BOUND M".to_string()),
+    };
+    match text {
+        Ok(text) => {
+            print!("{text}");
+            ExitCode::SUCCESS
+        }
+        Err(why) => {
+            eprintln!("{why}");
+            ExitCode::FAILURE
+        }
+    }
+}
+
+fn shown(file: &str, bound: &str, m: &str) -> Result<String, String> {
+    let (times, values) = readings::of_file(file)?;
+    let m = m.parse().map_err(|_| format!("{m:?} is no size"))?;
+    let error_bound = match bound.strip_suffix('%') {
+        _ if bound == "lossless" => ErrorBound::Lossless,
+        Some(percent) => ErrorBound::Relative(readings::number(percent)?),
+        None => ErrorBound::Absolute(readings::number(bound)?),
+    };
+    let steps = steps::steps(&times, &values, error_bound, m)?;
+    steps.map_err(|refusal| refusal.to_string())
+}

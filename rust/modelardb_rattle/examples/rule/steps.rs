@@ -1,0 +1,130 @@
+//! The rule reading by reading: what each model does with it, and the choice in the end.
+
+use crate::table::{bound, kept, name, why};
+use modelardb_rattle::{
+    ErrorBound, PMCMean, Refusal, Swing, choose_model, is_value_within_error_bound,
+};
+
+/// What is said of the readings, or why a time cannot be read.
+pub fn steps(
+    times: &[String],
+    values: &[f32],
+    error_bound: ErrorBound,
+    m: usize,
+) -> Result<Result<String, Refusal>, String> {
+    let minutes: Result<Vec<i64>, String> = times.iter().map(|time| minute(time)).collect();
+    Ok(said(times, &minutes?, values, error_bound, m))
+}
+
+/// The minute of the day that a time as 06:05 names.
+fn minute(time: &str) -> Result<i64, String> {
+    let (hours, minutes) = time.split_once(':').unwrap_or(("", ""));
+    match (hours.parse::<i64>(), minutes.parse::<i64>()) {
+        (Ok(hours), Ok(minutes)) => Ok(60 * hours + minutes),
+        _ => Err(format!("{time:?} is no time of the day")),
+    }
+}
+
+fn said(
+    times: &[String],
+    minutes: &[i64],
+    values: &[f32],
+    error_bound: ErrorBound,
+    m: usize,
+) -> Result<String, Refusal> {
+    let mut text = format!("bound {}, M {m}\n", bound(error_bound));
+    let (mut average, mut line) = (Average::new(error_bound)?, Swing::new(error_bound)?);
+    let (mut average_fits, mut line_fits) = (true, true);
+    for ((time, &minute), &value) in times.iter().zip(minutes).zip(values) {
+        text += &format!("{time}  {value}\n");
+        let mut why;
+        if average_fits {
+            (average_fits, why) = average.tried(value)?;
+            text += &format!("  PMC-Mean: {why}\n");
+        }
+        if line_fits {
+            (line_fits, why) = tried(&mut line, minute, value)?;
+            text += &format!("  Swing: {why}\n");
+        }
+        if !average_fits && !line_fits {
+            text += "  Both models have stopped.\n";
+            break;
+        }
+    }
+    let chosen = choose_model(minutes, values, error_bound, m)?;
+    let (length, other_length) = (average.fitted.len(), line.len());
+    let cost = average.fitted.bytes_per_value(m)?;
+    let other_cost = line.bytes_per_value(m)?;
+    text += &format!("PMC-Mean: {m} / {length} = {cost} bytes a reading\n");
+    text += &format!("Swing: ({m} + 1) / {other_length} = {other_cost} bytes a reading\n");
+    let (name, kept) = (name(&chosen), kept(&chosen));
+    let (length, why) = (chosen.length(), why(&chosen, cost, other_cost));
+    text += &format!("chosen: {name} for {length}, which keeps {kept}: {why}\n");
+    Ok(text)
+}
+
+/// PMC-Mean, and beside it a model of the same values that takes any finite one, to show an average
+/// that is too far off.
+struct Average {
+    fitted: PMCMean,
+    loose: PMCMean,
+}
+
+impl Average {
+    fn new(error_bound: ErrorBound) -> Result<Self, Refusal> {
+        Ok(Self {
+            fitted: PMCMean::new(error_bound)?,
+            loose: PMCMean::new(ErrorBound::Absolute(f32::MAX))?,
+        })
+    }
+
+    /// Whether the value fits, and why.
+    fn tried(&mut self, value: f32) -> Result<(bool, String), Refusal> {
+        let fits = self.fitted.fit_value(value)?;
+        if !self.loose.fit_value(value)? {
+            return Ok((fits, "takes no such value, stops".to_string()));
+        }
+        let (least, greatest) = (self.loose.min_value(), self.loose.max_value());
+        let average = self.loose.model()?;
+        let error_bound = self.fitted.error_bound();
+        let is_least_within = is_value_within_error_bound(error_bound, least, average)?;
+        let far = if is_least_within { greatest } else { least };
+        let why = if fits {
+            format!("average {average}, from {least} to {greatest}: fits")
+        } else {
+            format!("average {average} is too far from {far}: does not fit, stops")
+        };
+        Ok((fits, why))
+    }
+}
+
+/// Whether the point fits Swing, and why.
+fn tried(model: &mut Swing, minute: i64, value: f32) -> Result<(bool, String), Refusal> {
+    let before = *model;
+    let fits = model.fit_data_point(minute, value)?;
+    let (upper, lower) = if fits {
+        model.slopes()
+    } else {
+        before.slopes()
+    };
+    let later = (minute - before.start_time()) as f64;
+    let why = if model.len() == 1 && fits {
+        "the line starts here: fits".to_string()
+    } else if fits {
+        let (upper, lower) = (short(upper), short(lower));
+        format!("may rise by {lower} to {upper} a minute: fits")
+    } else if before.len() == 1 {
+        "takes no such value, stops".to_string()
+    } else {
+        let first = f64::from(before.model()?.0);
+        let (upper, lower) = (short(first + upper * later), short(first + lower * later));
+        format!("passes at {lower} to {upper} here, too far from it: does not fit, stops")
+    };
+    Ok((fits, why))
+}
+
+/// A number to four decimals.
+fn short(number: f64) -> String {
+    let text = format!("{number:.4}");
+    text.trim_end_matches('0').trim_end_matches('.').to_string()
+}
