@@ -1,13 +1,13 @@
 -- What the calls answer and leave, case by case. Assumes nothing.
 use mathlib.Core.Path.{_≡_, refl, sym, ap, _∙_}
-use mathlib.Core.Bool.{Bool, true, false, cond}
-use mathlib.Core.List.{List, [], _∷_, _++_}
+use mathlib.Core.Bool.{true, false}
+use mathlib.Core.List.{List, [], _∷_}
 use Prim.Native.Nat.{ℕ, _≤_, _<_}
 use native.Mathlib.Omega.{arith}
-use borrow.Author.Tests.{le-leb, lt-ltb, le-ltb}
-use lib.Dec.{leb, ltb}
+use borrow.Author.Tests.{lt-ltb, le-ltb}
+use lib.Dec.{ltb}
 use lib.ListN.{length, drop, set}
-use Rattle.models.specs.Answers.{Said, answered, refused, judge, verdict}
+use Rattle.models.specs.Answers.{Said, answered, judge, verdict}
 use Rattle.models.specs.Refusals.{number}
 use Rattle.models.specs.Calls.{saysVerdict}
 use Rattle.models.specs.declared.ErrorBound.{ErrorBound}
@@ -20,19 +20,16 @@ use Rattle.parameters.specs.Calls.{lengthAnswer, bytesAfter}
 use Rattle.parameters.specs.declared.Form.{Form}
 use Rattle.segments.specs.Calls.{writeAnswer, valuesAfter, residualsAfter}
 use Rattle.segments.specs.declared.Segment.{Segment}
-use Rattle.exports.specs.Face.{numberOf, rowAfter}
-use Rattle.exports.proofs.Rows.{Faced}
-use Rattle.exports_segments.specs.Calls.{oneWord, endsWords, segmentWords, numberIn, rowIn, rowShort, encodeNumber, encodeOut, encodeRow}
+use Rattle.exports.specs.Face.{plainNumber}
+use Rattle.exports.proofs.Rows.{Faced, all-words}
+use Rattle.exports_segments.specs.Calls.{oneWord, endsWords, segmentWords, rowIn, rowShort, encodeNumber, encodeOut, encodeRow}
 use Rattle.exports_segments.specs.Calls.{segmentCauses, segmentNumber, segmentValuesOut, segmentResidualsOut, segmentRow}
 
 -- ---- two words to the front of a row
 pub two-words : (row : List ℕ) (said : Said Ends) (first last : ℕ) → said ≡ answered (first, last) → 2 ≤ length row → Faced endsWords 2 row said 0 (set (set row 0 first) 1 last)
-unfolding numberOf rowAfter
 two-words row said first last e h =
-    let f : leb 2 (length row) ≡ true = le-leb 2 (length row) h in (
-      sym (ap (numberOf 2 (length row)) e ∙ ap (λ (b : Bool). cond b 0 4) f),
-      sym (ap (rowAfter 2 endsWords row) e ∙ ap (λ (b : Bool). cond b (first ∷ last ∷ drop 2 row) row) f ∙ front row h),
-    )
+    let f = all-words endsWords row said 2 (first, last) e refl h in
+    (f .0, sym (front row h) ∙ f .1)
   where
     front : (l : List ℕ) → 2 ≤ length l → first ∷ last ∷ drop 2 l ≡ set (set l 0 first) 1 last
     front [] g = absurd (omega arith)
@@ -48,14 +45,14 @@ module _ (form : Form) (out row : List ℕ) where
       (sym (rw e), sym (rw e), sym (rw e))
 
   pub encode-said : (said : Said ℕ) → said ≡ lengthAnswer (formBytes form) out → 1 ≤ length row
-      → (numberIn said ≡ encodeNumber form out row)
+      → (plainNumber said ≡ encodeNumber form out row)
       × (bytesAfter (formBytes form) out ≡ encodeOut form out row)
       × (rowIn oneWord row said ≡ encodeRow form out row)
   unfolding encodeNumber encodeOut encodeRow
   encode-said said q h =
       let causes = rowShort 1 (length row) ∷ [] in
       let e : ltb (length row) 1 ≡ false = le-ltb (length row) 1 h in (
-        ap numberIn q ∙ accepted (λ (n : ℕ). n) _ causes (e, tt),
+        ap plainNumber q ∙ accepted (λ (n : ℕ). n) _ causes (e, tt),
         accepted (λ (n : ℕ). out) _ causes (e, tt),
         ap (rowIn oneWord row) q ∙ accepted (λ (n : ℕ). row) _ causes (e, tt),
       )
@@ -80,11 +77,11 @@ module _ (model first last : ℕ) (b : ErrorBound) (xs valuesOut residualsOut ro
       )
 
   pub segment-passed : (said : Said Segment) → said ≡ writeAnswer model first last b xs valuesOut residualsOut → v ≡ Passed
-      → Left (numberIn said) (valuesAfter model first last b xs valuesOut residualsOut) (residualsAfter model first last b xs valuesOut residualsOut) (rowIn segmentWords row said)
+      → Left (plainNumber said) (valuesAfter model first last b xs valuesOut residualsOut) (residualsAfter model first last b xs valuesOut residualsOut) (rowIn segmentWords row said)
   unfolding segmentNumber segmentValuesOut segmentResidualsOut segmentRow
   segment-passed said q e =
       let causes = segmentCauses model b xs (length row) in (
-        ap numberIn q ∙ when-passed causes v says (λ (n : ℕ). n) _ e,
+        ap plainNumber q ∙ when-passed causes v says (λ (n : ℕ). n) _ e,
         when-passed causes v says (λ (n : ℕ). valuesOut) _ e,
         when-passed causes v says (λ (n : ℕ). residualsOut) _ e,
         ap (rowIn segmentWords row) q ∙ when-passed causes v says (λ (n : ℕ). row) _ e,

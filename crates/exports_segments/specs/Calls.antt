@@ -15,7 +15,7 @@ use Rattle.segments.specs.Calls.{writeCauses, writeAnswer, valuesAfter, residua
 use Rattle.segments.specs.declared.Segment.{Segment}
 use Rattle.segment_grid.specs.Segment.{endsIn}
 use Rattle.segment_grid.specs.Calls.{gridAnswer, gridMemory, sumAnswer}
-use Rattle.exports.specs.Face.{boundOf, numberOf, rowAfter}
+use Rattle.exports.specs.Face.{numberOf, rowAfter, plainNumber}
 
 -- ---- the words of an answer
 
@@ -31,11 +31,7 @@ endsWords ends = ends .0 ∷ ends .1 ∷ []
 abbrev pub segmentWords : Segment → List ℕ
 segmentWords s = s .«min_value» ∷ s .«max_value» ∷ s .«values_length» ∷ s .«residuals_length» ∷ []
 
--- ---- of what a call says: the number, and the row with the words at its front
-
-abbrev pub numberIn : {A : Type 0} → Said A → ℕ
-numberIn (answered x) = 0
-numberIn (refused n) = n
+-- ---- of what a call says: the row with the words at its front
 
 abbrev pub rowIn : {A : Type 0} → (A → List ℕ) → List ℕ → Said A → List ℕ
 rowIn words row (answered x) = words x ++ drop (length (words x)) row
@@ -48,7 +44,7 @@ rowShort need room = 4 when ltb room need
 -- ---- encode: the bytes of a form, and the row that takes their number
 
 unfoldable pub encodeNumber : Form → List ℕ → List ℕ → ℕ
-encodeNumber form out row = judge (λ (n : ℕ). n) (rowShort 1 (length row) ∷ []) (numberIn (lengthAnswer (formBytes form) out))
+encodeNumber form out row = judge (λ (n : ℕ). n) (rowShort 1 (length row) ∷ []) (plainNumber (lengthAnswer (formBytes form) out))
 
 unfoldable pub encodeOut : Form → List ℕ → List ℕ → List ℕ
 encodeOut form out row = judgedMemory out (rowShort 1 (length row) ∷ []) (bytesAfter (formBytes form) out)
@@ -63,7 +59,7 @@ segmentCauses model b xs room = writeCauses model b xs ++ (rowShort 4 room ∷ [
 
 unfoldable pub segmentNumber : ℕ → ℕ → ℕ → ErrorBound → List ℕ → List ℕ → List ℕ → List ℕ → ℕ
 segmentNumber model first last b xs valuesOut residualsOut row =
-    judge (λ (n : ℕ). n) (segmentCauses model b xs (length row)) (numberIn (writeAnswer model first last b xs valuesOut residualsOut))
+    judge (λ (n : ℕ). n) (segmentCauses model b xs (length row)) (plainNumber (writeAnswer model first last b xs valuesOut residualsOut))
 
 unfoldable pub segmentValuesOut : ℕ → ℕ → ℕ → ErrorBound → List ℕ → List ℕ → List ℕ → List ℕ → List ℕ
 segmentValuesOut model first last b xs valuesOut residualsOut row =
@@ -80,7 +76,7 @@ segmentRow model first last b xs valuesOut residualsOut row =
 -- ---- a segment's grid and sum, of its parameter bytes as they read against its least and greatest value
 
 unfoldable pub gridNumber : ℕ → List ℤ → ℕ → ℕ → List ℕ → List ℕ → List ℕ → ℕ
-gridNumber model ts min max values residuals out = numberIn (gridAnswer model ts (endsIn model min max values) residuals (length out))
+gridNumber model ts min max values residuals out = plainNumber (gridAnswer model ts (endsIn model min max values) residuals (length out))
 
 unfoldable pub gridOut : ℕ → List ℤ → ℕ → ℕ → List ℕ → List ℕ → List ℕ → List ℕ
 gridOut model ts min max values residuals out = gridMemory model ts (endsIn model min max values) residuals out

@@ -5,8 +5,8 @@ ghost use lib.ListN.{length};
 ghost use Rattle.models.specs.Calls.{saysValue};
 ghost use Rattle.parameters.specs.Calls.{saysLength, saysEnds};
 ghost use Rattle.segments.specs.Calls.{saysSegment};
-ghost use Rattle.exports.specs.Face.{numberOf, rowAfter};
-ghost use Rattle.exports_segments.specs.Calls.{oneWord, endsWords, segmentWords, numberIn, rowIn};
+ghost use Rattle.exports.specs.Face.{numberOf, rowAfter, plainNumber};
+ghost use Rattle.exports_segments.specs.Calls.{oneWord, endsWords, segmentWords, rowIn};
 use models::ValueAnswer;
 use parameters::EndsAnswer;
 use parameters::LengthAnswer;
@@ -51,7 +51,7 @@ pub fn put_ends(answer: EndsAnswer, out: &mut [u32]) -> u32
 
 pub fn put_length(answer: LengthAnswer, row: &mut [u64]) -> u32
     requires { ⌜ 1 ≤ length (now row) ⌝ }
-    ensures number { λ r. ⌜ r ≡ numberIn (saysLength answer) ⌝ }
+    ensures number { λ r. ⌜ r ≡ plainNumber (saysLength answer) ⌝ }
     ensures row { λ r. ⌜ now (row .exit) ≡ rowIn oneWord (now (row .entry)) (saysLength answer) ⌝ }
 {
     match answer {
@@ -66,7 +66,7 @@ pub fn put_length(answer: LengthAnswer, row: &mut [u64]) -> u32
 
 pub fn put_segment(answer: SegmentAnswer, row: &mut [u64]) -> u32
     requires { ⌜ 4 ≤ length (now row) ⌝ }
-    ensures number { λ r. ⌜ r ≡ numberIn (saysSegment answer) ⌝ }
+    ensures number { λ r. ⌜ r ≡ plainNumber (saysSegment answer) ⌝ }
     ensures row { λ r. ⌜ now (row .exit) ≡ rowIn segmentWords (now (row .entry)) (saysSegment answer) ⌝ }
 {
     match answer {

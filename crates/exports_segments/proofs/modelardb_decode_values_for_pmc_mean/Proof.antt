@@ -1,6 +1,6 @@
 -- `exports_segments::modelardb_decode_values_for_pmc_mean` meets its contract, by what the call behind it said. Assumes nothing.
 use borrow.Author.Needs.{needs}
-use mathlib.Core.Path.{_≡_, ap, _∙_}
+use mathlib.Core.Path.{ap, _∙_}
 use lib.ListN.{length}
 use Rattle.exports.specs.Face.{numberOf, rowAfter}
 use Rattle.exports_segments.specs.Calls.{oneWord}

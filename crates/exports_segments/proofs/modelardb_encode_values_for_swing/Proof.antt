@@ -1,6 +1,6 @@
 -- `exports_segments::modelardb_encode_values_for_swing` meets its contract: refused where the row is empty, else by what the call behind it said. Assumes nothing.
 use borrow.Author.Needs.{needs}
-use mathlib.Core.Path.{_≡_, _∙_}
+use mathlib.Core.Path.{_∙_}
 use Rattle.parameters.specs.Forms.{swingForm}
 use Rattle.exports_segments.proofs.Faces.{encode-short, encode-said}
 use Rattle.exports_segments.proofs.modelardb_encode_values_for_swing.Statement.{statement}

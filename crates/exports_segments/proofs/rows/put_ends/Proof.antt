@@ -1,6 +1,6 @@
 -- `exports_segments::rows::put_ends` meets its contract, case by case. Assumes nothing.
 use borrow.Author.Needs.{needs}
-use mathlib.Core.Path.{_≡_, ap, _∙_}
+use mathlib.Core.Path.{ap, _∙_}
 use Rattle.models.specs.Refusals.{number}
 use Rattle.parameters.specs.Calls.{saysEnds}
 use Rattle.exports.proofs.Rows.{refused-row, short-row}

@@ -1,9 +1,10 @@
 -- `exports_segments::rows::put_length` meets its contract, case by case. Assumes nothing.
 use borrow.Author.Needs.{needs}
-use mathlib.Core.Path.{_≡_, sym, ap, _∙_}
+use mathlib.Core.Path.{sym, ap, _∙_}
 use Rattle.parameters.specs.Calls.{saysLength}
 use Rattle.parameters.specs.declared.LengthAnswer.{LengthAnswer}
-use Rattle.exports_segments.specs.Calls.{oneWord, numberIn, rowIn}
+use Rattle.exports.specs.Face.{plainNumber}
+use Rattle.exports_segments.specs.Calls.{oneWord, rowIn}
 use Rattle.exports_segments.proofs.rows.put_length.Statement.{statement}
 use Rattle.exports_segments.proofs.rows.put_length.Tie as tie
 
@@ -33,7 +34,7 @@ returns-2 c =
     let k = c .before .before .before .before .before .before in
     let row = k .before .before .before .args .row .now in
     let e = k .answer2 .given .1 in
-    (sym (ap (λ (a : LengthAnswer). numberIn (saysLength a)) e), c .before .before .put-words .ensures ∙ sym (ap (λ (a : LengthAnswer). rowIn oneWord row (saysLength a)) e))
+    (sym (ap (λ (a : LengthAnswer). plainNumber (saysLength a)) e), c .before .before .put-words .ensures ∙ sym (ap (λ (a : LengthAnswer). rowIn oneWord row (saysLength a)) e))
 
 pub put-length-spec : {M : Type 1} → statement M
 put-length-spec =

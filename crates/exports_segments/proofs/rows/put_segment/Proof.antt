@@ -1,9 +1,10 @@
 -- `exports_segments::rows::put_segment` meets its contract, case by case. Assumes nothing.
 use borrow.Author.Needs.{needs}
-use mathlib.Core.Path.{_≡_, sym, ap, _∙_}
+use mathlib.Core.Path.{sym, ap, _∙_}
 use Rattle.segments.specs.Calls.{saysSegment}
 use Rattle.segments.specs.declared.SegmentAnswer.{SegmentAnswer}
-use Rattle.exports_segments.specs.Calls.{segmentWords, numberIn, rowIn}
+use Rattle.exports.specs.Face.{plainNumber}
+use Rattle.exports_segments.specs.Calls.{segmentWords, rowIn}
 use Rattle.exports_segments.proofs.rows.put_segment.Statement.{statement}
 use Rattle.exports_segments.proofs.rows.put_segment.Tie as tie
 
@@ -39,7 +40,7 @@ returns-2 c =
     let k = c .before .before .before .before .before .before .before .before in
     let row = k .before .before .before .args .row .now in
     let e = k .answer2 .given .1 in
-    (sym (ap (λ (a : SegmentAnswer). numberIn (saysSegment a)) e), c .before .before .put-words .ensures ∙ sym (ap (λ (a : SegmentAnswer). rowIn segmentWords row (saysSegment a)) e))
+    (sym (ap (λ (a : SegmentAnswer). plainNumber (saysSegment a)) e), c .before .before .put-words .ensures ∙ sym (ap (λ (a : SegmentAnswer). rowIn segmentWords row (saysSegment a)) e))
 
 pub put-segment-spec : {M : Type 1} → statement M
 put-segment-spec =

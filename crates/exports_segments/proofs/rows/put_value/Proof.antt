@@ -1,6 +1,6 @@
 -- `exports_segments::rows::put_value` meets its contract, case by case. Assumes nothing.
 use borrow.Author.Needs.{needs}
-use mathlib.Core.Path.{_≡_, refl, ap, _∙_}
+use mathlib.Core.Path.{refl, ap, _∙_}
 use Rattle.models.specs.Refusals.{number}
 use Rattle.models.specs.Calls.{saysValue}
 use Rattle.exports.proofs.Rows.{refused-row, short-row, one-word}
