@@ -82,8 +82,8 @@ impl MacaqueV {
         }
         OpenAnswer::Opened(MacaqueV {
             error_bound,
-            min_value: 0x7fc0_0000,
-            max_value: 0x7fc0_0000,
+            min_value: models::FRESH_BITS,
+            max_value: models::FRESH_BITS,
             last_value: first_last(opening),
             last_leading_zero_bits: MacaqueV::OPENING_LEADING,
             last_trailing_zero_bits: MacaqueV::OPENING_TRAILING,
@@ -212,8 +212,9 @@ impl MacaqueV {
         }
     }
 
-    // The values go behind the place, where there is room for their bits; with `lay` false they are only counted. Both are one loop, so that a step has
-    // one caller: the compiler makes it a part of the loop, and the state stays in registers.
+    // The values go behind the place, where there is room for their bits; with `lay` false they are only
+    // counted. Both are one loop, so that a step has one caller: the compiler makes it a part of the
+    // loop, and the state stays in registers.
     fn write_all(self, values: &[u32], buffer: &mut [u8], lay: bool) -> MacaqueV
         requires { ⌜ (self .length + length (now values) ≤ 65536) × (lay ≡ true → wroteBy self (now values) .place ≤ 8 * length (now buffer)) × (self .place + 45 * length (now values) < 2 ^ 64) ⌝ }
         ensures state { λ r. ⌜ r ≡ writerAt self (wroteBy self (now (values .entry))) ⌝ }
