@@ -39,41 +39,31 @@ pub struct Context {
     /// The Rust's text, as `filled` and as `published`, where it is at hand.
     pub rust: &'static [Calls],
     scale: u64,
-    part: Counts,
-    total: Counts,
+    counts: Counts,
+    /// What is to be printed: the first inputs that differ.
+    lines: String,
+}
+
+/// What a part found, and its lines.
+pub struct Outcome {
+    counts: Counts,
+    lines: String,
 }
 
 impl Context {
-    pub fn new(seed: u64, scale: u64) -> Self {
+    fn new(inputs: Inputs, scale: u64) -> Self {
         Self {
-            inputs: Inputs::new(seed),
+            inputs,
             rust: AT_HAND,
             scale,
-            part: Counts::default(),
-            total: Counts::default(),
+            counts: Counts::default(),
+            lines: String::new(),
         }
     }
 
     /// So many rounds at scale 1.
     pub fn rounds(&self, at_scale_one: u64) -> u64 {
         at_scale_one * self.scale
-    }
-
-    /// Runs a part and prints its line.
-    pub fn run(&mut self, part: &Part) {
-        let begin = Instant::now();
-        self.part = Counts::default();
-        (part.run)(self);
-        println!(
-            "{}: compared {}, explained {}, unexplained {}, {:.1} s",
-            part.name,
-            self.part.compared,
-            self.part.explained,
-            self.part.unexplained,
-            begin.elapsed().as_secs_f64()
-        );
-        self.total.compared += self.part.compared;
-        self.total.unexplained += self.part.unexplained;
     }
 
     /// Compares the paper's answer with another's; `input` writes the whole input if they differ.
@@ -84,7 +74,7 @@ impl Context {
         other: A,
         input: impl FnOnce() -> String,
     ) {
-        self.part.compared += 1;
+        self.counts.compared += 1;
         if paper != other {
             let answers = format!("paper {paper:X?}, {whose} {other:X?}");
             self.differ(&answers, input());
@@ -101,8 +91,8 @@ impl Context {
         input: impl FnOnce() -> String,
     ) {
         if is_listed && paper != other {
-            self.part.compared += 1;
-            self.part.explained += 1;
+            self.counts.compared += 1;
+            self.counts.explained += 1;
         } else {
             self.same(whose, paper, other, input);
         }
@@ -116,8 +106,8 @@ impl Context {
         listed: (A, A),
         what: &str,
     ) {
-        self.part.compared += 1;
-        self.part.explained += 1;
+        self.counts.compared += 1;
+        self.counts.explained += 1;
         let answers = (paper, theirs);
         if answers != listed {
             let answers = format!("paper and published {answers:X?}, by the list {listed:X?}");
@@ -126,20 +116,43 @@ impl Context {
     }
 
     fn differ(&mut self, answers: &str, input: String) {
-        self.part.unexplained += 1;
-        if self.part.unexplained <= MOST_SHOWN {
-            println!("  differs: {input}: {answers}");
+        self.counts.unexplained += 1;
+        if self.counts.unexplained <= MOST_SHOWN {
+            self.lines += &format!("  differs: {input}: {answers}\n");
         }
     }
+}
 
-    /// Prints the last line.
-    pub fn finish(self) -> ExitCode {
-        let Counts {
-            compared,
-            unexplained,
-            ..
-        } = self.total;
-        println!("compared {compared}, unexplained {unexplained}");
-        ExitCode::from(u8::from(unexplained != 0))
+/// Runs a part. Its inputs hang on the seed and its name alone, so that it draws the same ones beside
+/// other parts and by itself.
+pub fn run(part: &Part, seed: u64, scale: u64) -> Outcome {
+    let begin = Instant::now();
+    let mut context = Context::new(Inputs::named(seed, part.name), scale);
+    (part.run)(&mut context);
+    let Context { counts, lines, .. } = context;
+    let line = format!(
+        "{}: compared {}, explained {}, unexplained {}, {:.1} s",
+        part.name,
+        counts.compared,
+        counts.explained,
+        counts.unexplained,
+        begin.elapsed().as_secs_f64()
+    );
+    let lines = lines + &line;
+    Outcome { counts, lines }
+}
+
+/// Prints what the parts found, each as it comes, and the last line.
+pub fn finish(outcomes: impl Iterator<Item = Outcome>) -> ExitCode {
+    let mut total = Counts::default();
+    for Outcome { counts, lines } in outcomes {
+        println!("{lines}");
+        total.compared += counts.compared;
+        total.unexplained += counts.unexplained;
     }
+    println!(
+        "compared {}, unexplained {}",
+        total.compared, total.unexplained
+    );
+    ExitCode::from(u8::from(total.unexplained != 0))
 }

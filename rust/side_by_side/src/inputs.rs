@@ -69,6 +69,12 @@ impl Inputs {
         Self { state: seed }
     }
 
+    /// The generator of one of several that share a seed (FNV-1a of the name).
+    pub fn named(seed: u64, name: &str) -> Self {
+        let step = |hash: u64, byte: u8| (hash ^ u64::from(byte)).wrapping_mul(0x100_0000_01B3);
+        Self::new(name.bytes().fold(seed ^ 0xCBF2_9CE4_8422_2325, step))
+    }
+
     pub fn word(&mut self) -> u64 {
         self.state = self.state.wrapping_add(0x9E37_79B9_7F4A_7C15);
         let mut word = self.state;

@@ -9,8 +9,11 @@ mod lent;
 mod parts;
 mod shape;
 
-use context::Context;
+use context::{Outcome, Part};
 use std::process::ExitCode;
+use std::sync::atomic::{AtomicUsize, Ordering};
+use std::sync::mpsc;
+use std::thread;
 
 fn main() -> ExitCode {
     let mut words = std::env::args().skip(1);
@@ -26,15 +29,34 @@ fn main() -> ExitCode {
         return ExitCode::from(2);
     };
     let name = words.next().unwrap_or_default();
-    let mut context = Context::new(seed, factor);
-    if context.rust.is_empty() {
+    if oracle::rust::AT_HAND.is_empty() {
         println!("skipped: the published Rust, since ORACLE_SRC names no folder with its text");
     }
-    for part in parts::ALL.iter().filter(|part| part.is_named(&name)) {
-        context.run(part);
+    let named = parts::ALL.iter().filter(|part| part.is_named(&name));
+    let last = all.then_some(&parts::EVERY_F32);
+    let parts: Vec<&Part> = named.chain(last).collect();
+    let (sender, outcomes) = mpsc::channel();
+    let (parts, next) = (&parts, &AtomicUsize::new(0));
+    thread::scope(|scope| {
+        for _ in 0..thread::available_parallelism().map_or(1, usize::from) {
+            let sender = sender.clone();
+            scope.spawn(move || work(parts, next, seed, factor, &sender));
+        }
+        drop(sender);
+        context::finish(outcomes.iter())
+    })
+}
+
+/// Runs parts, each one that no other thread has taken.
+fn work(
+    parts: &[&Part],
+    next: &AtomicUsize,
+    seed: u64,
+    factor: u64,
+    outcomes: &mpsc::Sender<Outcome>,
+) {
+    while let Some(part) = parts.get(next.fetch_add(1, Ordering::Relaxed)) {
+        let sent = outcomes.send(context::run(part, seed, factor));
+        sent.expect("the main thread waits for all outcomes");
     }
-    if all {
-        context.run(&parts::EVERY_F32);
-    }
-    context.finish()
 }

@@ -5,6 +5,7 @@ mod choice;
 mod differences;
 mod library_fit;
 mod library_stream;
+mod list_program;
 mod macaque_v;
 mod numbers;
 mod parameters;
@@ -43,6 +44,7 @@ pub const ALL: &[Part] = &[
     Part::new("library: causes", library_stream::causes),
     Part::new("parameter bytes", parameters::parameters),
     Part::new("segments", segments::segments),
+    Part::new("list", list_program::list_program),
     Part::new("listed differences", differences::differences),
 ];
 
