@@ -4,6 +4,7 @@
 
 mod choice;
 mod fit;
+mod segments;
 
 pub use choice::{
     MODEL_BUILDER_WORDS, SELECTED_MODEL_WORDS, choose_model, model_builder_finish,
@@ -13,6 +14,11 @@ pub use fit::{
     Ends, PMC_MEAN_WORDS, SWING_WORDS, pmc_mean_bytes_per_value, pmc_mean_fit_value, pmc_mean_grid,
     pmc_mean_model, pmc_mean_new, pmc_mean_sum, swing_bytes_per_value, swing_fit_data_point,
     swing_grid, swing_model, swing_new, swing_sum_by_average, swing_sum_over,
+};
+pub use segments::{
+    MOST_RESIDUALS_BYTES, MOST_VALUES_BYTES, Pair, SEGMENT_WORDS, StoredSegment,
+    decode_values_for_pmc_mean, decode_values_for_swing, encode_values_for_pmc_mean,
+    encode_values_for_swing, segment_grid, segment_sum_by_average, segment_sum_over, segment_write,
 };
 
 mod c {

@@ -4,8 +4,8 @@
 //! Values are f32. Where a NaN's payload matters, a call on the value's bits stands beside the call
 //! on floats.
 //!
-//! [`choose_model`] says which model stores a run of values, [`PMCMean`] or [`Swing`]; [`MacaqueV`]
-//! writes values as a stream, such as those behind a model.
+//! [`choose_model`] says which model stores a run of values, [`PMCMean`] or [`Swing`]; a [`Segment`]
+//! holds that model and the values behind it, which [`MacaqueV`] writes as a stream.
 //!
 //! ```
 //! use modelardb_rattle::{ErrorBound, Refusal, is_value_within_error_bound};
@@ -22,8 +22,10 @@ pub mod ffi;
 pub mod macaque_v;
 pub mod models;
 pub mod numbers;
+pub mod parameters;
 pub mod pmc_mean;
 mod refusal;
+pub mod segments;
 pub mod swing;
 pub mod types;
 
@@ -35,5 +37,6 @@ pub use models::{
 pub use numbers::{narrow, narrow_bits, widen, widen_bits};
 pub use pmc_mean::PMCMean;
 pub use refusal::Refusal;
+pub use segments::{Model, Segment};
 pub use swing::{Line, Swing};
 pub use types::{ModelBuilder, SelectedModel, choose_model, choose_model_bits};
