@@ -8,7 +8,6 @@ mod readings;
 mod steps;
 mod table;
 
-use modelardb_rattle::ErrorBound;
 use std::process::ExitCode;
 
 fn main() -> ExitCode {
@@ -33,11 +32,7 @@ fn main() -> ExitCode {
 fn shown(file: &str, bound: &str, m: &str) -> Result<String, String> {
     let (times, values) = readings::of_file(file)?;
     let m = m.parse().map_err(|_| format!("{m:?} is no size"))?;
-    let error_bound = match bound.strip_suffix('%') {
-        _ if bound == "lossless" => ErrorBound::Lossless,
-        Some(percent) => ErrorBound::Relative(readings::number(percent)?),
-        None => ErrorBound::Absolute(readings::number(bound)?),
-    };
+    let error_bound = readings::bound(bound)?;
     let steps = steps::steps(&times, &values, error_bound, m)?;
     steps.map_err(|refusal| refusal.to_string())
 }

@@ -1,5 +1,6 @@
 //! The rule reading by reading: what each model does with it, and the choice in the end.
 
+use crate::readings::minutes;
 use crate::table::{bound, kept, name, why};
 use modelardb_rattle::{
     ErrorBound, PMCMean, Refusal, Swing, choose_model, is_value_within_error_bound,
@@ -12,17 +13,7 @@ pub fn steps(
     error_bound: ErrorBound,
     m: usize,
 ) -> Result<Result<String, Refusal>, String> {
-    let minutes: Result<Vec<i64>, String> = times.iter().map(|time| minute(time)).collect();
-    Ok(said(times, &minutes?, values, error_bound, m))
-}
-
-/// The minute of the day that a time as 06:05 names.
-fn minute(time: &str) -> Result<i64, String> {
-    let (hours, minutes) = time.split_once(':').unwrap_or(("", ""));
-    match (hours.parse::<i64>(), minutes.parse::<i64>()) {
-        (Ok(hours), Ok(minutes)) => Ok(60 * hours + minutes),
-        _ => Err(format!("{time:?} is no time of the day")),
-    }
+    Ok(said(times, &minutes(times)?, values, error_bound, m))
 }
 
 fn said(

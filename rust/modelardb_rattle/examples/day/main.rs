@@ -1,0 +1,37 @@
+//! A day's readings as segments: what is stored, where and why, and what that saves. Usage:
+//! `day FILE BOUND M`, a file with a time and a value on each line, a bound (`lossless`, `0.5`, `5%`)
+//! and the bytes that each segment takes besides its values.
+
+#[path = "../shared/readings.rs"]
+mod readings;
+mod show;
+mod store;
+
+use std::process::ExitCode;
+
+fn main() -> ExitCode {
+    let words: Vec<String> = std::env::args().skip(1).collect();
+    let text = match words.as_slice() {
+        [file, bound, m] => shown(file, bound, m),
+        _ => Err("usage: day FILE BOUND M".to_string()),
+    };
+    match text {
+        Ok(text) => {
+            print!("{text}");
+            ExitCode::SUCCESS
+        }
+        Err(why) => {
+            eprintln!("{why}");
+            ExitCode::FAILURE
+        }
+    }
+}
+
+fn shown(file: &str, bound: &str, m: &str) -> Result<String, String> {
+    let (names, values) = readings::of_file(file)?;
+    let times = readings::minutes(&names)?;
+    let error_bound = readings::bound(bound)?;
+    let m = m.parse().map_err(|_| format!("{m:?} is no size"))?;
+    let stored = store::store(&times, &values, error_bound, m).map_err(|why| why.to_string())?;
+    show::show(&names, &times, &values, &stored, m).map_err(|why| why.to_string())
+}
