@@ -1,0 +1,33 @@
+//! An upload: a stream that is written whole, or cut at a value and resumed.
+
+use modelardb_rattle::{ErrorBound, MacaqueV, Opening, Refusal};
+
+/// A writer and the bytes of its stream.
+pub type Upload = (MacaqueV, Vec<u8>);
+
+/// No value takes more than 45 bits.
+const MOST_BYTES: usize = 6;
+
+pub fn written(values: &[f32], error_bound: ErrorBound) -> Result<Upload, Refusal> {
+    resumed(
+        (MacaqueV::new(error_bound, Opening::First)?, vec![]),
+        values,
+    )
+}
+
+/// The whole stream, cut behind its first `k` values: all that is known to have arrived.
+pub fn cut(values: &[f32], k: usize, error_bound: ErrorBound) -> Result<Upload, Refusal> {
+    let (_, mut bytes) = written(values, error_bound)?;
+    let (used, count) = (bytes.len(), values.len());
+    let writer = MacaqueV::reopen(&mut bytes, used, count, k, Opening::First, error_bound)?;
+    bytes.truncate(writer.bytes_used());
+    Ok((writer, bytes))
+}
+
+/// The values behind those that stand there.
+pub fn resumed((mut writer, mut bytes): Upload, values: &[f32]) -> Result<Upload, Refusal> {
+    bytes.resize(bytes.len() + MOST_BYTES * values.len(), 0);
+    writer.compress_values(values, &mut bytes)?;
+    bytes.truncate(writer.bytes_used());
+    Ok((writer, bytes))
+}
