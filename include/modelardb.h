@@ -16,6 +16,9 @@
  * A bound is its kind, 0 Lossless, 1 Absolute or 2 Relative (per cent), and the bits of its f32, which
  * Lossless does not look at; any other kind is refused with 1. Of a lent row only the words named here are
  * set, and only by a call that answers 0.
+ *
+ * What is lent for writing must not overlap anything else that the same call is lent. A length may be 0, and
+ * then its pointer is not followed, but it must not be null.
  */
 #ifndef MODELARDB_H
 #define MODELARDB_H
@@ -96,7 +99,8 @@ uint32_t modelardb_macaque_v_sum(const uint8_t *bytes, size_t bytes_length, size
  *
  * A row may be used, else 2, if words 2 and 3 have at most 32 bits and the length is at most 65,536. A bound in
  * words of more than 32 bits is refused with 1, as any that is not allowed. Of a row under seven words no state
- * can be read: 4 before anything else is judged. Word 6 is never looked at.
+ * can be read: 4 before anything else is judged. Word 6 is never looked at. A step writes all seven words anew, also
+ * where the value does not fit: a NaN in its plain form, the bits of a Lossless bound as 0.
  */
 
 /* state: PMC-Mean before any value. Refusals: 1; 4. */
@@ -173,7 +177,7 @@ uint32_t modelardb_swing_grid(int64_t start_time, int64_t end_time, uint32_t fir
  *
  * A builder is a row of twenty words: the seven of a PMC-Mean state, then the thirteen of a Swing state. Words 6
  * and 19 are part of it: 1 where the model stands for all points so far, 0 where it has failed and is not tried
- * again; any other word there is refused with 2. A step fits where one of the two is 1 after it. A model that has
+ * again; with any other word there, neither counts as failed, and the row is refused with 1 or 2. A step fits where one of the two is 1 after it. A model that has
  * failed causes no refusal of a step. Of a row under twenty words no builder can be read: 4 before anything else.
  *
  * The model that is chosen is five words: 0 for PMC-Mean or 1 for Swing; its length; the bits of its first and of
