@@ -15,9 +15,9 @@ use Rattle.models.specs.declared.Verdict.the-variants.{Passed, Refused}
 use Rattle.models.proofs.Judged.{when-passed, when-refused}
 use Rattle.macaque_v.specs.Calls.{newAnswer, writeAnswer, writeMemory}
 use Rattle.macaque_v.specs.declared.MacaqueV.{MacaqueV}
-use Rattle.exports.specs.Face.{boundOf}
+use Rattle.exports.specs.Face.{boundOf, plainNumber}
 use Rattle.exports_stream.specs.Row.{rowOf, writerIn}
-use Rattle.exports_stream.specs.Calls.{openingOf, numberIn, rowIn, newCauses, newNumber, newRow, numberOn, rowOn, writeNumber, writeRow, writeBuffer}
+use Rattle.exports_stream.specs.Calls.{openingOf, rowIn, newCauses, newNumber, newRow, numberOn, rowOn, writeNumber, writeRow, writeBuffer}
 use Rattle.exports_stream.specs.Calls.{reopenFaceCauses, reopenSaid, reopenLeft, reopenNumber, reopenRow, reopenBuffer}
 
 -- ---- new, by the verdict on its causes
@@ -30,11 +30,11 @@ module _ (kind bound mode opening : ℕ) (row : List ℕ) (v : Verdict) (says : 
       (when-refused causes v says (λ (n : ℕ). n) _ r e, when-refused causes v says (λ (n : ℕ). row) _ r e)
 
   pub new-passed : (said : Said MacaqueV) → said ≡ newAnswer (boundOf kind bound) (openingOf mode opening) → v ≡ Passed
-      → (numberIn said ≡ newNumber kind bound mode opening row) × (rowIn row said ≡ newRow kind bound mode opening row)
+      → (plainNumber said ≡ newNumber kind bound mode opening row) × (rowIn row said ≡ newRow kind bound mode opening row)
   unfolding newNumber newRow
   new-passed said q e =
       let causes = newCauses (boundOf kind bound) mode (length row) in
-      (ap numberIn q ∙ when-passed causes v says (λ (n : ℕ). n) _ e, ap (rowIn row) q ∙ when-passed causes v says (λ (n : ℕ). row) _ e)
+      (ap plainNumber q ∙ when-passed causes v says (λ (n : ℕ). n) _ e, ap (rowIn row) q ∙ when-passed causes v says (λ (n : ℕ). row) _ e)
 
 -- ---- reopen, by the verdict on its causes
 
@@ -49,13 +49,13 @@ module _ (buf : List ℕ) (used count k mode opening kind bound : ℕ) (row : Li
       (when-refused causes v says (λ (n : ℕ). n) _ r e, when-refused causes v says (λ (n : ℕ). row) _ r e, when-refused causes v says (λ (n : ℕ). buf) _ r e)
 
   pub reopen-passed : (said : Said MacaqueV) → said ≡ reopenSaid buf used count k mode opening kind bound → v ≡ Passed
-      → (numberIn said ≡ reopenNumber buf used count k mode opening kind bound row)
+      → (plainNumber said ≡ reopenNumber buf used count k mode opening kind bound row)
       × (rowIn row said ≡ reopenRow buf used count k mode opening kind bound row)
       × (reopenLeft buf used count k mode opening kind bound ≡ reopenBuffer buf used count k mode opening kind bound row)
   unfolding reopenNumber reopenRow reopenBuffer
   reopen-passed said q e =
       let causes = reopenFaceCauses buf used count k mode kind bound row in (
-        ap numberIn q ∙ when-passed causes v says (λ (n : ℕ). n) _ e,
+        ap plainNumber q ∙ when-passed causes v says (λ (n : ℕ). n) _ e,
         ap (rowIn row) q ∙ when-passed causes v says (λ (n : ℕ). row) _ e,
         when-passed causes v says (λ (n : ℕ). buf) _ e,
       )

@@ -1,69 +1,52 @@
 -- The promises of MacaqueV's C face: the row that a call leaves stands for the writer that the next call begins with, so that demand 3 holds of rows too;
 -- and words that stand for no state, or for no mode, are refused. Assumes nothing.
-use mathlib.Core.Path.{_≡_, refl, sym, ap, ap₂, _∙_, subst}
+use mathlib.Core.Path.{_≡_, refl, sym, ap, _∙_, subst}
 use mathlib.Core.Bool.{Bool, true, false, cond, not, _&&_}
-use mathlib.Core.List.{List, [], _∷_, _++_, foldl}
-use Prim.Native.Nat.{ℕ, suc, _+_, _*_, _^_, _≤_, _<_}
+use mathlib.Core.List.{List, [], _∷_, _++_}
+use Prim.Native.Nat.{ℕ, _+_, _*_, _^_, _≤_, _<_}
 use native.Mathlib.Omega.{arith}
 use borrow.Author.Tests.{lt-ltb, le-ltb, le-leb, lt-leb}
-use lib.Dec.{T, eqb, leb, ltb}
-use lib.Ieee.{Float, binary32, fits, ofBits, toBits}
-use lib.Ieee.Bits.{ofBits-toBits, toBits-lt, ofBits-fits}
+use lib.Dec.{leb, ltb}
 use lib.ListN.{length, take, drop, getD}
 use Rattle.models.specs.Answers.{Said, answered, refused, SaidOn, answeredOn, refusedOn, Cause, _when_, judge, judgedOn}
 use Rattle.models.specs.Bound.{boundAllowed}
 use Rattle.models.proofs.Judged.{NoneHolds, answered-only}
 use Rattle.models.specs.declared.ErrorBound.{ErrorBound}
-use Rattle.models.specs.declared.ErrorBound.the-variants.{Lossless, Absolute, Relative}
-use Rattle.exports.specs.Face.{boundOf, wordOf}
+use Rattle.exports.specs.Face.{boundOf, plainNumber}
 use Rattle.bits.specs.Bits.{Below, wholeBytes}
 use Rattle.bits.proofs.Below.{below-take}
 use Rattle.macaque_v.specs.State.{writerOf, isFirst, openingValue}
-use Rattle.macaque_v.specs.Calls.{newAnswer, lentBytes, writeCauses, writeAnswer, writeMemory}
+use Rattle.macaque_v.specs.Calls.{lentBytes, writeCauses, writeAnswer, writeMemory}
 use Rattle.macaque_v.specs.Read.{reopenCauses, reopenAnswer, reopenMemory, gridAnswer}
 use Rattle.stream.specs.Format.{usable}
 use Rattle.macaque_v.specs.Write.{writerAt, wroteBy}
 use Rattle.macaque_v.specs.Made.{Made}
 use Rattle.macaque_v.specs.declared.MacaqueV.{MacaqueV}
 use Rattle.macaque_v.specs.declared.Opening.{Opening}
-use Rattle.macaque_v.proofs.Promises.{stateAfter, a-fresh-writer, a-write-goes-on, reopening-goes-back}
+use Rattle.macaque_v.proofs.Promises.{stateAfter, a-write-goes-on, reopening-goes-back}
 use Rattle.macaque_v.proofs.Held.{Held, made-held}
-use Rattle.exports_stream.specs.Calls.{openingOf, numberIn, rowIn, newCauses, newNumber, newRow, numberOn, rowOn, writeNumber, writeRow, writeBuffer, reopenNumber, reopenRow, reopenBuffer, gridNumber}
-use Rattle.exports_stream.specs.Row.{kindOf, bitsOf, rowOf, small, boundIn, standsForState, read, spoiled, writerIn}
+use Rattle.exports_stream.specs.Calls.{openingOf, rowIn, numberOn, rowOn, writeNumber, writeRow, writeBuffer, reopenNumber, reopenRow, reopenBuffer, gridNumber}
+use Rattle.exports.specs.Words.{small, boundIn}
+use Rattle.exports.proofs.Back.{BoundHeld, bound-back, flag-small, flag-back}
+use Rattle.exports_stream.specs.Row.{rowOf, standsForState, read, writerIn}
 
 -- ---- a row is read back as the writer that it was made of
-
--- the bound's float is one of f32
-abbrev pub BoundFits : ErrorBound → Type 0
-BoundFits Lossless = Unit {0}
-BoundFits (Absolute e) = T (fits binary32 e)
-BoundFits (Relative e) = T (fits binary32 e)
 
 is-small : (w : ℕ) → w < 2 ^ 32 → small w ≡ true
 is-small w h = lt-ltb w (2 ^ 32) h
 
-bound-back : (b : ErrorBound) → BoundFits b → boundIn (kindOf b) (bitsOf b) ≡ b
-unfolding boundIn boundOf
-bound-back Lossless f = refl
-bound-back (Absolute e) f = rw (is-small (toBits binary32 e) (toBits-lt binary32 e f)) (ap Absolute (ofBits-toBits binary32 e f))
-bound-back (Relative e) f = rw (is-small (toBits binary32 e) (toBits-lt binary32 e f)) (ap Relative (ofBits-toBits binary32 e f))
-
-flag-back : (t : Bool) → (leb (wordOf t) 1 ≡ true) × (eqb (wordOf t) 1 ≡ t)
-flag-back true = (refl, refl)
-flag-back false = (refl, refl)
-
-pub row-back : (m : MacaqueV) (rest : List ℕ) → BoundFits (m .«error_bound») → Held m → writerIn (rowOf m ++ rest) ≡ m
+pub row-back : (m : MacaqueV) (rest : List ℕ) → BoundHeld (m .«error_bound») → Held m → writerIn (rowOf m ++ rest) ≡ m
 unfolding writerIn rowOf standsForState
 row-back m rest f h =
-    rw (is-small (m .«min_value») (h .least), is-small (m .«max_value») (h .greatest), is-small (m .«last_value») (h .last), is-small (m .«last_leading_zero_bits») (h .leading), is-small (m .«last_trailing_zero_bits») (h .trailing), flag-back (m .«with_first») .0, flag-back (m .«with_first») .1, bound-back (m .«error_bound») f)
+    rw (is-small (m .«min_value») (h .least), is-small (m .«max_value») (h .greatest), is-small (m .«last_value») (h .last), is-small (m .«last_leading_zero_bits») (h .leading), is-small (m .«last_trailing_zero_bits») (h .trailing), flag-small (m .«with_first»), flag-back (m .«with_first»), bound-back (m .«error_bound») f)
 
 -- ---- demand 3, of rows
 
 -- a writer that writes, stops and resumes have made is the one that its row stands for
-module _ {b : ErrorBound} {o : Opening} {xs buf : List ℕ} {m : MacaqueV} (M : Made b o xs buf m) (f : BoundFits b) (hl : openingValue o < 2 ^ 32) (bx : Below 32 xs) where
+module _ {b : ErrorBound} {o : Opening} {xs buf : List ℕ} {m : MacaqueV} (M : Made b o xs buf m) (f : BoundHeld b) (hl : openingValue o < 2 ^ 32) (bx : Below 32 xs) where
   pub made-row : (rest : List ℕ) → writerIn (rowOf m ++ rest) ≡ m
   made-row rest =
-      row-back m rest (subst BoundFits (sym (ap (λ (w : MacaqueV). w .«error_bound») (M .writer))) f) (subst Held (sym (M .writer)) (made-held b o xs hl bx))
+      row-back m rest (subst BoundHeld (sym (ap (λ (w : MacaqueV). w .«error_bound») (M .writer))) f) (subst Held (sym (M .writer)) (made-held b o xs hl bx))
 
 -- every number of a list of causes is above 0
 abbrev Positive : List Cause → Type 0
@@ -82,7 +65,7 @@ unfolding writeAnswer
 accepted-zero m ys buf h =
     no-zero m (writeCauses m ys (lentBytes (length buf))) (writerAt m (wroteBy m ys)) (omega arith, (omega arith, (omega arith, (omega arith, tt)))) h
 
-module _ {b : ErrorBound} {o : Opening} {xs buf : List ℕ} (row : List ℕ) (M : Made b o xs buf (writerIn row)) (f : BoundFits b) (hl : openingValue o < 2 ^ 32)
+module _ {b : ErrorBound} {o : Opening} {xs buf : List ℕ} (row : List ℕ) (M : Made b o xs buf (writerIn row)) (f : BoundHeld b) (hl : openingValue o < 2 ^ 32)
     (words : 10 ≤ length row) where
   -- an accepted write leaves the bytes of one fresh run, and a row that stands for its writer
   pub a-row-goes-on : (ys : List ℕ) → Below 32 (xs ++ ys) → writeNumber row ys buf ≡ 0
@@ -111,7 +94,7 @@ unfolding reopenAnswer
 reopened-free buf used count k o b n h = answered-only (reopenCauses b (length buf) used count k) _ n h .0
 
 module _ (kind bound mode value : ℕ) (row : List ℕ) {xs buf : List ℕ} {m : MacaqueV} (M : Made (boundOf kind bound) (openingOf mode value) xs buf m)
-    (f : BoundFits (boundOf kind bound)) (hl : openingValue (openingOf mode value) < 2 ^ 32) (bx : Below 32 xs) (ok : boundAllowed (boundOf kind bound) ≡ true)
+    (f : BoundHeld (boundOf kind bound)) (hl : openingValue (openingOf mode value) < 2 ^ 32) (bx : Below 32 xs) (ok : boundAllowed (boundOf kind bound) ≡ true)
     (most : length xs ≤ 65536) (mode-is : mode ≤ 1) (words : 10 ≤ length row) where
   module _ (k : ℕ) (le : k ≤ length xs) where
     abbrev used : ℕ
@@ -137,7 +120,7 @@ module _ (kind bound mode value : ℕ) (row : List ℕ) {xs buf : List ℕ} {m :
 
     number-is : reopenNumber buf used (length xs) k mode value kind bound row ≡ 0
     unfolding reopenNumber
-    number-is = rw (le-leb mode 1 mode-is) (one-more (λ (i : ℕ). i) (numberIn said) causes 4 (ltb (length row) 10) none held ∙ ap numberIn opens)
+    number-is = rw (le-leb mode 1 mode-is) (one-more (λ (i : ℕ). i) (plainNumber said) causes 4 (ltb (length row) 10) none held ∙ ap plainNumber opens)
 
     row-is : reopenRow buf used (length xs) k mode value kind bound row ≡ rowOf now ++ drop 10 row
     unfolding reopenRow

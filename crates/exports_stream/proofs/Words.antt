@@ -3,27 +3,17 @@ use mathlib.Core.Path.{_≡_, refl, sym, ap, ap₂, _∙_}
 use mathlib.Core.Bool.{Bool, true, false, cond, _&&_, false≢true}
 use mathlib.Core.List.{List}
 use Prim.Native.Nat.{ℕ, _%_, _^_}
-use native.Mathlib.Nat.{mod-eq-of-lt}
-use borrow.Author.Tests.{ltb-true}
 use lib.Dec.{leb, eqb}
 use lib.ListN.{getD}
 use Rattle.models.specs.declared.ErrorBound.{ErrorBound}
-use Rattle.exports.specs.Face.{boundOf}
 use Rattle.macaque_v.specs.declared.MacaqueV.{MacaqueV}
-use Rattle.exports_stream.specs.Row.{small, boundIn, standsForState, spoiled, read, writerIn}
+use Rattle.exports.proofs.Small.{low-is}
+use Rattle.exports.specs.Words.{small, boundIn}
+use Rattle.exports_stream.specs.Row.{standsForState, spoiled, read, writerIn}
 
 and-both : (a b : Bool) → (a && b) ≡ true → (a ≡ true) × (b ≡ true)
 and-both true b h = (refl, h)
 and-both false b h = absurd (false≢true h)
-
-low-is : (w : ℕ) → small w ≡ true → w % 2 ^ 32 ≡ w
-low-is w h = mod-eq-of-lt (ltb-true w (2 ^ 32) h)
-
-pub bound-small : (kind bits : ℕ) → (small kind && small bits) ≡ true → boundOf (kind % 2 ^ 32) (bits % 2 ^ 32) ≡ boundIn kind bits
-unfolding boundIn
-bound-small kind bits h =
-    let t = and-both (small kind) (small bits) h in
-    ap₂ boundOf (low-is kind (t .0)) (low-is bits (t .1)) ∙ sym (rw h)
 
 -- the state whose five words of 32 bits are these
 abbrev pub stateWith : ErrorBound → List ℕ → ℕ → ℕ → ℕ → ℕ → ℕ → MacaqueV

@@ -12,7 +12,7 @@ use Rattle.macaque_v.specs.Read.{gridAnswer, gridMemory, sumAnswer, reopenCause
 use Rattle.macaque_v.specs.declared.MacaqueV.{MacaqueV}
 use Rattle.macaque_v.specs.declared.Opening.{Opening}
 use Rattle.macaque_v.specs.declared.Opening.the-variants.{First, On}
-use Rattle.exports.specs.Face.{boundOf, numberOf, rowAfter}
+use Rattle.exports.specs.Face.{boundOf, numberOf, rowAfter, plainNumber}
 use Rattle.exports_stream.specs.Row.{rowLength, rowOf, writerIn}
 
 -- ---- how a stream opens: mode 0 stores the first value in full and looks at no other, mode 1 opens on the value
@@ -26,10 +26,6 @@ countIn mode count = cond (leb mode 1) count 65537
 
 -- ---- of what a call says: the number, and the row that it hands a state out in
 
-abbrev pub numberIn : {A : Type 0} → Said A → ℕ
-numberIn (answered x) = 0
-numberIn (refused n) = n
-
 abbrev pub rowIn : List ℕ → Said MacaqueV → List ℕ
 rowIn row (answered m) = rowOf m ++ drop rowLength row
 rowIn row (refused n) = row
@@ -41,7 +37,7 @@ newCauses b mode words = 1 when not (boundAllowed b) ∷ 3 when ltb 1 mode ∷ 4
 
 unfoldable pub newNumber : ℕ → ℕ → ℕ → ℕ → List ℕ → ℕ
 newNumber kind bound mode opening row =
-    judge (λ (n : ℕ). n) (newCauses (boundOf kind bound) mode (length row)) (numberIn (newAnswer (boundOf kind bound) (openingOf mode opening)))
+    judge (λ (n : ℕ). n) (newCauses (boundOf kind bound) mode (length row)) (plainNumber (newAnswer (boundOf kind bound) (openingOf mode opening)))
 
 unfoldable pub newRow : ℕ → ℕ → ℕ → ℕ → List ℕ → List ℕ
 newRow kind bound mode opening row =
@@ -82,7 +78,7 @@ reopenLeft buf used count k mode opening kind bound = reopenMemory buf used (cou
 
 unfoldable pub reopenNumber : List ℕ → ℕ → ℕ → ℕ → ℕ → ℕ → ℕ → ℕ → List ℕ → ℕ
 reopenNumber buf used count k mode opening kind bound row =
-    judge (λ (n : ℕ). n) (reopenFaceCauses buf used count k mode kind bound row) (numberIn (reopenSaid buf used count k mode opening kind bound))
+    judge (λ (n : ℕ). n) (reopenFaceCauses buf used count k mode kind bound row) (plainNumber (reopenSaid buf used count k mode opening kind bound))
 
 unfoldable pub reopenRow : List ℕ → ℕ → ℕ → ℕ → ℕ → ℕ → ℕ → ℕ → List ℕ → List ℕ
 reopenRow buf used count k mode opening kind bound row =
@@ -95,7 +91,7 @@ reopenBuffer buf used count k mode opening kind bound row =
 -- ---- grid: the number and the output
 
 unfoldable pub gridNumber : List ℕ → ℕ → ℕ → ℕ → List ℕ → ℕ
-gridNumber bytes count mode opening out = numberIn (gridAnswer bytes (countIn mode count) (openingOf mode opening) (length out))
+gridNumber bytes count mode opening out = plainNumber (gridAnswer bytes (countIn mode count) (openingOf mode opening) (length out))
 
 unfoldable pub gridOut : List ℕ → ℕ → ℕ → ℕ → List ℕ → List ℕ
 gridOut bytes count mode opening out = gridMemory bytes (countIn mode count) (openingOf mode opening) out

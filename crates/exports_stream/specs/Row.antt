@@ -10,23 +10,14 @@ use Rattle.models.specs.Answers.{Said, answered, refused, SaidOn, answeredOn, r
 use Rattle.models.specs.Floats.{freshBits}
 use Rattle.models.specs.declared.ErrorBound.{ErrorBound}
 use Rattle.models.specs.declared.ErrorBound.the-variants.{Lossless, Absolute, Relative}
-use Rattle.exports.specs.Face.{boundOf, wordOf}
+use Rattle.exports.specs.Face.{wordOf}
+use Rattle.exports.specs.Words.{kindOf, bitsOf, small, boundIn}
 use Rattle.macaque_v.specs.declared.MacaqueV.{MacaqueV}
 
 abbrev pub rowLength : ℕ
 rowLength = 10
 
 -- ---- a state's words
-
-abbrev pub kindOf : ErrorBound → ℕ
-kindOf Lossless = 0
-kindOf (Absolute e) = 1
-kindOf (Relative e) = 2
-
-abbrev pub bitsOf : ErrorBound → ℕ
-bitsOf Lossless = 0
-bitsOf (Absolute e) = toBits binary32 e
-bitsOf (Relative e) = toBits binary32 e
 
 unfoldable pub rowOf : MacaqueV → List ℕ
 rowOf m =
@@ -43,13 +34,6 @@ rowOf m =
     ∷ []
 
 -- ---- the state that words stand for
-
-abbrev pub small : ℕ → Bool
-small w = ltb w (2 ^ 32)
-
--- a bound whose words are not of 32 bits is none, and stands for one that is not allowed
-unfoldable pub boundIn : ℕ → ℕ → ErrorBound
-boundIn kind bits = cond (small kind && small bits) (boundOf kind bits) (Absolute nan)
 
 -- words of 32 bits where the state has such, and a flag of 0 or 1
 unfoldable pub standsForState : List ℕ → Bool

@@ -7,7 +7,8 @@ ghost use lib.ListN.{length};
 ghost use Rattle.models.specs.Answers.{verdict};
 ghost use Rattle.models.specs.Calls.{saysVerdict};
 ghost use Rattle.macaque_v.specs.Read.{saysOpen};
-ghost use Rattle.exports_stream.specs.Calls.{openingOf, countIn, numberIn, rowIn, newCauses, reopenCausesWith};
+ghost use Rattle.exports.specs.Face.{plainNumber};
+ghost use Rattle.exports_stream.specs.Calls.{openingOf, countIn, rowIn, newCauses, reopenCausesWith};
 ghost use Rattle.exports_stream.specs.Calls.{newNumber, newRow, writeNumber, writeRow, writeBuffer};
 ghost use Rattle.exports_stream.specs.Calls.{reopenNumber, reopenRow, reopenBuffer, gridNumber, gridOut, sumNumber, sumOut};
 use macaque_v::MacaqueV;
@@ -199,7 +200,7 @@ fn judge_reopen(
 // The state's words to the front of the row, where there is one.
 fn put_opened(writer: OpenAnswer, state: &mut [u64]) -> u32
     requires { ⌜ 10 ≤ length (now state) ⌝ }
-    ensures number { λ r. ⌜ r ≡ numberIn (saysOpen writer) ⌝ }
+    ensures number { λ r. ⌜ r ≡ plainNumber (saysOpen writer) ⌝ }
     ensures row { λ r. ⌜ now (state .exit) ≡ rowIn (now (state .entry)) (saysOpen writer) ⌝ }
 {
     match writer {

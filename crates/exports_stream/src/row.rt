@@ -2,33 +2,13 @@
 // state stands for one that the call behind refuses.
 ghost use mathlib.Core.Path.{_≡_};
 ghost use mathlib.Core.List.{_++_};
-ghost use Prim.Native.Nat.{_%_, _^_, _≤_};
+ghost use Prim.Native.Nat.{_≤_};
 ghost use lib.ListN.{length, drop};
-ghost use Rattle.exports_stream.specs.Row.{boundIn, kindOf, bitsOf, rowOf, small, standsForState, writerIn};
+ghost use Rattle.exports_stream.specs.Row.{rowOf, standsForState, writerIn};
+use exports::words;
 use macaque_v::MacaqueV;
-use models::ErrorBound;
 
 // ---- to the row
-
-fn kind_of(b: ErrorBound) -> u64
-    ensures { λ r. ⌜ r ≡ kindOf b ⌝ }
-{
-    match b {
-        ErrorBound::Lossless => 0,
-        ErrorBound::Absolute(_) => 1,
-        ErrorBound::Relative(_) => 2,
-    }
-}
-
-fn bits_of(b: ErrorBound) -> u64
-    ensures { λ r. ⌜ r ≡ bitsOf b ⌝ }
-{
-    match b {
-        ErrorBound::Lossless => 0,
-        ErrorBound::Absolute(e) => numbers::bits_of_f32(e) as u64,
-        ErrorBound::Relative(e) => numbers::bits_of_f32(e) as u64,
-    }
-}
 
 // The state's words to the front of the row.
 pub fn put_writer(row: &mut [u64], m: MacaqueV)
@@ -36,9 +16,9 @@ pub fn put_writer(row: &mut [u64], m: MacaqueV)
     ensures { λ _. ⌜ now (row .exit) ≡ rowOf m ++ drop 10 (now (row .entry)) ⌝ }
 {
     let b = m.error_bound;
-    let words = [
-        kind_of(b),
-        bits_of(b),
+    let out = [
+        words::kind_of(b),
+        words::bits_of(b),
         m.min_value as u64,
         m.max_value as u64,
         m.last_value as u64,
@@ -48,40 +28,19 @@ pub fn put_writer(row: &mut [u64], m: MacaqueV)
         m.place as u64,
         m.length as u64,
     ];
-    exports::put_words(&words, row);
+    exports::put_words(&out, row);
 }
 
 // ---- from the row
-
-// The low 32 bits of a word.
-fn low(w: u64) -> u32
-    ensures { λ r. ⌜ r ≡ w % 2 ^ 32 ⌝ }
-{
-    (w % 0x1_0000_0000) as u32
-}
-
-fn is_small(w: u64) -> bool
-    ensures { λ r. ⌜ r ≡ small w ⌝ }
-{
-    w < 0x1_0000_0000
-}
-
-fn bound_in(kind: u64, bits: u64) -> ErrorBound
-    ensures { λ r. ⌜ r ≡ boundIn kind bits ⌝ }
-{
-    if is_small(kind) & is_small(bits) {
-        return exports::bound_of(low(kind), low(bits));
-    }
-    ErrorBound::Absolute(0.0 / 0.0)
-}
 
 fn stands_for_state(row: &[u64]) -> bool
     requires { ⌜ 10 ≤ length (now row) ⌝ }
     ensures { λ r. ⌜ r ≡ standsForState (now (row .entry)) ⌝ }
 {
-    is_small(row[2])
-        & (is_small(row[3])
-            & (is_small(row[4]) & (is_small(row[5]) & (is_small(row[6]) & (row[7] <= 1)))))
+    words::is_small(row[2])
+        & (words::is_small(row[3])
+            & (words::is_small(row[4])
+                & (words::is_small(row[5]) & (words::is_small(row[6]) & (row[7] <= 1)))))
 }
 
 // The state that a row stands for.
@@ -89,7 +48,7 @@ pub fn writer_of(row: &[u64]) -> MacaqueV
     requires { ⌜ 10 ≤ length (now row) ⌝ }
     ensures { λ r. ⌜ r ≡ writerIn (now (row .entry)) ⌝ }
 {
-    let error_bound = bound_in(row[0], row[1]);
+    let error_bound = words::bound_in(row[0], row[1]);
     if !stands_for_state(row) {
         return MacaqueV {
             error_bound,
@@ -105,11 +64,11 @@ pub fn writer_of(row: &[u64]) -> MacaqueV
     }
     MacaqueV {
         error_bound,
-        min_value: low(row[2]),
-        max_value: low(row[3]),
-        last_value: low(row[4]),
-        last_leading_zero_bits: low(row[5]),
-        last_trailing_zero_bits: low(row[6]),
+        min_value: words::low(row[2]),
+        max_value: words::low(row[3]),
+        last_value: words::low(row[4]),
+        last_leading_zero_bits: words::low(row[5]),
+        last_trailing_zero_bits: words::low(row[6]),
         with_first: row[7] == 1,
         place: row[8] as usize,
         length: row[9] as usize,

@@ -6,19 +6,20 @@ use lib.ListN.{length}
 use Rattle.models.specs.Calls.{saysGrid}
 use Rattle.macaque_v.specs.Read.{gridAnswer, gridMemory}
 use Rattle.macaque_v.specs.declared.Opening.{Opening}
-use Rattle.exports_stream.specs.Calls.{openingOf, countIn, numberIn, gridNumber, gridOut}
+use Rattle.exports.specs.Face.{plainNumber}
+use Rattle.exports_stream.specs.Calls.{openingOf, countIn, gridNumber, gridOut}
 use Rattle.exports_stream.proofs.modelardb_macaque_v_grid.Statement.{statement}
 use Rattle.exports_stream.proofs.modelardb_macaque_v_grid.Tie as tie
 
 -- what the call behind says and leaves, of the count and the opening that the mode allows
 said : (c : tie.After-grid)
-    → numberIn (saysGrid (c .grid .result))
+    → plainNumber (saysGrid (c .grid .result))
     ≡ gridNumber (c .before .before .before .before .before .before .args .bytes .now) (c .before .before .before .before .before .before .args .count) (c .before .before .before .before .before .before .args .mode)
     (c .before .before .before .before .before .before .args .opening) (c .before .before .before .before .before .before .args .out .now)
 unfolding gridNumber
 said c =
     let a = c .before .before .before .before .before .before .args in
-    ap numberIn
+    ap plainNumber
     (c .grid .ensures .0 ∙ ap₂ (λ (n : ℕ) (o : Opening). gridAnswer (a .bytes .now) n o (length (a .out .now))) (c .before .before .before .count-in .ensures) (c .before .before .opening-of .ensures))
 
 left : (c : tie.After-grid)
@@ -54,7 +55,7 @@ same-length c = search needs
 returns : tie.Need-returns
 returns c =
     let k = c .before .before .before .before .before .before in
-    (c .number-of .ensures ∙ sym (ap (λ r. numberIn (saysGrid r)) (c .before .before .r .given .1)) ∙ said k, left k)
+    (c .number-of .ensures ∙ sym (ap (λ r. plainNumber (saysGrid r)) (c .before .before .r .given .1)) ∙ said k, left k)
 
 same-length-2 : tie.Need-same-length-2
 same-length-2 c = search needs
@@ -62,7 +63,7 @@ same-length-2 c = search needs
 returns-2 : tie.Need-returns-2
 returns-2 c =
     let k = c .before .before .before .before in
-    (sym (ap (λ r. numberIn (saysGrid r)) (c .enum-told .given .1)) ∙ said k, left k)
+    (sym (ap (λ r. plainNumber (saysGrid r)) (c .enum-told .given .1)) ∙ said k, left k)
 
 pub modelardb-macaque-v-grid-spec : {M : Type 1} → statement M
 modelardb-macaque-v-grid-spec =

@@ -3,7 +3,8 @@ use borrow.Author.Needs.{needs}
 use mathlib.Core.Path.{_≡_, sym, ap, _∙_}
 use Rattle.macaque_v.specs.Read.{saysOpen}
 use Rattle.macaque_v.specs.declared.read.OpenAnswer.{OpenAnswer}
-use Rattle.exports_stream.specs.Calls.{numberIn, rowIn}
+use Rattle.exports.specs.Face.{plainNumber}
+use Rattle.exports_stream.specs.Calls.{rowIn}
 use Rattle.exports_stream.proofs.put_opened.Statement.{statement}
 use Rattle.exports_stream.proofs.put_opened.Tie as tie
 
@@ -30,7 +31,7 @@ returns-2 c =
     let k = c .before .before .before .before .before in
     let row = k .before .before .before .args .state .now in
     let e = k .writer2 .given .1 in
-    (sym (ap (λ (w : OpenAnswer). numberIn (saysOpen w)) e), c .before .before .put-writer .ensures ∙ sym (ap (λ (w : OpenAnswer). rowIn row (saysOpen w)) e))
+    (sym (ap (λ (w : OpenAnswer). plainNumber (saysOpen w)) e), c .before .before .put-writer .ensures ∙ sym (ap (λ (w : OpenAnswer). rowIn row (saysOpen w)) e))
 
 pub put-opened-spec : {M : Type 1} → statement M
 put-opened-spec =
