@@ -1,0 +1,38 @@
+//! The readings beside what is kept of them, and the upload that is cut and resumed.
+
+use crate::upload::{cut, resumed, written};
+use modelardb_rattle::{ErrorBound, Opening, Refusal, macaque_v};
+use std::fmt::Write;
+
+pub fn show(times: &[String], values: &[f32], error_bound: ErrorBound) -> Result<String, Refusal> {
+    let mut text = String::new();
+    let whole = written(values, error_bound)?;
+    let mut kept = vec![0.0; values.len()];
+    macaque_v::grid(&whole.1, kept.len(), Opening::First, &mut kept)?;
+    for ((time, value), kept) in times.iter().zip(values).zip(&kept) {
+        _ = writeln!(text, "{time} {value:6.2}  kept as {kept:.2}");
+    }
+    let half = values.len() / 2;
+    let part = cut(values, half, error_bound)?;
+    let again = resumed(part.clone(), &values[half..])?;
+    _ = writeln!(text, "in one run        {}", hex(&whole.1));
+    _ = writeln!(text, "cut behind {half}      {}", hex(&part.1));
+    _ = writeln!(text, "resumed behind {half}  {}", hex(&again.1));
+    let same = if again == whole {
+        "the same"
+    } else {
+        "NOT the same"
+    };
+    _ = writeln!(
+        text,
+        "{} readings in {} bytes; cut and resumed, bytes and state are {same} as of one run",
+        values.len(),
+        whole.1.len()
+    );
+    Ok(text)
+}
+
+fn hex(bytes: &[u8]) -> String {
+    let bytes: Vec<String> = bytes.iter().map(|byte| format!("{byte:02X}")).collect();
+    bytes.join(" ")
+}
