@@ -4,6 +4,7 @@ mod bounds;
 mod choice;
 mod differences;
 mod library_fit;
+mod library_segments;
 mod library_stream;
 mod macaque_v;
 mod numbers;
@@ -41,6 +42,14 @@ pub const ALL: &[Part] = &[
     Part::new("library: damaged", library_stream::damaged),
     Part::new("library: states", library_stream::states),
     Part::new("library: causes", library_stream::causes),
+    Part::new(
+        "library: segments' parameter bytes",
+        library_segments::parameter_bytes,
+    ),
+    Part::new("library: segments written", library_segments::written),
+    Part::new("library: segments damaged", library_segments::damaged),
+    Part::new("library: segments' causes", library_segments::causes),
+    Part::new("library: segments of a run", library_segments::paths),
     Part::new("parameter bytes", parameters::parameters),
     Part::new("segments", segments::segments),
     Part::new("listed differences", differences::differences),

@@ -97,7 +97,7 @@ fn written(model: Model, bound: ErrorBound, residuals: &[u32]) -> SegmentBytes {
 
 /// Listed: a form that does not read back; rewriting by log2 and the signs of zeros in the published
 /// text.
-fn compare_writing(
+pub fn compare_writing(
     context: &mut Context,
     model: Model,
     bound: ErrorBound,
@@ -140,7 +140,7 @@ fn as_floats(extremes: Extremes) -> [u32; 2] {
 
 /// The number by which a segment of valid times is refused: 12, 10, 9, 11, then 5 to 8 by the shape of
 /// its residual stream.
-fn refusal_of(segment: Segment) -> Option<u32> {
+pub fn refusal_of(segment: Segment) -> Option<u32> {
     let count = usize::from(segment.residuals.last().copied().unwrap_or(0));
     let is_swing = segment.model == SWING_ID;
     let Some(owned) = segment
@@ -173,7 +173,7 @@ fn refusal_of(segment: Segment) -> Option<u32> {
     shape::refusal_of(stream, count, Opening::On(last))
 }
 
-fn compare_reading(context: &mut Context, segment: Segment) {
+pub fn compare_reading(context: &mut Context, segment: Segment) {
     let mut out = vec![0; segment.timestamps.len()];
     let input = || format!("reading {segment:X?}");
     let refusal = refusal_of(segment);
