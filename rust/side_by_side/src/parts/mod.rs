@@ -12,6 +12,7 @@ mod parameters;
 mod pmc_mean;
 mod segments;
 mod swing;
+mod worked;
 
 use crate::context::Part;
 
@@ -36,6 +37,7 @@ pub const ALL: &[Part] = &[
     Part::new("library: fitted states", library_fit::states),
     Part::new("library: causes of the fit", library_fit::causes),
     Part::new("library: marked cases", library_stream::marked),
+    Part::new("library: worked examples", worked::examples),
     Part::new("library: short lists", library_stream::short_lists),
     Part::new("library: lists", library_stream::lists),
     Part::new("library: resumed", library_stream::resumed),
