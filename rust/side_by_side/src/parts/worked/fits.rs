@@ -2,7 +2,9 @@
 
 use super::{Example, NAN, ONE, Said, left, said};
 use modelardb_rattle::ErrorBound::{self, Absolute, Lossless};
-use modelardb_rattle::ffi::{self, MODEL_BUILDER_WORDS, PMC_MEAN_WORDS, SELECTED_MODEL_WORDS};
+use modelardb_rattle::ffi::{
+    self, MODEL_BUILDER_WORDS, PMC_MEAN_WORDS, SELECTED_MODEL_WORDS, SWING_WORDS,
+};
 use modelardb_rattle::{Line, ModelBuilder, PMCMean, Swing, choose_model, swing};
 
 const LATEST: i64 = 1 << 52;
@@ -42,6 +44,16 @@ pub const EXAMPLES: &[Example] = &[
         "Swing: 1 at the least i64: 10",
         || line_of(Lossless, &[(i64::MIN, 1.0), (i64::MAX, 2.0)]),
         Err(10),
+    ),
+    (
+        "a Swing state of length 1 must keep the time limits too: 2",
+        || {
+            let (mut row, mut out) = ([0; SWING_WORDS], [0; 2]);
+            row[2..4].fill(LATEST as u64 + 1);
+            row[11] = 1;
+            left(ffi::swing_model(&row, &mut out), vec![])
+        },
+        Err(2),
     ),
     // The choice.
     (
@@ -101,6 +113,11 @@ pub const EXAMPLES: &[Example] = &[
         "a line from 1 to infinity: 11, also over an empty list",
         || drawn((0, 10), (1.0, f32::INFINITY), &[]),
         Err(11),
+    ),
+    (
+        "start and end of a Swing grid keep the limits: 10",
+        || drawn((-LATEST - 1, 10), (1.0, 2.0), &[]),
+        Err(10),
     ),
     (
         "a line that ends where it starts: 10, also over an empty list",

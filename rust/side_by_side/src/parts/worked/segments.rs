@@ -3,7 +3,7 @@
 use super::{Example, ONE, Said, TWO, left, said};
 use modelardb_rattle::ErrorBound::Lossless;
 use modelardb_rattle::Model::{PMCMean, Swing};
-use modelardb_rattle::ffi::{self, SEGMENT_WORDS};
+use modelardb_rattle::ffi::{self, SEGMENT_WORDS, Words};
 use modelardb_rattle::parameters::{
     decode_values_for_pmc_mean, decode_values_for_swing, encode_values_for_pmc_mean,
     encode_values_for_swing,
@@ -12,6 +12,8 @@ use modelardb_rattle::{Model, Segment};
 
 /// What the writer of parameter bytes is handed where there are no residuals.
 const NONE: (f32, f32) = (f32::NAN, f32::NAN);
+
+const LOSSLESS: Words = (0, 0);
 
 pub const EXAMPLES: &[Example] = &[
     // Document 01, "Parameter bytes".
@@ -114,7 +116,7 @@ pub const EXAMPLES: &[Example] = &[
     ),
     (
         "model 0, first 1.0, last 2.0, residual 1.0, Lossless: the residual is a repeat",
-        || written((0, ONE, TWO), &[ONE], (8, 8)),
+        || written((0, ONE, TWO), LOSSLESS, &[ONE], (8, 8)),
         Ok(&[0x80, 1]),
     ),
     (
@@ -124,13 +126,18 @@ pub const EXAMPLES: &[Example] = &[
     ),
     (
         "room for the parameters and none for one residual: 4",
-        || written((0, ONE, ONE), &[ONE], (8, 0)),
+        || written((0, ONE, ONE), LOSSLESS, &[ONE], (8, 0)),
         Err(4),
     ),
     (
         "a model above 1 is 3",
-        || written((2, ONE, ONE), &[], (8, 8)),
+        || written((2, ONE, ONE), LOSSLESS, &[], (8, 8)),
         Err(3),
+    ),
+    (
+        "writing a segment: 1, 3, 4: all three of them give 1",
+        || written((2, ONE, ONE), (1, 0), &[ONE; 256], (0, 0)),
+        Err(1),
     ),
     (
         "256 residuals: 3",
@@ -168,7 +175,8 @@ pub const EXAMPLES: &[Example] = &[
         || stored(1, &[0x80, 0], &[5]),
         Err(10),
     ),
-    ("model 3 is 3", || stored(3, &[], &[5]), Err(3)),
+    ("a segment of model 2: 3", || stored(2, &[], &[5]), Err(3)),
+    ("model 3: 3", || stored(3, &[], &[5]), Err(3)),
     (
         "without residuals the model's sum alone: -0 stays -0",
         || sums(PMCMean(-0.0), &[], &[5]),
@@ -233,10 +241,15 @@ fn residuals(model: Model, list: &[u32]) -> Said {
 }
 
 /// The residual bytes by the C face, in outputs of these sizes.
-fn written((model, first, last): (u32, u32, u32), list: &[u32], rooms: (usize, usize)) -> Said {
+fn written(
+    (model, first, last): (u32, u32, u32),
+    bound: Words,
+    list: &[u32],
+    rooms: (usize, usize),
+) -> Said {
     let (mut values, mut stream) = (vec![0; rooms.0], vec![0; rooms.1]);
     let (model, mut row) = ((model, (first, last)), [0; SEGMENT_WORDS]);
-    let number = ffi::segment_write(model, (0, 0), list, &mut values, &mut stream, &mut row);
+    let number = ffi::segment_write(model, bound, list, &mut values, &mut stream, &mut row);
     stream.truncate(row[3] as usize);
     left(number, stream.into_iter().map(u64::from).collect())
 }

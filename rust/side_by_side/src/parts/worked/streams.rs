@@ -145,6 +145,15 @@ pub const EXAMPLES: &[Example] = &[
         || reopened(&[0x80], (65_537, 0), ON_ONE),
         Err(3),
     ),
+    (
+        "case b reopened behind 2 values: the bits after its place 34 are zeroed in the byte that this cuts",
+        || {
+            let mut buffer = [0x3F, 0x80, 0x00, 0x00, 0xB0, 0x91, 0xFE, 0xFF];
+            let writer = MacaqueV::reopen(&mut buffer, 8, 4, 2, Opening::First, Lossless);
+            said(writer, |_| buffer.to_vec())
+        },
+        Ok(&[0x3F, 0x80, 0x00, 0x00, 0x80, 0x91, 0xFE, 0xFF]),
+    ),
     // Reading.
     (
         "`FE 0C` on 1.0 is accepted with count 1",
