@@ -123,7 +123,8 @@ fn ends(model: Model) -> Option<(u32, u32)> {
     Some((model.first_value, model.last_value))
 }
 
-fn decoded(model: u32, extremes: Extremes, values: &[u8]) -> Option<(u32, u32)> {
+/// What parameter bytes give; PMC-Mean's one value twice.
+pub fn decoded(model: u32, extremes: Extremes, values: &[u8]) -> Option<(u32, u32)> {
     if model == PMC_MEAN_ID {
         let value = decode_values_for_pmc_mean(extremes, values).ok()?;
         Some((value, value))

@@ -3,7 +3,9 @@
 
 use super::{STALE, STALE_VALUE, STALE_WORD, both, safe};
 use crate::context::Context;
+use crate::face::segments::extremes;
 use crate::inputs::{DOZEN, SPECIAL};
+use crate::parts::parameters::any_form;
 use modelardb_rattle::ffi::Pair;
 use oracle::paper::numbers::canonical;
 use oracle::paper::refusal;
@@ -33,7 +35,8 @@ pub fn parameter_bytes(context: &mut Context) {
     }
     every_flag(context);
     for _ in 0..context.rounds(40_000) {
-        any_bytes(context);
+        let (segment, bytes) = any_form(context);
+        in_every_room(context, (segment.min_value, segment.max_value), &bytes);
     }
 }
 
@@ -51,22 +54,21 @@ fn written(context: &mut Context, (model, ends): (u32, Pair), residuals: Pair) {
         let (number, ..) = both::encoded(context, (model, ends), residuals, short, &row);
         context.same("a byte less", refusal::OUTPUT, number, input);
     }
-    let first = canonical(ends.0);
-    let last = if model == SWING_ID {
-        canonical(ends.1)
-    } else {
-        first
-    };
-    let finished = Extremes::of_model(first, last).with(Extremes {
-        min_value: residuals.0,
-        max_value: residuals.1,
-    });
+    read_back(context, (model, ends), residuals, bytes);
+}
+
+/// Read with the finished segment's extremes.
+fn read_back(context: &mut Context, (model, ends): (u32, Pair), residuals: Pair, bytes: &[u8]) {
+    let last = if model == SWING_ID { ends.1 } else { ends.0 };
+    let [first, last] = [ends.0, last].map(canonical);
+    let finished = Extremes::of_model(first, last).with(extremes(residuals));
     let segment = (finished.min_value, finished.max_value);
-    let out = [STALE_VALUE; 3];
-    let read = both::decoded(context, model, segment, bytes, &out);
-    let (mut left, count) = (out.to_vec(), ENDS[model as usize]);
+    let (mut left, count) = (vec![STALE_VALUE; 3], ENDS[model as usize]);
+    let read = both::decoded(context, model, segment, bytes, &left);
     left[..count].copy_from_slice(&[first, last][..count]);
-    context.same("read back", (0, left), read, input);
+    context.same("read back", (0, left), read, || {
+        format!("parameters {bytes:02X?} of {model} {ends:08X?}, {residuals:08X?}")
+    });
     safe::parameters(context, (model, ends), [residuals, segment], bytes);
 }
 
@@ -89,17 +91,6 @@ fn every_flag(context: &mut Context) {
             }
         }
     }
-}
-
-fn any_bytes(context: &mut Context) {
-    let inputs = &mut context.inputs;
-    let segment = (inputs.value(), inputs.value());
-    let length = inputs.below(11) as usize;
-    let mut bytes: Vec<u8> = (0..length).map(|_| inputs.word() as u8).collect();
-    if let Some(flag) = bytes.first_mut().filter(|_| inputs.flip()) {
-        *flag %= 8;
-    }
-    in_every_room(context, segment, &bytes);
 }
 
 fn in_every_room(context: &mut Context, segment: Pair, bytes: &[u8]) {

@@ -4,11 +4,12 @@ use super::Source;
 use crate::context::Context;
 use crate::face::segments as face;
 use crate::parts::library_fit::numbered;
+use crate::parts::segments::decoded;
 use modelardb_rattle::ErrorBound::{Absolute, Lossless, Relative};
 use modelardb_rattle::ffi::{Pair, StoredSegment};
 use modelardb_rattle::{Model, Segment, parameters};
-use oracle::paper::types::{self, PMC_MEAN_ID};
-use oracle::paper::{Answer, refusal};
+use oracle::paper::refusal;
+use oracle::paper::types::PMC_MEAN_ID;
 
 /// A model by its number and the bits of its ends.
 fn model_of(model: u32, (first, last): Pair) -> Model {
@@ -53,20 +54,11 @@ pub fn parameters(
         numbered(written).map(|length| &out[..length]),
         numbered(read),
     );
-    let paper = (Ok(bytes), types_decode(model, segment, bytes));
+    let paper = decoded(model, face::extremes(segment), bytes).ok_or(refusal::FORM);
+    let paper = (Ok(bytes), paper);
     context.same("safe calls", paper, said, || {
         format!("safe parameters of {model} {ends:08X?}, {residuals:08X?}")
     });
-}
-
-fn types_decode(model: u32, segment: Pair, bytes: &[u8]) -> Answer<Pair> {
-    let segment = face::extremes(segment);
-    if model == PMC_MEAN_ID {
-        let value = types::decode_values_for_pmc_mean(segment, bytes)?;
-        Ok((value, value))
-    } else {
-        types::decode_values_for_swing(segment, bytes)
-    }
 }
 
 /// A segment by the safe type: written, or refused as more than 255 residuals are.
@@ -88,9 +80,9 @@ pub fn read(context: &mut Context, segment: &Segment, times: &[i64]) {
     let (mut out, mut drawn) = (vec![0; times.len()], vec![0; times.len()]);
     let stored = StoredSegment::from(segment);
     let paper = face::read(stored, times);
-    let ends = types_decode(segment.model_type_id, stored.extremes, &segment.values);
+    let ends = decoded(paper.model, paper.extremes, paper.values);
     let paper = (
-        ends,
+        ends.ok_or(refusal::FORM),
         paper.grid(&mut out).map(|()| out),
         paper.sum_by_average(),
         paper.sum_over_times(),
