@@ -187,7 +187,7 @@ impl Segment {
 
     /// [`Segment::grid`] with the values drawn as bits; of the model a NaN is drawn as 7FC00000.
     pub fn grid_bits(&self, timestamps: &[i64], out: &mut [u32]) -> Result<(), Refusal> {
-        Refusal::judge(ffi::segment_grid(self.stored(), timestamps, out))
+        Refusal::judge(ffi::segment_grid(self.into(), timestamps, out))
     }
 
     /// The sum of all values, a line's by the average of its ends: right where its timestamps are
@@ -209,7 +209,7 @@ impl Segment {
     /// The bits of [`Segment::sum_by_average`]; a NaN is answered as 7FC00000.
     pub fn sum_by_average_bits(&self, timestamps: &[i64]) -> Result<u32, Refusal> {
         let mut out = [0];
-        let number = ffi::segment_sum_by_average(self.stored(), timestamps, &mut out);
+        let number = ffi::segment_sum_by_average(self.into(), timestamps, &mut out);
         Refusal::judge(number)?;
         Ok(out[0])
     }
@@ -222,18 +222,20 @@ impl Segment {
     /// The bits of [`Segment::sum_over`]; a NaN is answered as 7FC00000.
     pub fn sum_over_bits(&self, timestamps: &[i64]) -> Result<u32, Refusal> {
         let mut out = [0];
-        let number = ffi::segment_sum_over(self.stored(), timestamps, &mut out);
+        let number = ffi::segment_sum_over(self.into(), timestamps, &mut out);
         Refusal::judge(number)?;
         Ok(out[0])
     }
+}
 
-    /// The segment as it crosses the C face.
-    fn stored(&self) -> StoredSegment<'_> {
-        StoredSegment {
-            model: self.model_type_id,
-            extremes: (self.min_value_bits, self.max_value_bits),
-            values: &self.values,
-            residuals: &self.residuals,
+/// The segment as it crosses the C face.
+impl<'a> From<&'a Segment> for StoredSegment<'a> {
+    fn from(segment: &'a Segment) -> Self {
+        Self {
+            model: segment.model_type_id,
+            extremes: (segment.min_value_bits, segment.max_value_bits),
+            values: &segment.values,
+            residuals: &segment.residuals,
         }
     }
 }

@@ -4,6 +4,7 @@
 
 pub mod choice;
 pub mod fit;
+pub mod segments;
 
 use modelardb_rattle::ffi::{STATE_WORDS, Words};
 use oracle::paper::macaque_v::{self, MacaqueV, Opening, Window};

@@ -1,5 +1,14 @@
 //! Lent memory between guards: what a call leaves in it, and whether it wrote beside it.
 
+use crate::context::Context;
+use std::fmt::Debug;
+
+/// What stands guard beside bytes, values, words and times.
+pub const BYTE_GUARD: u8 = 0xA5;
+pub const VALUE_GUARD: u32 = 0xA5A5_5A5A;
+pub const WORD_GUARD: u64 = 0xA5A5_5A5A_A5A5_5A5A;
+pub const TIME_GUARD: i64 = 0x5A5A_A5A5_5A5A_A5A5;
+
 /// How many places stand guard on each side: a stray word of eight bytes or two is seen.
 const GUARDS: usize = 16;
 
@@ -29,4 +38,42 @@ impl<T: Copy + PartialEq> Lent<T> {
         let mut guards = self.places.iter().chain(&behind);
         guards.all(|&place| place == self.guard).then_some(content)
     }
+}
+
+/// What a call leaves: its number, and the row or output that it was lent.
+pub type Left<T> = (u32, Vec<T>);
+
+/// A call that is lent `memory`, by the paper and by the library. A refusal leaves the memory alone.
+pub fn compared<T: Copy + PartialEq + Debug>(
+    context: &mut Context,
+    (memory, guard): (&[T], T),
+    paper: impl FnOnce(&mut [T]) -> u32,
+    library: impl FnOnce(&mut [T]) -> u32,
+    input: impl FnOnce() -> String,
+) -> Left<T> {
+    let mut expected = memory.to_vec();
+    let number = paper(&mut expected);
+    let mut lent = Lent::new(memory, guard);
+    let ours = library(lent.lend());
+    let left = lent.content();
+    let is_as_refused = ours == 0 || left.as_deref() == Some(memory);
+    context.same(
+        "library",
+        (number, Some(&expected[..]), true),
+        (ours, left.as_deref(), is_as_refused),
+        || format!("{} into {memory:X?}", input()),
+    );
+    (number, expected)
+}
+
+/// Lends what is only to be read, and sees that it was left alone.
+pub fn to_read<T: Copy + PartialEq>(
+    (content, guard): (&[T], T),
+    is_kept: &mut bool,
+    call: impl FnOnce(&[T]) -> u32,
+) -> u32 {
+    let mut lent = Lent::new(content, guard);
+    let number = call(lent.lend());
+    *is_kept = lent.content().as_deref() == Some(content);
+    number
 }

@@ -6,6 +6,7 @@ mod context;
 mod face;
 mod inputs;
 mod lent;
+mod order;
 mod parts;
 mod shape;
 

@@ -4,6 +4,7 @@ mod bounds;
 mod choice;
 mod differences;
 mod library_fit;
+mod library_segments;
 mod library_stream;
 mod list_program;
 mod macaque_v;
@@ -12,6 +13,7 @@ mod parameters;
 mod pmc_mean;
 mod segments;
 mod swing;
+mod worked;
 
 use crate::context::Part;
 
@@ -36,12 +38,21 @@ pub const ALL: &[Part] = &[
     Part::new("library: fitted states", library_fit::states),
     Part::new("library: causes of the fit", library_fit::causes),
     Part::new("library: marked cases", library_stream::marked),
+    Part::new("library: worked examples", worked::examples),
     Part::new("library: short lists", library_stream::short_lists),
     Part::new("library: lists", library_stream::lists),
     Part::new("library: resumed", library_stream::resumed),
     Part::new("library: damaged", library_stream::damaged),
     Part::new("library: states", library_stream::states),
     Part::new("library: causes", library_stream::causes),
+    Part::new(
+        "library: segments' parameter bytes",
+        library_segments::parameter_bytes,
+    ),
+    Part::new("library: segments written", library_segments::written),
+    Part::new("library: segments damaged", library_segments::damaged),
+    Part::new("library: segments' causes", library_segments::causes),
+    Part::new("library: segments of a run", library_segments::paths),
     Part::new("parameter bytes", parameters::parameters),
     Part::new("segments", segments::segments),
     Part::new("list", list_program::list_program),

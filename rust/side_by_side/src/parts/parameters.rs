@@ -72,8 +72,8 @@ fn has_two_zeros((first, last): (u32, u32)) -> bool {
     first ^ last == 1 << 31 && first << 1 == 0
 }
 
-/// Any bytes as parameters: what the paper refuses with 9 faults there.
-fn any_bytes(context: &mut Context) {
+/// Any extremes and any bytes as parameters, the flag often one of those that there are.
+pub fn any_form(context: &mut Context) -> (Extremes, Vec<u8>) {
     let inputs = &mut context.inputs;
     let segment = Extremes {
         min_value: inputs.value(),
@@ -84,6 +84,12 @@ fn any_bytes(context: &mut Context) {
     if let Some(flag) = bytes.first_mut().filter(|_| inputs.flip()) {
         *flag %= 8;
     }
+    (segment, bytes)
+}
+
+/// What the paper refuses with 9 faults there.
+fn any_bytes(context: &mut Context) {
+    let (segment, bytes) = any_form(context);
     let pmc_mean = decode_values_for_pmc_mean(segment, &bytes);
     let swing = decode_values_for_swing(segment, &bytes);
     let input = || format!("decoding {bytes:02X?}, {segment:08X?}");

@@ -97,7 +97,7 @@ fn written(model: Model, bound: ErrorBound, residuals: &[u32]) -> SegmentBytes {
 
 /// Listed: a form that does not read back; rewriting by log2 and the signs of zeros in the published
 /// text.
-fn compare_writing(
+pub fn compare_writing(
     context: &mut Context,
     model: Model,
     bound: ErrorBound,
@@ -123,7 +123,8 @@ fn ends(model: Model) -> Option<(u32, u32)> {
     Some((model.first_value, model.last_value))
 }
 
-fn decoded(model: u32, extremes: Extremes, values: &[u8]) -> Option<(u32, u32)> {
+/// What parameter bytes give; PMC-Mean's one value twice.
+pub fn decoded(model: u32, extremes: Extremes, values: &[u8]) -> Option<(u32, u32)> {
     if model == PMC_MEAN_ID {
         let value = decode_values_for_pmc_mean(extremes, values).ok()?;
         Some((value, value))
@@ -140,7 +141,7 @@ fn as_floats(extremes: Extremes) -> [u32; 2] {
 
 /// The number by which a segment of valid times is refused: 12, 10, 9, 11, then 5 to 8 by the shape of
 /// its residual stream.
-fn refusal_of(segment: Segment) -> Option<u32> {
+pub fn refusal_of(segment: Segment) -> Option<u32> {
     let count = usize::from(segment.residuals.last().copied().unwrap_or(0));
     let is_swing = segment.model == SWING_ID;
     let Some(owned) = segment
@@ -173,7 +174,7 @@ fn refusal_of(segment: Segment) -> Option<u32> {
     shape::refusal_of(stream, count, Opening::On(last))
 }
 
-fn compare_reading(context: &mut Context, segment: Segment) {
+pub fn compare_reading(context: &mut Context, segment: Segment) {
     let mut out = vec![0; segment.timestamps.len()];
     let input = || format!("reading {segment:X?}");
     let refusal = refusal_of(segment);

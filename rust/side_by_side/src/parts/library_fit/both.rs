@@ -4,22 +4,14 @@
 use super::kinds::{Ask, Kind};
 use crate::context::Context;
 use crate::face::{choice, fit};
-use crate::lent::Lent;
+use crate::lent::{Left, TIME_GUARD, VALUE_GUARD, WORD_GUARD, compared, to_read};
 use modelardb_rattle::ffi::{self, Ends, Words};
-use std::fmt::Debug;
-
-const VALUE_GUARD: u32 = 0xA5A5_5A5A;
-const WORD_GUARD: u64 = 0xA5A5_5A5A_A5A5_5A5A;
-const TIME_GUARD: i64 = 0x5A5A_A5A5_5A5A_A5A5;
-
-/// What a call leaves: its number, and the row or output that it was lent.
-pub type Left<T> = (u32, Vec<T>);
 
 /// A fresh state into the row.
 pub fn new(context: &mut Context, kind: &Kind, bound: Words, row: &[u64]) -> Left<u64> {
     let [paper, library] = kind.new;
     let input = || format!("{} new {bound:X?}", kind.name);
-    lent(
+    compared(
         context,
         (row, WORD_GUARD),
         |row| paper(bound, row),
@@ -37,7 +29,7 @@ pub fn step(
 ) -> Left<u64> {
     let [paper, library] = kind.step;
     let input = || format!("{} step with {value:08X} at {time}", kind.name);
-    lent(
+    compared(
         context,
         (row, WORD_GUARD),
         |row| paper(row, time, value),
@@ -50,7 +42,7 @@ pub fn step(
 pub fn ask(context: &mut Context, ask: &Ask, row: &[u64], m: usize, out: &[u32]) -> Left<u32> {
     let ([paper, library], mut is_kept) = (ask.call, true);
     let input = || format!("{} of {row:X?}, M {m}", ask.name);
-    let left = lent(
+    let left = compared(
         context,
         (out, VALUE_GUARD),
         |out| paper(row, m, out),
@@ -65,7 +57,7 @@ pub fn ask(context: &mut Context, ask: &Ask, row: &[u64], m: usize, out: &[u32])
 pub fn finish(context: &mut Context, row: &[u64], m: usize, out: &[u64]) -> Left<u64> {
     let mut is_kept = true;
     let input = || format!("choice of {row:X?}, M {m}");
-    let left = lent(
+    let left = compared(
         context,
         (out, WORD_GUARD),
         |out| choice::finish(row, m, out),
@@ -90,7 +82,7 @@ pub fn choose(
     let mut is_kept = [true; 2];
     let [times_kept, values_kept] = &mut is_kept;
     let input = || format!("choose_model {bound:X?} M {m} {times:?} {values:08X?}");
-    let left = lent(
+    let left = compared(
         context,
         (out, WORD_GUARD),
         |out| choice::choose_model(times, values, bound, m, out),
@@ -110,14 +102,14 @@ pub fn choose(
 /// PMC-Mean's sum of `count` values into `sum`, and its grid into `out`.
 pub fn constant(context: &mut Context, value: u32, count: usize, sum: &[u32], out: &[u32]) {
     let input = || format!("PMC {value:08X} for {count} values");
-    lent(
+    compared(
         context,
         (sum, VALUE_GUARD),
         |sum| fit::pmc_mean_sum(count, value, sum),
         |sum| ffi::pmc_mean_sum(count, value, sum),
         input,
     );
-    lent(
+    compared(
         context,
         (out, VALUE_GUARD),
         |out| fit::pmc_mean_grid(value, count, out),
@@ -128,7 +120,7 @@ pub fn constant(context: &mut Context, value: u32, count: usize, sum: &[u32], ou
 
 /// A line's sum by average into `out`.
 pub fn average(context: &mut Context, ends: Ends, count: usize, out: &[u32]) -> Left<u32> {
-    lent(
+    compared(
         context,
         (out, VALUE_GUARD),
         |out| fit::swing_sum_by_average(ends, count, out),
@@ -154,7 +146,7 @@ pub fn drawn(
 ) -> Left<u32> {
     let mut is_kept = true;
     let input = || format!("line {ends:X?} at {times:?}");
-    let left = lent(
+    let left = compared(
         context,
         (out, VALUE_GUARD),
         |out| paper(ends, times, out),
@@ -167,39 +159,4 @@ pub fn drawn(
     );
     context.same("times lent", true, is_kept, input);
     left
-}
-
-/// A call that is lent `memory`, by the paper and by the library. A refusal leaves the memory alone.
-fn lent<T: Copy + PartialEq + Debug>(
-    context: &mut Context,
-    (memory, guard): (&[T], T),
-    paper: impl FnOnce(&mut [T]) -> u32,
-    library: impl FnOnce(&mut [T]) -> u32,
-    input: impl FnOnce() -> String,
-) -> Left<T> {
-    let mut expected = memory.to_vec();
-    let number = paper(&mut expected);
-    let mut lent = Lent::new(memory, guard);
-    let ours = library(lent.lend());
-    let left = lent.content();
-    let is_as_refused = ours == 0 || left.as_deref() == Some(memory);
-    context.same(
-        "library",
-        (number, Some(&expected[..]), true),
-        (ours, left.as_deref(), is_as_refused),
-        || format!("{} into {memory:X?}", input()),
-    );
-    (number, expected)
-}
-
-/// Lends what is only to be read, and sees that it was left alone.
-fn to_read<T: Copy + PartialEq>(
-    (content, guard): (&[T], T),
-    is_kept: &mut bool,
-    call: impl FnOnce(&[T]) -> u32,
-) -> u32 {
-    let mut lent = Lent::new(content, guard);
-    let number = call(lent.lend());
-    *is_kept = lent.content().as_deref() == Some(content);
-    number
 }

@@ -8,27 +8,8 @@ use super::both;
 use super::kinds::KINDS;
 use super::{METADATA, STALE_WORD};
 use crate::context::Context;
-use modelardb_rattle::ffi::Words;
-use oracle::paper::refusal::{BOUND, COUNTS, LIMIT, NO_MODEL, OUTPUT, STATE, TIMES};
-
-/// "Where several of 1, 2, 3, 12, 4, 10, 9, 11 apply, the first in that order is given."
-const ORDER: [u32; 7] = [BOUND, STATE, LIMIT, COUNTS, OUTPUT, TIMES, NO_MODEL];
-
-const BOUNDS: [(Words, u32); 10] = [
-    ((0, 0), 0),
-    ((0, 0x7FC0_0000), 0), // Lossless does not look at it
-    ((1, 0x3F80_0000), 0), // 1
-    ((1, 0), BOUND),
-    ((1, 0x7F80_0000), BOUND), // infinity
-    ((2, 0x42C8_0000), 0),     // 100
-    ((2, 0x42C8_0001), BOUND), // just over 100
-    ((2, 0x7FC0_0000), BOUND),
-    ((3, 0x3F80_0000), BOUND),
-    ((u32::MAX, 0), BOUND),
-];
-
-/// Two of them that are allowed, and two that are not.
-const FEW_BOUNDS: [(Words, u32); 4] = [BOUNDS[0], BOUNDS[2], BOUNDS[3], BOUNDS[8]];
+use crate::order::{BOUNDS, in_order, rooms};
+use oracle::paper::refusal::LIMIT;
 
 pub fn causes(context: &mut Context) {
     of_new(context);
@@ -51,17 +32,6 @@ fn of_new(context: &mut Context) {
             }
         }
     }
-}
-
-/// The number must be that of the first of the causes.
-fn in_order(context: &mut Context, causes: &[u32], number: u32, input: impl FnOnce() -> String) {
-    let first = ORDER.into_iter().find(|cause| causes.contains(cause));
-    context.same("the order", first.unwrap_or(0), number, input);
-}
-
-/// A memory of no words, of one less than needed, of just enough and of more.
-fn rooms(words: usize) -> [(usize, u32); 4] {
-    [(0, OUTPUT), (words - 1, OUTPUT), (words, 0), (words + 2, 0)]
 }
 
 /// Each metadata size, and 3 where it is out of its limits.

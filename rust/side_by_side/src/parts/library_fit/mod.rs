@@ -11,10 +11,12 @@ mod safe;
 mod short;
 mod states;
 
+pub use both::choose;
 pub use causes::causes;
 pub use costs::costs;
 pub use lines::lines;
-pub use runs::runs;
+pub use runs::{Run, runs};
+pub use safe::numbered;
 pub use short::short_runs;
 pub use states::states;
 

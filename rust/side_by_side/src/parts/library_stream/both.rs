@@ -3,12 +3,8 @@
 
 use crate::context::Context;
 use crate::face;
-use crate::lent::Lent;
+use crate::lent::{BYTE_GUARD, Lent, VALUE_GUARD, WORD_GUARD};
 use modelardb_rattle::ffi::{self, Words};
-
-const BYTE_GUARD: u8 = 0xA5;
-const VALUE_GUARD: u32 = 0xA5A5_5A5A;
-const WORD_GUARD: u64 = 0xA5A5_5A5A_A5A5_5A5A;
 
 /// What a call on a writer's row leaves: its number, the row and the buffer.
 pub type Left = (u32, Vec<u64>, Vec<u8>);

@@ -5,22 +5,10 @@ use super::both::{self, At};
 use super::{STALE, STALE_VALUE, STALE_WORD, Stream};
 use crate::context::Context;
 use crate::face;
-use modelardb_rattle::ffi::{STATE_WORDS, Words};
+use crate::order::{BOUNDS, FEW_BOUNDS};
+use modelardb_rattle::ffi::STATE_WORDS;
 use oracle::paper::macaque_v::Opening;
 use oracle::paper::models::ErrorBound;
-
-const BOUNDS: [Words; 10] = [
-    (0, 0),
-    (0, 0x7FC0_0000),
-    (1, 0x3F80_0000), // 1
-    (1, 0),
-    (1, 0x7F80_0000), // infinity
-    (2, 0x42C8_0000), // 100
-    (2, 0x42C8_0001), // just over 100
-    (2, 0x7FC0_0000),
-    (3, 0x3F80_0000),
-    (u32::MAX, 0),
-];
 
 const MODES: [u32; 4] = [0, 1, 2, u32::MAX];
 
@@ -48,7 +36,7 @@ pub fn causes(context: &mut Context) {
 }
 
 fn of_new(context: &mut Context) {
-    for bound in BOUNDS {
+    for (bound, _) in BOUNDS {
         for mode in MODES {
             for length in ROWS {
                 let row = vec![STALE_WORD; length];
@@ -80,7 +68,7 @@ fn of_reading(context: &mut Context, stream: &Stream, bytes: &[u8]) {
 fn of_reopen(context: &mut Context, stream: &Stream, bytes: &[u8]) {
     let buffer = [bytes, &[STALE; 2]].concat();
     let used = bytes.len();
-    for bound in [BOUNDS[0], BOUNDS[2], BOUNDS[3], BOUNDS[8]] {
+    for (bound, _) in FEW_BOUNDS {
         for mode in MODES {
             for count in counts(stream.count()) {
                 for k in [0, stream.count(), stream.count() + 1, usize::MAX] {
@@ -106,7 +94,7 @@ fn of_reopen(context: &mut Context, stream: &Stream, bytes: &[u8]) {
 /// A bound, a state, a length and a room that are allowed or not, in every mixture.
 fn of_write(context: &mut Context) {
     let fresh = face::opening_words(Opening::WithFirst);
-    for (kind, bits) in BOUNDS {
+    for ((kind, bits), _) in BOUNDS {
         for length in ROWS {
             for (place, written) in [(0, 0), (0, 1), (40, 3), (41, 65_536), (48, 65_537)] {
                 let mut row = vec![STALE_WORD; STATE_WORDS + 2];

@@ -2,8 +2,9 @@
 
 use super::super::both::{self, GRID, SUM_OVER};
 use super::super::{STALE_VALUE, STALE_WORD};
-use super::{FEW_BOUNDS, in_order, rooms, sizes};
+use super::sizes;
 use crate::context::Context;
+use crate::order::{FEW_BOUNDS, in_order, rooms};
 use modelardb_rattle::ffi::{Ends, SELECTED_MODEL_WORDS};
 use oracle::paper::refusal::{COUNTS, LIMIT, NO_MODEL, OUTPUT, TIMES};
 

@@ -2,8 +2,9 @@
 
 use super::super::kinds::{BUILDER, Kind, PMC_MEAN, SWING};
 use super::super::{STALE_VALUE, STALE_WORD, both};
-use super::{BOUNDS, FEW_BOUNDS, in_order, rooms, sizes};
+use super::sizes;
 use crate::context::Context;
+use crate::order::{BOUNDS, FEW_BOUNDS, in_order, rooms};
 use modelardb_rattle::ffi::Words;
 use oracle::paper::refusal::{LIMIT, NO_MODEL, OUTPUT, STATE, TIMES};
 
