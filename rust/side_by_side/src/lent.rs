@@ -2,6 +2,7 @@
 
 use crate::context::Context;
 use std::fmt::Debug;
+use std::sync::LazyLock;
 
 /// What stands guard beside bytes, values, words and times.
 pub const BYTE_GUARD: u8 = 0xA5;
@@ -9,8 +10,13 @@ pub const VALUE_GUARD: u32 = 0xA5A5_5A5A;
 pub const WORD_GUARD: u64 = 0xA5A5_5A5A_A5A5_5A5A;
 pub const TIME_GUARD: i64 = 0x5A5A_A5A5_5A5A_A5A5;
 
-/// How many places stand guard on each side: a stray word of eight bytes or two is seen.
-const GUARDS: usize = 16;
+/// How many places stand guard on each side: a stray word of eight bytes or two is seen. With `GUARDS=0` in the
+/// environment none do, and a slice is the whole of what is allocated for it: a memory checker such as valgrind
+/// then sees each stray byte, read or written.
+static GUARDS: LazyLock<usize> = LazyLock::new(|| match std::env::var("GUARDS").as_deref() {
+    Ok("0") => 0,
+    _ => 16,
+});
 
 /// A slice to lend, with guards before and behind it.
 pub struct Lent<T> {
@@ -20,21 +26,23 @@ pub struct Lent<T> {
 
 impl<T: Copy + PartialEq> Lent<T> {
     pub fn new(content: &[T], guard: T) -> Self {
-        let mut places = vec![guard; GUARDS];
+        let length = content.len() + 2 * *GUARDS;
+        let mut places = Vec::with_capacity(length);
+        places.resize(*GUARDS, guard);
         places.extend_from_slice(content);
-        places.resize(content.len() + 2 * GUARDS, guard);
+        places.resize(length, guard);
         Self { places, guard }
     }
 
     pub fn lend(&mut self) -> &mut [T] {
-        let end = self.places.len() - GUARDS;
-        &mut self.places[GUARDS..end]
+        let end = self.places.len() - *GUARDS;
+        &mut self.places[*GUARDS..end]
     }
 
     /// What the slice holds, or `None` where a guard was overwritten.
     pub fn content(mut self) -> Option<Vec<T>> {
-        let behind = self.places.split_off(self.places.len() - GUARDS);
-        let content = self.places.split_off(GUARDS);
+        let behind = self.places.split_off(self.places.len() - *GUARDS);
+        let content = self.places.split_off(*GUARDS);
         let mut guards = self.places.iter().chain(&behind);
         guards.all(|&place| place == self.guard).then_some(content)
     }
