@@ -10,6 +10,7 @@ ghost use Rattle.exports.specs.Face.{boundOf, numberOf, rowAfter};
 ghost use Rattle.exports_segments.specs.Calls.{oneWord, endsWords, encodeNumber, encodeOut, encodeRow};
 ghost use Rattle.exports_segments.specs.Calls.{segmentCauses, segmentNumber, segmentValuesOut, segmentResidualsOut, segmentRow};
 ghost use Rattle.exports_segments.specs.Calls.{gridNumber, gridOut, sumNumber, sumOut};
+use macaque_v::MacaqueV;
 use models::ErrorBound;
 use models::GridAnswer;
 use models::Refusal;
@@ -147,7 +148,7 @@ pub extern "C" fn modelardb_segment_write(
 fn judge_write(model: u32, error_bound: ErrorBound, residuals: &[u32], room: usize) -> Verdict
     ensures { λ r. ⌜ saysVerdict r ≡ verdict (segmentCauses model «error_bound» (now (residuals .entry)) room) ⌝ }
 {
-    let over = (1 < model) | (255 < residuals.len());
+    let over = (1 < model) | (MacaqueV::MOST_RESIDUALS < residuals.len());
     let short = models::when(Refusal::OutputTooShort, room < 4, Verdict::Passed);
     let limit = models::when(Refusal::OverLimit, over, short);
     models::when(

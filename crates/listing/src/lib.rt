@@ -67,7 +67,7 @@ pub fn judge(input: &[u8]) -> Judged
         return Judged::Refused(Refusal::EndsEarly);
     }
     let count = count_in(input);
-    if 65536 < count {
+    if MacaqueV::MOST_VALUES < count {
         return Judged::Refused(Refusal::OverLimit);
     }
     judge_stream(&input[4..], count)
@@ -101,7 +101,7 @@ pub fn row(stream: &[u8], at: Cursor, line: &mut [u8; 80]) -> RowAnswer
     if !may_stand(stream.len(), at) {
         return RowAnswer::Refused(Refusal::StateNotAllowed);
     }
-    if 65536 <= at.count {
+    if MacaqueV::MOST_VALUES <= at.count {
         return RowAnswer::Refused(Refusal::OverLimit);
     }
     match find(stream, at) {
@@ -169,7 +169,7 @@ pub enum Found {
 fn may_stand(room: usize, at: Cursor) -> bool
     ensures { λ r. ⌜ r ≡ mayStand room at ⌝ }
 {
-    if 65536 < at.count {
+    if MacaqueV::MOST_VALUES < at.count {
         return false;
     }
     if 45 * at.count < at.place {
@@ -178,7 +178,7 @@ fn may_stand(room: usize, at: Cursor) -> bool
     if room < (at.place + 7) / 8 {
         return false;
     }
-    if at.lead == 255 {
+    if at.lead == MacaqueV::OPENING_LEADING {
         return true;
     }
     if 32 <= at.lead {

@@ -6,6 +6,7 @@ mod draw;
 mod parts;
 mod total;
 
+use macaque_v::MacaqueV;
 use models::GridAnswer;
 use models::Refusal;
 use models::ValueAnswer;
@@ -105,5 +106,9 @@ fn judge(model: u32, timestamps: &[i64], ends: EndsAnswer, residuals: &[u8], roo
     let times = models::when(Refusal::TimesNotAllowed, times_wrong, form);
     let short = models::when(Refusal::OutputTooShort, room < total, times);
     let none = models::when(Refusal::CountsDisagree, total <= count, short);
-    models::when(Refusal::OverLimit, (1 < model) | (65536 < total), none)
+    models::when(
+        Refusal::OverLimit,
+        (1 < model) | (MacaqueV::MOST_VALUES < total),
+        none,
+    )
 }
