@@ -6,25 +6,17 @@
 mod readings;
 mod show;
 mod store;
+#[path = "../shared/told.rs"]
+mod told;
 
 use std::process::ExitCode;
 
 fn main() -> ExitCode {
     let words: Vec<String> = std::env::args().skip(1).collect();
-    let text = match words.as_slice() {
+    told::told(match words.as_slice() {
         [file, bound, m] => shown(file, bound, m),
         _ => Err("usage: day FILE BOUND M".to_string()),
-    };
-    match text {
-        Ok(text) => {
-            print!("{text}");
-            ExitCode::SUCCESS
-        }
-        Err(why) => {
-            eprintln!("{why}");
-            ExitCode::FAILURE
-        }
-    }
+    })
 }
 
 fn shown(file: &str, bound: &str, m: &str) -> Result<String, String> {

@@ -5,26 +5,18 @@
 #[path = "../shared/readings.rs"]
 mod readings;
 mod show;
+#[path = "../shared/told.rs"]
+mod told;
 mod upload;
 
 use std::process::ExitCode;
 
 fn main() -> ExitCode {
     let words: Vec<String> = std::env::args().skip(1).collect();
-    let [file, bound] = words.as_slice() else {
-        eprintln!("usage: morning FILE BOUND");
-        return ExitCode::from(2);
-    };
-    match shown(file, bound) {
-        Ok(text) => {
-            print!("{text}");
-            ExitCode::SUCCESS
-        }
-        Err(why) => {
-            eprintln!("{why}");
-            ExitCode::FAILURE
-        }
-    }
+    told::told(match words.as_slice() {
+        [file, bound] => shown(file, bound),
+        _ => Err("usage: morning FILE BOUND".to_string()),
+    })
 }
 
 fn shown(file: &str, bound: &str) -> Result<String, String> {

@@ -7,26 +7,18 @@
 mod readings;
 mod steps;
 mod table;
+#[path = "../shared/told.rs"]
+mod told;
 
 use std::process::ExitCode;
 
 fn main() -> ExitCode {
     let words: Vec<String> = std::env::args().skip(1).collect();
-    let text = match words.as_slice() {
+    told::told(match words.as_slice() {
         [] => table::table().map_err(|refusal| refusal.to_string()),
         [file, bound, m] => shown(file, bound, m),
         _ => Err("usage: rule, or rule FILE BOUND M".to_string()),
-    };
-    match text {
-        Ok(text) => {
-            print!("{text}");
-            ExitCode::SUCCESS
-        }
-        Err(why) => {
-            eprintln!("{why}");
-            ExitCode::FAILURE
-        }
-    }
+    })
 }
 
 fn shown(file: &str, bound: &str, m: &str) -> Result<String, String> {
