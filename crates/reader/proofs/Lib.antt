@@ -1,0 +1,2 @@
+-- The laws that the proofs of `reader` share.
+pub mod Standing

@@ -1,0 +1,2 @@
+-- What the contracts of `reader` cite.
+pub mod Calls
