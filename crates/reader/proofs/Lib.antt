@@ -1,2 +1,3 @@
--- The laws that the proofs of `reader` share.
+-- The theorem about the calls, and the laws that the proofs of `reader` share.
 pub mod Standing
+pub mod Promises
