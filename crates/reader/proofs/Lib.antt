@@ -1,3 +1,4 @@
 -- The theorem about the calls, and the laws that the proofs of `reader` share.
 pub mod Standing
 pub mod Promises
+pub mod Last

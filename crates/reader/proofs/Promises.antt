@@ -42,7 +42,7 @@ record Going (bytes : List ℕ) (at : Cursor) : Type 0 where
   ruled : Ruled macaque (stateAt at)
 
 -- a value before others
-abbrev cons : ℕ → Said (List ℕ) → Said (List ℕ)
+abbrev pub cons : ℕ → Said (List ℕ) → Said (List ℕ)
 cons v (answered vs) = answered (v ∷ vs)
 cons v (refused n) = refused n
 
@@ -82,7 +82,7 @@ module _ (bytes : List ℕ) where
       go none = refl
       go (some q) = refl
 
-  also-cons : (v : ℕ) (q : SaidOn Position Run) → andEnd bytes (also v q) ≡ cons v (andEnd bytes q)
+  pub also-cons : (v : ℕ) (q : SaidOn Position Run) → andEnd bytes (also v q) ≡ cons v (andEnd bytes q)
   also-cons v (answeredOn r) = go (endAnswer bytes (r .after))
     where
       go : (a : Said Done) → ifEnded (v ∷ r .values) a ≡ cons v (ifEnded (r .values) a)

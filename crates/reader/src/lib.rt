@@ -2,8 +2,9 @@
 // function over a struct that holds a reference, so the calls here are thin, and proved by hand: each takes the reader apart and leaves the
 // work to `position`, on the slice and the place.
 ghost use mathlib.Core.Path.{_≡_};
-ghost use Rattle.models.specs.Calls.{saysVerdict};
+ghost use Rattle.models.specs.Calls.{saysVerdict, saysValue};
 ghost use Rattle.reader.specs.Calls.{openedAt, saysNext, nextAnswer, endAnswer};
+ghost use Rattle.reader.specs.Run.{lastAnswer};
 use crate::position::Position;
 use macaque_v::Opening;
 use models::ValueAnswer;
@@ -51,4 +52,21 @@ impl<'a> Reader<'a> {
     {
         position::end_from(self.stream, self.position)
     }
+}
+
+// The last of a stream's values, `count` of them, by a reader; +0 where there are none. Its parameters are plain, so whoever calls it needs no
+// proof by hand.
+pub fn last_value(stream: &[u8], count: usize, opening: Opening) -> ValueAnswer
+    ensures { λ r. ⌜ saysValue r ≡ lastAnswer (now (stream .entry)) count opening ⌝ }
+{
+    let mut reader = Reader::open(stream, opening);
+    let mut answer = ValueAnswer::Answered(0);
+    let mut read: usize = 0;
+    while position::goes_on(answer, read, count) {
+        let next = reader.next();
+        answer = next.answer;
+        reader = next.reader;
+        read += 1;
+    }
+    position::outcome(answer, count, reader.end())
 }
