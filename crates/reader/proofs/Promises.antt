@@ -5,7 +5,7 @@ use mathlib.Core.Logic.{inl}
 use mathlib.Core.Bool.{Bool, true, cond}
 use mathlib.Core.List.{List, [], _∷_}
 use mathlib.Core.Option.{Option, none, some}
-use Prim.Native.Nat.{ℕ, zero, suc, _+_, _*_, _^_, _≤_, _<_}
+use Prim.Native.Nat.{ℕ, zero, suc, _+_, _^_, _≤_, _<_}
 use native.Mathlib.Numerals.{add-one}
 use native.Mathlib.Omega.{arith}
 use borrow.Author.Tests.{ne-eqb, eq-eqb, le-ltb}
@@ -23,9 +23,9 @@ use Rattle.stream.proofs.OwnBits.{own}
 use Rattle.stream.proofs.Rule.{Ruled, advance-ruled, usable-if}
 use Rattle.coding.specs.Code.{windowIn}
 use Rattle.coding.proofs.Words.{read-of-45}
-use Rattle.macaque_v.specs.State.{modeOf, isFirst, openingValue}
+use Rattle.macaque_v.specs.State.{modeOf, openingValue}
 use Rattle.macaque_v.specs.Calls.{lentBytes}
-use Rattle.macaque_v.specs.ReadRun.{stateAt, Stands, readFrom, isSome, leftBehind}
+use Rattle.macaque_v.specs.ReadRun.{stateAt, Stands, readFrom, isSome}
 use Rattle.macaque_v.specs.Read.{valuesRead, valuesIn, startOf, drawn, drawnIn, gridAnswer, gridMemory}
 use Rattle.macaque_v.specs.declared.Opening.{Opening}
 use Rattle.macaque_v.specs.declared.Opening.the-variants.{First, On}

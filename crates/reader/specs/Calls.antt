@@ -1,9 +1,10 @@
 -- What a reader's calls say and answer: for each, its causes of refusal in 01's order, the answer, and the law that its results are told apart.
 -- Assumes nothing.
-use mathlib.Core.Path.{_≡_, refl, ap}
+use mathlib.Core.Path.{_≡_, refl, sym, _∙_}
 use mathlib.Core.Bool.{Bool, not}
 use mathlib.Core.List.{List, [], _∷_}
 use Prim.Native.Nat.{ℕ, _+_, _*_, _^_, _≤_, _<_}
+use denote.Ref.{RefT}
 use lib.Dec.{eqb}
 use lib.ListN.{length, drop}
 use Rattle.bits.specs.Bits.{bitsOf}
@@ -23,6 +24,8 @@ use Rattle.macaque_v.specs.ReadRun.{stateAt, leftBehind}
 use Rattle.macaque_v.specs.Read.{startOf}
 use Rattle.macaque_v.specs.declared.Opening.{Opening}
 use Rattle.macaque_v.specs.declared.read_run.Cursor.{Cursor}
+use Rattle.reader.specs.declared.Next.{Next}
+use Rattle.reader.specs.declared.Reader.{Reader}
 use Rattle.reader.specs.declared.position.Position.{Position}
 use Rattle.reader.specs.declared.position.Step.{Step}
 
@@ -85,6 +88,16 @@ step-told s = go (s .answer)
 
 pub saysStep-injective : Injective saysStep
 saysStep-injective = told-apart saysStep step-back step-told
+
+-- a contract of `open` or `next` allows one reader, and one answer: the stream is the one lent, at the same place in memory
+pub one-reader : (s : RefT (List ℕ)) (p : Position) (a b : Reader) → (a .stream ≡ s) × (a .position ≡ p) → (b .stream ≡ s) × (b .position ≡ p) → a ≡ b
+one-reader s p a b e f = λ i. record { stream = (e .0 ∙ sym (f .0)) i; position = (e .1 ∙ sym (f .1)) i }
+
+pub one-next : (s : RefT (List ℕ)) (said : SaidOn Position Taken) (a b : Next)
+    → (a .reader .stream ≡ s) × (saysNext (a .answer) (a .reader .position) ≡ said) → (b .reader .stream ≡ s) × (saysNext (b .answer) (b .reader .position) ≡ said) → a ≡ b
+one-next s said a b e f =
+    let same = saysStep-injective (record { answer = a .answer; after = a .reader .position }) (record { answer = b .answer; after = b .reader .position }) (e .1 ∙ sym (f .1)) in
+    λ i. record { answer = same i .answer; reader = record { stream = (e .0 ∙ sym (f .0)) i; position = same i .after } }
 
 -- ---- end: "to end (8 or done)", "the end call judges what follows its place"
 

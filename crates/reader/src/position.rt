@@ -1,6 +1,6 @@
 // Where a reader stands in its stream, and its calls on plain parameters: one value more, and the end.
 ghost use mathlib.Core.Path.{_≡_};
-ghost use Prim.Native.Nat.{_≤_, _<_};
+ghost use Prim.Native.Nat.{_<_};
 ghost use Rattle.models.specs.Answers.{verdict};
 ghost use Rattle.models.specs.Calls.{saysVerdict, saysValue};
 ghost use Rattle.reader.specs.Calls.{openedAt, mayUse, Ready, nextCauses, nextRead, nextAnswer, saysStep, endAnswer};
@@ -127,17 +127,17 @@ fn may_use(bytes: usize, at: Cursor) -> bool
 
 // ---- the value
 
-fn take_one(stream: &[u8], from: Position) -> Step
-    requires { ⌜ Ready (now stream) (from .at) ⌝ }
-    ensures { λ r. ⌜ saysStep r ≡ nextRead (now (stream .entry)) from ⌝ }
+fn take_one(stream: &[u8], here: Position) -> Step
+    requires { ⌜ Ready (now stream) (here .at) ⌝ }
+    ensures { λ r. ⌜ saysStep r ≡ nextRead (now (stream .entry)) here ⌝ }
 {
-    let at = from.at;
-    let raw = from.with_first & (at.count == 0);
+    let at = here.at;
+    let raw = here.with_first & (at.count == 0);
     let ahead = decode::look(stream, at.place);
     match decode::decode(raw, ahead.word, ahead.left, at.lead, at.trail, at.last) {
         Decoded::Refused(r) => Step {
             answer: ValueAnswer::Refused(r),
-            after: from,
+            after: here,
         },
         Decoded::Got {
             value,
@@ -145,17 +145,19 @@ fn take_one(stream: &[u8], from: Position) -> Step
             trail,
             used,
         } => {
+            let place = at.place + used;
+            let count = at.count + 1;
             let next = Cursor {
                 last: value,
                 lead,
                 trail,
-                place: at.place + used,
-                count: at.count + 1,
+                place,
+                count,
             };
             Step {
                 answer: ValueAnswer::Answered(value),
                 after: Position {
-                    with_first: from.with_first,
+                    with_first: here.with_first,
                     at: next,
                 },
             }

@@ -1,7 +1,7 @@
 -- `reader::last_value` meets its contract: a walk of its MIR, by hand. A reader is opened, read on in a loop, and ended. All that the proof knows of the calls is that each meets its contract.
 -- What the loop keeps is `Last`'s `Keeps`: what is asked for is what is still to come. Of an answer and of numbers nothing is carried: what they own is made anew for each call.
 -- Assumes nothing.
-use mathlib.Core.Path.{_≡_, refl, sym, ap, ap₂, _∙_, subst}
+use mathlib.Core.Path.{_≡_, refl, sym, ap, _∙_, subst}
 use mathlib.Core.Bool.{Bool, true, false, not}
 use mathlib.Core.WellFounded.{WellFounded, InvImage·wf}
 use mathlib.Core.List.{List, [], _∷_}
@@ -20,14 +20,13 @@ use prog.Memory.{Memory}
 use prog.Routine.{Routine}
 use prog.Wp.{Heap, Out, Env, Calls, Loops, Wp, WpFn, Tables, afterSeq, afterBlock, afterTurn, atReturn}
 use ghost.Atoms.{Atoms, sem}
-use contract.Lifetimes.{Lfts}
 use contract.Monad.{Fun, fact}
 use contract.Running.{givenOf, tables, tablesOf}
 use types.Kit.{Given, Item, Sq, runs, anyQ, atRet, ‵, raw, _⊛_, given, ⋆, some, later, _$_, _∵_, !, qed, by, move, drop, use1, use2, rewrite, split, join, learn, pick, fsplit, fjoin, suffices, frame, await, done}
 use types.Part.{whole, sub, look-in, agg}
 use types.Run.{look, store, init, forget, stop, fld, from, load, lit, of-opd, bin, and-then, no-more, assigns, assigns-last, first, skips, jumps, blocks, branches, land, returns, enter, alloc1, alloc0, params1, pass1, pass0, free1, free0, exec, Below, again, loops}
 use sound.WpLaws.{FmC, fmOf, WpFn-mono}
-use denote.RattleType.{RattleType, owns}
+use denote.RattleType.{owns}
 use denote.Laws.{Is, shows}
 use denote.Plain.{Boolean, uint-vals, uint-tells, uint-makes, bool-tells, bool-lawful}
 use denote.Builtin.{u8, usize}
@@ -63,6 +62,7 @@ use Rattle.reader.specs.Calls.{openedAt, saysNext, nextAnswer, endAnswer
 use Rattle.reader.specs.Run.{lastAnswer, goesOn, outcomeOf}
 use Rattle.reader.specs.declared.Next.{Next}
 use Rattle.reader.specs.declared.Reader.{Reader}
+use Rattle.reader.proofs.Held.{B, Own}
 use Rattle.reader.proofs.Last.{Keeps, toDo, begins, asks, turns, nearer, leaves}
 use Rattle.reader.proofs.Next as N
 use Rattle.reader.proofs.Next.Laws as N′
@@ -93,10 +93,6 @@ use Rattle.reader.proofs.last_value as last
 use Rattle.reader.proofs.last_value.Statement as stated
 use Rattle.reader.proofs.last_value.Code as code
 use Rattle.reader.proofs.last_value.Code.Mir as mir
-
--- the reader's type, over the signature's lifetimes
-abbrev B : Lfts 1 → RattleType
-B κs = T.the-row (namedLft 1 0 tt κs)
 
 abbrev stayed : Stays (last.ended .signature .params) (last.ended .kept)
 stayed = (stay-none-slice (0 ∷ []) tt (plain (λ _. u8)) yes, (stay-none (λ _. usize) yes, (stay-none (λ _. O.the-row) yes, tt)))
@@ -183,11 +179,8 @@ module _ {M : Type 1} (𝓤 : URA M) (H : Heap 𝓤) (A : Atoms 𝓤) (W : Given
   abbrev Post : Val → SProp 𝓤
   Post = walkOf 𝓤 H A last.ended stayed (last.clauses 𝓤 H A mem run) .post (((κ, tt), (q, tt), tt, (s, (count, (o, tt))), at), tt)
 
-  abbrev Own : Fml
-  Own = ShrSlice (named 0) κ u8 .own s (v ∷ [])
-
-  abbrev OwnReader : Reader → Fml
-  OwnReader r = B (κ, tt) .own r (T′.lowered r ∷ [])
+  abbrev OwnSlice : Fml
+  OwnSlice = ShrSlice (named 0) κ u8 .own s (v ∷ [])
 
   abbrev tok : Item 𝓤
   tok = ‵ (flft κ q) ⊛ ‵ ftrue
@@ -197,10 +190,10 @@ module _ {M : Type 1} (𝓤 : URA M) (H : Heap 𝓤) (A : Atoms 𝓤) (W : Given
   abbrev to-open : OpenC 𝓤 H A mem run .Ghost
   to-open = (((κ, tt), (q, tt), tt, (s, (o, tt)), (v ∷ [], (w ∷ [], tt))), tt)
 
-  goes-open : Is O.the-row o (w ∷ []) → ent 𝓤 (onEntry 𝓤 H A last.signature (κ, tt) (q, tt) (s, (count, (o, tt))) at) (sep 𝓤 (OpenC 𝓤 H A mem run .pre to-open) (sem 𝓤 H A Own))
+  goes-open : Is O.the-row o (w ∷ []) → ent 𝓤 (onEntry 𝓤 H A last.signature (κ, tt) (q, tt) (s, (count, (o, tt))) at) (sep 𝓤 (OpenC 𝓤 H A mem run .pre to-open) (sem 𝓤 H A OwnSlice))
   goes-open is-o =
       qed W (tok ∷ ‵ (owns (ShrSlice (named 0) κ u8 ∷ usize ∷ O.the-row ∷ []) (s, (count, (o, tt))) at) ∷ []) ∵
-      move ! (1 ∷ []) $ fsplit ! $ move ! (1 ∷ []) $ drop ! $ use1 W (‵ Own ⊛ ‵ Own) (shr-slice-copy 𝓤 H A W (named 0) κ u8 .twice s (v ∷ [])) $ split ! $
+      move ! (1 ∷ []) $ fsplit ! $ move ! (1 ∷ []) $ drop ! $ use1 W (‵ OwnSlice ⊛ ‵ OwnSlice) (shr-slice-copy 𝓤 H A W (named 0) κ u8 .twice s (v ∷ [])) $ split ! $
       -- [what s owns; what s owns; the token]
       nothing ! $ owned ! O.the-row (Is O.the-row) (EL.makes O.the-type O′.the-plain 𝓤 H A) o (w ∷ []) is-o $ fjoin ! $ move ! (1 ∷ 0 ∷ []) $ fjoin ! $
       move ! (2 ∷ 0 ∷ []) $ use2 W (raw (OpenC 𝓤 H A mem run .pre to-open)) (qed W (tok ∷ ‵ (owns (ShrSlice (named 0) κ u8 ∷ O.the-row ∷ []) (s, (o, tt)) (v ∷ [], (w ∷ [], tt))) ∷ []) ∵ join ! $ frame ! $ done !) $ frame ! $ done !
@@ -214,8 +207,8 @@ module _ {M : Type 1} (𝓤 : URA M) (H : Heap 𝓤) (A : Atoms 𝓤) (W : Given
   abbrev to-next : Reader → NextC 𝓤 H A mem run .Ghost
   to-next r = (((κ, tt), (q, tt), tt, (r, tt), (T′.lowered r ∷ [], tt)), tt)
 
-  goes-next : (r : Reader) → ent 𝓤 (⋆ 𝓤 H A (‵ (OwnReader r) ∷ tok ∷ [])) (NextC 𝓤 H A mem run .pre (to-next r))
-  goes-next r = qed W (‵ (OwnReader r) ∷ tok ∷ []) ∵ nothing ! $ move ! (1 ∷ 0 ∷ []) $ fjoin ! $ move ! (1 ∷ 0 ∷ []) $ join ! $ frame ! $ done !
+  goes-next : (r : Reader) → ent 𝓤 (⋆ 𝓤 H A (‵ (Own κ r) ∷ tok ∷ [])) (NextC 𝓤 H A mem run .pre (to-next r))
+  goes-next r = qed W (‵ (Own κ r) ∷ tok ∷ []) ∵ nothing ! $ move ! (1 ∷ 0 ∷ []) $ fjoin ! $ move ! (1 ∷ 0 ∷ []) $ join ! $ frame ! $ done !
 
   abbrev Stepped : Reader → Next → Type 0
   Stepped r y = (y .reader .stream ≡ r .stream) × (saysNext (y .answer) (y .reader .position) ≡ nextAnswer (now (r .stream)) (r .position))
@@ -226,8 +219,8 @@ module _ {M : Type 1} (𝓤 : URA M) (H : Heap 𝓤) (A : Atoms 𝓤) (W : Given
   abbrev to-end : Reader → EndC 𝓤 H A mem run .Ghost
   to-end r = (((κ, tt), (q, tt), tt, (r, tt), (T′.lowered r ∷ [], tt)), tt)
 
-  goes-end : (r : Reader) → ent 𝓤 (⋆ 𝓤 H A (‵ (OwnReader r) ∷ tok ∷ [])) (EndC 𝓤 H A mem run .pre (to-end r))
-  goes-end r = qed W (‵ (OwnReader r) ∷ tok ∷ []) ∵ nothing ! $ move ! (1 ∷ 0 ∷ []) $ fjoin ! $ move ! (1 ∷ 0 ∷ []) $ join ! $ frame ! $ done !
+  goes-end : (r : Reader) → ent 𝓤 (⋆ 𝓤 H A (‵ (Own κ r) ∷ tok ∷ [])) (EndC 𝓤 H A mem run .pre (to-end r))
+  goes-end r = qed W (‵ (Own κ r) ∷ tok ∷ []) ∵ nothing ! $ move ! (1 ∷ 0 ∷ []) $ fjoin ! $ move ! (1 ∷ 0 ∷ []) $ join ! $ frame ! $ done !
 
   abbrev Ended : Reader → Verdict → Type 0
   Ended r d = saysVerdict d ≡ endAnswer (now (r .stream)) (r .position)
@@ -257,9 +250,9 @@ module _ {M : Type 1} (𝓤 : URA M) (H : Heap 𝓤) (A : Atoms 𝓤) (W : Given
 
   -- ---- the exit
 
-  exits : Is O.the-row o (w ∷ []) → (z : ValueAnswer) (u : Val) → saysValue z ≡ lastAnswer (now s) count o → ent 𝓤 (⋆ 𝓤 H A (‵ (E.the-row .own z (u ∷ [])) ∷ ‵ ftrue ∷ tok ∷ ‵ Own ∷ [])) (Post u)
+  exits : Is O.the-row o (w ∷ []) → (z : ValueAnswer) (u : Val) → saysValue z ≡ lastAnswer (now s) count o → ent 𝓤 (⋆ 𝓤 H A (‵ (E.the-row .own z (u ∷ [])) ∷ ‵ ftrue ∷ tok ∷ ‵ OwnSlice ∷ [])) (Post u)
   exits is-o z u e =
-      qed W (‵ (E.the-row .own z (u ∷ [])) ∷ ‵ ftrue ∷ tok ∷ ‵ Own ∷ []) ∵
+      qed W (‵ (E.the-row .own z (u ∷ [])) ∷ ‵ ftrue ∷ tok ∷ ‵ OwnSlice ∷ []) ∵
       suffices ! _ (ends-at 𝓤 H A last.ended stayed (last.clauses 𝓤 H A mem run) W (((κ, tt), (q, tt), tt, (s, (count, (o, tt))), at), tt) u z (tt, (tt, (tt, tt))) (tt, (tt, (tt, tt)))) $ says ! e $
       move ! (2 ∷ []) $ frame ! $ move ! (1 ∷ []) $ owned ! O.the-row (Is O.the-row) (EL.makes O.the-type O′.the-plain 𝓤 H A) o (w ∷ []) is-o $ fjoin ! $ owned ! usize (Is usize) (uint-makes 𝓤 H A W w64) count _ (refl, count-fits) $ fjoin ! $
       move ! (2 ∷ 0 ∷ []) $ fjoin ! $ frame ! $ done !
@@ -289,7 +282,7 @@ module _ {M : Type 1} (𝓤 : URA M) (H : Heap 𝓤) (A : Atoms 𝓤) (W : Given
     -- [what the reader owns; the token; what s owns; room for _11; …; room for _10; …; room for _9; …; _8, or room; …; room for _7; …; _6; …; _5; …; _4; …; _3; …; _2; …; _1; …; room for _0; …]
     abbrev AtTest : Item 𝓤 → Turn s count o → List (Item 𝓤)
     AtTest test x =
-        ‵ (OwnReader (x .reader)) ∷ tok ∷ ‵ Own ∷ ‵ (froom (T′.mir erased) l₁₁ 0) ∷ ‵ (fdies (T′.mir erased) l₁₁) ∷ ‵ (froom F′.mir l₁₀ 0) ∷ ‵ (fdies F′.mir l₁₀) ∷ ‵ (froom (T′.mir erased) l₉ 0) ∷ ‵ (fdies (T′.mir erased) l₉)
+        ‵ (Own κ (x .reader)) ∷ tok ∷ ‵ OwnSlice ∷ ‵ (froom (T′.mir erased) l₁₁ 0) ∷ ‵ (fdies (T′.mir erased) l₁₁) ∷ ‵ (froom F′.mir l₁₀ 0) ∷ ‵ (fdies F′.mir l₁₀) ∷ ‵ (froom (T′.mir erased) l₉ 0) ∷ ‵ (fdies (T′.mir erased) l₉)
         ∷ test ∷ ‵ (fdies tyBool l₈) ∷ ‵ (froom (N′.mir erased) l₇ 0) ∷ ‵ (fdies (N′.mir erased) l₇) ∷ ‵ (fat fullShare (tyInt w64) l₆ 0 (vint w64 (x .read))) ∷ ‵ (fdies (tyInt w64) l₆)
         ∷ ‵ (fat fullShare E′.mir l₅ 0 (answerVal (x .answer))) ∷ ‵ (fdies E′.mir l₅) ∷ ‵ (fat fullShare (T′.mir erased) l₄ 0 (T′.lowered (x .reader))) ∷ ‵ (fdies (T′.mir erased) l₄) ∷ ‵ (fat fullShare O′.mir l₃ 0 w) ∷ ‵ (fdies O′.mir l₃)
         ∷ ‵ (fat fullShare (tyInt w64) l₂ 0 (vint w64 count)) ∷ ‵ (fdies (tyInt w64) l₂) ∷ ‵ (fat fullShare slice l₁ 0 v) ∷ ‵ (fdies slice l₁) ∷ ‵ (froom E′.mir l₀ 0) ∷ ‵ (fdies E′.mir l₀) ∷ []
@@ -416,7 +409,7 @@ module _ {M : Type 1} (𝓤 : URA M) (H : Heap 𝓤) (A : Atoms 𝓤) (W : Given
       qed W (raw (onEntry 𝓤 H A last.signature (κ, tt) (q, tt) (s, (count, (o, tt))) at) ∷ []) ∵ enter ! (𝓣 .C) (𝓣 .Λ) code.function (v ∷ vint w64 count ∷ w ∷ []) _ $
       alloc1 ! (λ l₀. alloc1 ! (λ l₁. alloc1 ! (λ l₂. alloc1 ! (λ l₃. alloc1 ! (λ l₄. alloc1 ! (λ l₅. alloc1 ! (λ l₆. alloc1 ! (λ l₇. alloc1 ! (λ l₈. alloc1 ! (λ l₉. alloc1 ! (λ l₁₀. alloc1 ! (λ l₁₁. alloc0 ! $ params1 ! $
       pass1 ! (init ! 20 refl (shr-slice-lawful 𝓤 H A W (named 0) κ u8 .typed s (v ∷ []) is-s .0)) $ pass1 ! (init ! 18 refl (tt, record { fits = count-fits })) $ pass1 ! (init ! 16 refl (EL.lawful O.the-type O′.the-laws 𝓤 H A W tt .typed o (w ∷ []) is-o .0)) $ pass0 ! $
-      move ! (24 ∷ []) $ use1 W (raw (OpenC 𝓤 H A mem run .pre to-open) ⊛ ‵ Own) (goes-open is-o) $ split ! $
+      move ! (24 ∷ []) $ use1 W (raw (OpenC 𝓤 H A mem run .pre to-open) ⊛ ‵ OwnSlice) (goes-open is-o) $ split ! $
       -- [what `open` asks; what s owns; room for _11; …]
       calls-at ! fm (OpenC 𝓤 H A mem run) (known .opens) to-open (and-then ! (load ! (from ! (stop !)) (look ! 22 refl)) (and-then ! (load ! (from ! (stop !)) (look ! 18 refl)) (no-more !))) (λ u.
       use1 W (later (some (λ (r : Reader). (tok ⊛ ‵ (B (κ, tt) .own r (u ∷ []))) ⊛ raw (ensured 𝓤 H A opened.ended (opened.clauses 𝓤 H A mem run) (κ, tt) (s, (o, tt)) tt r)))) (id⊢ 𝓤 _) $ await ! tt $ pick ! (λ r.

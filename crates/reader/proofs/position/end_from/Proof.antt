@@ -2,7 +2,7 @@
 use borrow.Author.Needs.{needs}
 use mathlib.Core.Path.{_≡_, sym, _∙_}
 use mathlib.Core.Bool.{true}
-use borrow.Author.Tests.{not-false, not-true}
+use borrow.Author.Tests.{not-false}
 use lib.ListN.{length}
 use Rattle.models.specs.Answers.{judge}
 use Rattle.reader.specs.Calls.{mayUse, endAnswer}

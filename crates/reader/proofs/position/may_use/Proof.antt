@@ -2,8 +2,6 @@
 use borrow.Author.Needs.{needs}
 use mathlib.Core.Path.{ap, _∙_}
 use Prim.Native.Nat.{ℕ}
-use native.Mathlib.Nat.{min-le-right}
-use native.Mathlib.Omega.{arith}
 use Rattle.stream.specs.Format.{macaque, usable}
 use Rattle.macaque_v.specs.ReadRun.{stateAt}
 use Rattle.reader.proofs.position.may_use.Statement.{statement}

@@ -1,12 +1,11 @@
 -- `reader::position::step_from` meets its contract: its causes, then the value. Assumes nothing.
 use borrow.Author.Needs.{needs}
-use mathlib.Core.Path.{_≡_, sym, _∙_}
-use mathlib.Core.Bool.{true}
+use mathlib.Core.Path.{_∙_}
 use mathlib.Core.List.{List}
 use Prim.Native.Nat.{ℕ}
 use borrow.Author.Tests.{eqb-false, not-false}
 use lib.ListN.{length}
-use Rattle.models.specs.Answers.{SaidOn, refusedOn}
+use Rattle.models.specs.Answers.{refusedOn}
 use Rattle.models.proofs.Judged.{none-holds, when-passed, when-refused}
 use Rattle.reader.specs.Calls.{mayUse, nextCauses, nextRead, nextAnswer}
 use Rattle.reader.specs.declared.position.Position.{Position}

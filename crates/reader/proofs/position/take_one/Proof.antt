@@ -22,19 +22,19 @@ module _ (c : tie.After-decode) where
   abbrev bytes : List ℕ
   bytes = c .before .before .before .before .before .before .args .stream .now
 
-  abbrev from : Position
-  from = c .before .before .before .before .before .before .args .from
+  abbrev here : Position
+  here = c .before .before .before .before .before .before .args .here
 
   -- what was decoded is what stands at the place
-  step : readOne macaque (from .«with_first» && eqb (from .at .count) 0) (windowIn (from .at .lead) (from .at .trail)) (from .at .last) (take 45 (drop (from .at .place) (bitsOf bytes)))
+  step : readOne macaque (here .«with_first» && eqb (here .at .count) 0) (windowIn (here .at .lead) (here .at .trail)) (here .at .last) (take 45 (drop (here .at .place) (bitsOf bytes)))
       ≡ saysStep (c .decode .result)
   step =
       sym (c .decode .ensures
-      ∙ ap (readOne macaque (from .«with_first» && eqb (from .at .count) 0) (windowIn (from .at .lead) (from .at .trail)) (from .at .last)) (c .before .look .ensures .bits))
+      ∙ ap (readOne macaque (here .«with_first» && eqb (here .at .count) 0) (windowIn (here .at .lead) (here .at .trail)) (here .at .last)) (c .before .look .ensures .bits))
 
-  reads : nextRead bytes from ≡ taken from (saysStep (c .decode .result))
+  reads : nextRead bytes here ≡ taken here (saysStep (c .decode .result))
   unfolding nextRead
-  reads = ap (taken from) (step-is (from .«with_first») bytes (from .at) (saysStep (c .decode .result)) step)
+  reads = ap (taken here) (step-is (here .«with_first») bytes (here .at) (saysStep (c .decode .result)) step)
 
 look-requires : tie.Need-look-requires
 look-requires c κs = search needs
@@ -48,22 +48,22 @@ enum-known-r c = search needs
 enum-known-value : tie.Need-enum-known-value
 enum-known-value c = search needs
 
-add-t16 : tie.Need-add-t16
-add-t16 c =
+add-place : tie.Need-add-place
+add-place c =
     let v = c .before .before in
     let d = v .before .before in
-    omega (arith, used-most (from d .«with_first») (bytes d) (from d .at) _ _ _ _ (omega arith) (step d ∙ ap saysStep (v .value .given .1)))
+    omega (arith, used-most (here d .«with_first») (bytes d) (here d .at) _ _ _ _ (omega arith) (step d ∙ ap saysStep (v .value .given .1)))
 
-add-t17 : tie.Need-add-t17
-add-t17 c = search needs
+add-count : tie.Need-add-count
+add-count c = search needs
 
 returns : tie.Need-returns
-returns c = sym (reads (c .before .before .before) ∙ ap (λ (r : _). taken (from (c .before .before .before)) (saysStep r)) (c .before .r .given .1))
+returns c = sym (reads (c .before .before .before) ∙ ap (λ (r : _). taken (here (c .before .before .before)) (saysStep r)) (c .before .r .given .1))
 
 returns-2 : tie.Need-returns-2
 returns-2 c =
     let v = c .before .before .before in
-    sym (reads (v .before .before) ∙ ap (λ (r : _). taken (from (v .before .before)) (saysStep r)) (v .value .given .1))
+    sym (reads (v .before .before) ∙ ap (λ (r : _). taken (here (v .before .before)) (saysStep r)) (v .value .given .1))
 
 pub take-one-spec : {M : Type 1} → statement M
 take-one-spec =
@@ -73,7 +73,7 @@ take-one-spec =
     decode-requires
     enum-known-r
     enum-known-value
-    add-t16
-    add-t17
+    add-place
+    add-count
     returns
     returns-2)
