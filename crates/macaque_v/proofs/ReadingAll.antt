@@ -98,7 +98,7 @@ module _ (bytes : List ℕ) (o : Opening) where
 
   -- ---- the values
 
-  same-values : (n : ℕ) → valuesIn bytes n o ≡ valuesRead (ended (readFrom (isFirst o) bytes (startOf o) n))
+  pub same-values : (n : ℕ) → valuesIn bytes n o ≡ valuesRead (ended (readFrom (isFirst o) bytes (startOf o) n))
   same-values n = sym (alike-values (plain (modeOf (isFirst o))) gatherEnds (ended (readFrom (isFirst o) bytes (startOf o) n)) _ (all-alike n))
 
   pub values-right : {n : ℕ} {vs : List ℕ} {to : Cursor} → Reads (isFirst o) bytes (startOf o) n vs to → leftBehind bytes (to .place) ≡ false → valuesIn bytes n o ≡ answered vs

@@ -2,7 +2,7 @@
 
 pub mod read;
 pub mod read_run;
-mod write;
+pub mod write;
 
 use models::ErrorBound;
 use models::Refusal;

@@ -122,7 +122,7 @@ pub fn is_first(opening: Opening) -> bool
     }
 }
 
-fn start(opening: Opening) -> Cursor
+pub fn start(opening: Opening) -> Cursor
     ensures { λ r. ⌜ (r ≡ startOf opening) × (r .last < 2 ^ 32) ⌝ }
 {
     let last = match opening {

@@ -1,7 +1,7 @@
 // Reading value after value: into lent memory, or through a small array for what is taken in of the values on the way.
 ghost use mathlib.Core.Path.{_≡_};
 ghost use mathlib.Core.List.{_++_};
-ghost use Prim.Native.Nat.{_+_, _*_, _<_, _≤_};
+ghost use Prim.Native.Nat.{_+_, _*_, _^_, _<_, _≤_};
 ghost use lib.ListN.{length, take, drop};
 ghost use Rattle.stream.specs.Format.{gathered, gatherFrom};
 ghost use Rattle.macaque_v.specs.State.{modeOf};
@@ -153,7 +153,7 @@ pub fn go_to_end(bytes: &[u8], first: bool, from: Cursor, n: usize, aim: Aim) ->
 
 // Whether a set padding bit or a further byte follows the place.
 pub fn left_behind(bytes: &[u8], place: usize) -> bool
-    requires { ⌜ (place ≤ 8 * length (now bytes)) × (place < 16777216) ⌝ }
+    requires { ⌜ (place ≤ 8 * length (now bytes)) × (place ≤ 2 ^ 63) ⌝ }
     ensures { λ r. ⌜ r ≡ leftBehind (now (bytes .entry)) place ⌝ }
 {
     let whole = (place + 7) / 8;
