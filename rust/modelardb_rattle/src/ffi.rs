@@ -4,6 +4,7 @@
 
 mod choice;
 mod fit;
+mod reader;
 mod segments;
 
 pub use choice::{
@@ -15,6 +16,7 @@ pub use fit::{
     pmc_mean_model, pmc_mean_new, pmc_mean_sum, swing_bytes_per_value, swing_fit_data_point,
     swing_grid, swing_model, swing_new, swing_sum_by_average, swing_sum_over,
 };
+pub use reader::{READER_WORDS, reader_end, reader_last_value, reader_next, reader_open};
 pub use segments::{
     MOST_RESIDUALS_BYTES, MOST_VALUES_BYTES, Pair, SEGMENT_WORDS, StoredSegment,
     decode_values_for_pmc_mean, decode_values_for_swing, encode_values_for_pmc_mean,

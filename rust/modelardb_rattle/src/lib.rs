@@ -29,7 +29,7 @@ pub mod segments;
 pub mod swing;
 pub mod types;
 
-pub use macaque_v::{MacaqueV, Opening};
+pub use macaque_v::{MacaqueV, Opening, Reader};
 pub use models::{
     ErrorBound, is_value_within_error_bound, is_value_within_error_bound_bits,
     maximum_allowed_deviation, maximum_allowed_deviation_bits,

@@ -1,12 +1,15 @@
 //! MacaqueV: a stream of values, each coded by how it differs from the last one that was kept. The
-//! writer works in a buffer that it is lent; [`grid`] and [`sum`] read a stream's bytes.
+//! writer works in a buffer that it is lent; [`grid`] and [`sum`] read a stream's bytes, and a
+//! [`Reader`] goes through them value by value.
 
 mod read;
+mod reader;
 
 use crate::ffi::{self, STATE_WORDS, Words};
 use crate::{ErrorBound, Refusal};
 
 pub use read::{grid, grid_bits, sum, sum_bits};
+pub use reader::{Reader, last_value, last_value_bits};
 
 /// How a stream opens.
 #[derive(Clone, Copy, Debug, PartialEq)]

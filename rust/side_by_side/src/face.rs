@@ -4,6 +4,7 @@
 
 pub mod choice;
 pub mod fit;
+pub mod reader;
 pub mod segments;
 
 use modelardb_rattle::ffi::{STATE_WORDS, Words};

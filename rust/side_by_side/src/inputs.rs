@@ -110,6 +110,20 @@ impl Inputs {
         }
     }
 
+    /// A bit turned, a byte less or more, or another first byte.
+    pub fn damage(&mut self, bytes: &mut Vec<u8>) {
+        match self.below(4) {
+            0 => _ = bytes.pop(),
+            1 => bytes.push(self.word() as u8),
+            _ if bytes.is_empty() => {}
+            2 => bytes[0] = bytes[0].wrapping_add(1),
+            _ => {
+                let bit = self.below(8 * bytes.len() as u64) as usize;
+                bytes[bit / 8] ^= 0x80 >> (bit % 8);
+            }
+        }
+    }
+
     /// An ordinary reading, with two decimals.
     pub fn reading(&mut self) -> u32 {
         ((self.below(8000) as f32 - 4000.0) / 100.0).to_bits()

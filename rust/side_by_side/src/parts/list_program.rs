@@ -21,7 +21,7 @@ pub fn list_program(context: &mut Context) {
         let values: Vec<u32> = (0..count).map(|_| context.inputs.value()).collect();
         let mut input = written(&values, context.inputs.flip());
         both(context, &input, "a stream");
-        damage(context, &mut input);
+        context.inputs.damage(&mut input);
         both(context, &input, "a damaged stream");
     }
 }
@@ -66,19 +66,6 @@ fn written(values: &[u32], rounded: bool) -> Vec<u8> {
         .expect("room for 45 bits a value");
     let count = (values.len() as u32).to_le_bytes();
     [&count[..], &buffer[..writer.bytes_used()]].concat()
-}
-
-/// A bit turned, a byte less or more, or another count.
-fn damage(context: &mut Context, input: &mut Vec<u8>) {
-    match context.inputs.below(4) {
-        0 => _ = input.pop(),
-        1 => input.push(context.inputs.word() as u8),
-        2 => input[0] = input[0].wrapping_add(1),
-        _ => {
-            let bit = context.inputs.below(8 * input.len() as u64) as usize;
-            input[bit / 8] ^= 0x80 >> (bit % 8);
-        }
-    }
 }
 
 fn both(context: &mut Context, input: &[u8], name: &str) {

@@ -44,6 +44,7 @@ pub const ALL: &[Part] = &[
     Part::new("library: resumed", library_stream::resumed),
     Part::new("library: damaged", library_stream::damaged),
     Part::new("library: states", library_stream::states),
+    Part::new("library: reader", library_stream::reading),
     Part::new("library: causes", library_stream::causes),
     Part::new(
         "library: segments' parameter bytes",

@@ -6,6 +6,7 @@ mod causes;
 mod damaged;
 mod lists;
 mod marked;
+mod reading;
 mod resumed;
 mod states;
 
@@ -13,6 +14,7 @@ pub use causes::causes;
 pub use damaged::damaged;
 pub use lists::{lists, short_lists};
 pub use marked::marked;
+pub use reading::reading;
 pub use resumed::resumed;
 pub use states::states;
 

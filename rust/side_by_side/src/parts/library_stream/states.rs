@@ -6,7 +6,7 @@ use crate::context::Context;
 use modelardb_rattle::ffi::STATE_WORDS;
 
 /// Ends of ranges, limits, and words too large for what they stand for.
-const WORDS: [u64; 28] = [
+pub const WORDS: [u64; 28] = [
     0,
     1,
     2,
