@@ -1,5 +1,6 @@
-// The C face of the reader. Where it stands crosses as a row of six words (specs/Row.antt); the stream's bytes are handed to
-// each call. A call answers 0 or the number of its refusal, and a refusal changes nothing that was lent.
+// The C face of the reader. Where it stands crosses as a row of six words (specs/Row.antt); the
+// stream's bytes are handed to each call. A call answers 0 or the number of its refusal, and a refusal
+// changes nothing that was lent.
 ghost use mathlib.Core.Path.{_≡_};
 ghost use lib.ListN.{length};
 ghost use Rattle.exports.specs.Face.{askNumber, askRow, numberOf, rowAfter};
@@ -14,8 +15,8 @@ use reader::position;
 
 mod row;
 
-// A reader before the first value of a stream into the row: mode 0 for a stream that stores its first value in full, mode 1 for
-// one that opens on the value `opening`.
+// A reader before the first value of a stream into the row: mode 0 for a stream that stores its first
+// value in full, mode 1 for one that opens on the value `opening`.
 #[no_mangle]
 pub extern "C" fn modelardb_reader_open(mode: u32, opening: u32, reader: &mut [u64]) -> u32
     ensures number { λ r. ⌜ r ≡ openNumber mode (now (reader .entry)) ⌝ }
@@ -71,7 +72,8 @@ pub extern "C" fn modelardb_reader_end(bytes: &[u8], reader: &[u64]) -> u32
     }
 }
 
-// The last of a stream's values, `count` of them, into out[0], by a reader that holds the stream; +0 where there are none.
+// The last of a stream's values, `count` of them, into out[0], by a reader that holds the stream; +0
+// where there are none.
 #[no_mangle]
 pub extern "C" fn modelardb_reader_last_value(
     bytes: &[u8],

@@ -1,5 +1,5 @@
-// Where a reader stands as a row of six words (specs/Row.antt): to the row, and back. A row that stands for no reader stands for one that the
-// call behind refuses.
+// Where a reader stands as a row of six words (specs/Row.antt): to the row, and back. A row that stands
+// for no reader stands for one that the call behind refuses.
 ghost use mathlib.Core.Path.{_≡_};
 ghost use mathlib.Core.List.{_++_};
 ghost use Prim.Native.Nat.{_≤_};
