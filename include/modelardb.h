@@ -268,4 +268,37 @@ uint32_t modelardb_segment_sum_over(uint32_t model, const int64_t *timestamps, s
                                     size_t values_length, const uint8_t *residuals, size_t residuals_length,
                                     uint32_t *out, size_t out_length);
 
+/* ---- a reader: a stream's values, one by one (rt staticlib exports_reader: target/staticlib/libexports_reader.a)
+ *
+ * The caller decides how many values to read, and the end call judges what follows them. The stream's bytes are handed
+ * to each call; where the reader stands in them is a row of six words, in the order of a writer's row; words behind
+ * them are not looked at, and stay:
+ *
+ *    0  the last value read           3  1 where the first value is stored in full, else 0
+ *    1  the window's leading zero     4  the place: how many bits are read
+ *       bits, 255 before any window   5  how many values are read
+ *    2  its trailing zero bits
+ *
+ * A row may be used, else 2, if words 0 to 2 have at most 32 bits each, word 3 is 0 or 1, the place lies within the
+ * bytes, word 5 is at most 65,536 and is 0 exactly where the place is 0, and the window is 255 and 0 or, behind one value
+ * or more, has at most 31 zero bits in all. Of a row under six words no reader can be read: 4 before anything else.
+ */
+
+/* reader: before the first value of a stream, which opens by a mode and a value as a writer does. Refusals: 3 (mode);
+ * 4 (a row under six words). */
+uint32_t modelardb_reader_open(uint32_t mode, uint32_t opening, uint64_t *reader, size_t reader_length);
+
+/* out[0]: the next value; reader: behind it. Refusals: 4 (row) first; then 2; 3 (at 65,536 values); 4 (out); 5, 6, 7. */
+uint32_t modelardb_reader_next(const uint8_t *bytes, size_t bytes_length, uint64_t *reader, size_t reader_length,
+                               uint32_t *out, size_t out_length);
+
+/* 0 where the stream ends behind the values read. Refusals: 4 (row) first; then 2; 8. */
+uint32_t modelardb_reader_end(const uint8_t *bytes, size_t bytes_length, const uint64_t *reader,
+                              size_t reader_length);
+
+/* out[0]: the last of a stream's values, `count` of them; +0 where there are none. Refusals: 3 (mode, or count above
+ * 65,536); 4; then 5 to 8. */
+uint32_t modelardb_reader_last_value(const uint8_t *bytes, size_t bytes_length, size_t count, uint32_t mode,
+                                     uint32_t opening, uint32_t *out, size_t out_length);
+
 #endif

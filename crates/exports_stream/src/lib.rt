@@ -145,7 +145,7 @@ pub extern "C" fn modelardb_macaque_v_sum(
 
 // ---- how a stream opens
 
-fn opening_of(mode: u32, opening: u32) -> Opening
+pub fn opening_of(mode: u32, opening: u32) -> Opening
     ensures { λ r. ⌜ r ≡ openingOf mode opening ⌝ }
 {
     if mode == 0 {
@@ -156,7 +156,7 @@ fn opening_of(mode: u32, opening: u32) -> Opening
 }
 
 // A mode above 1 is refused with 3, as a count above its limit is: it makes the count such a one.
-fn count_in(mode: u32, count: usize) -> usize
+pub fn count_in(mode: u32, count: usize) -> usize
     ensures { λ r. ⌜ r ≡ countIn mode count ⌝ }
 {
     if mode <= 1 {

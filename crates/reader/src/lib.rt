@@ -1,6 +1,7 @@
-// A reader that keeps hold of the lent stream and its place: it is opened, read value by value, and ended. The borrow checker covers no
-// function over a struct that holds a reference, so the calls here are thin, and proved by hand: each takes the reader apart and leaves the
-// work to `position`, on the slice and the place.
+// A reader that keeps hold of the lent stream and its place: it is opened, read value by value, and
+// ended. The borrow checker covers no function over a struct that holds a reference, so the calls here
+// are thin, and proved by hand: each takes the reader apart and leaves the work to `position`, on the
+// slice and the place.
 ghost use mathlib.Core.Path.{_≡_};
 ghost use Rattle.models.specs.Calls.{saysVerdict, saysValue};
 ghost use Rattle.reader.specs.Calls.{openedAt, saysNext, nextAnswer, endAnswer};
@@ -54,8 +55,8 @@ impl<'a> Reader<'a> {
     }
 }
 
-// The last of a stream's values, `count` of them, by a reader; +0 where there are none. Its parameters are plain, so whoever calls it needs no
-// proof by hand.
+// The last of a stream's values, `count` of them, by a reader; +0 where there are none. Its parameters
+// are plain, so whoever calls it needs no proof by hand.
 pub fn last_value(stream: &[u8], count: usize, opening: Opening) -> ValueAnswer
     ensures { λ r. ⌜ saysValue r ≡ lastAnswer (now (stream .entry)) count opening ⌝ }
 {

@@ -18,13 +18,15 @@ use models::Refusal;
 use models::ValueAnswer;
 use models::Verdict;
 
-// How the stream opens; the bit place behind the values read, how many they are, the last of them and its window.
+// How the stream opens; the bit place behind the values read, how many they are, the last of them and
+// its window.
 pub struct Position {
     pub with_first: bool,
     pub at: Cursor,
 }
 
-// What a next answers, and where the reader stands after it: behind the value or, where it is refused, where it stood.
+// What a next answers, and where the reader stands after it: behind the value or, where it is refused,
+// where it stood.
 pub struct Step {
     pub answer: ValueAnswer,
     pub after: Position,

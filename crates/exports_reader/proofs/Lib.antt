@@ -1,0 +1,2 @@
+-- The laws that the proofs of `exports_reader` share.
+pub mod Faces

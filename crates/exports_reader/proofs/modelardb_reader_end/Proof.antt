@@ -1,0 +1,58 @@
+-- `exports_reader::modelardb_reader_end` meets its contract, by what the call behind it said. Assumes nothing.
+use borrow.Author.Needs.{needs}
+use mathlib.Core.Path.{_≡_, sym, ap, _∙_}
+use borrow.Author.Tests.{lt-leb, le-leb}
+use lib.ListN.{length}
+use Rattle.models.specs.Calls.{saysVerdict}
+use Rattle.models.specs.declared.Verdict.{Verdict}
+use Rattle.exports.specs.Face.{plainNumber}
+use Rattle.reader.specs.Calls.{endAnswer}
+use Rattle.exports_reader.specs.Calls.{endNumber}
+use Rattle.exports_reader.proofs.modelardb_reader_end.Statement.{statement}
+use Rattle.exports_reader.proofs.modelardb_reader_end.Tie as tie
+
+-- what the call behind says, of the reader that the row stands for
+said : (c : tie.After-end-from)
+    → plainNumber (saysVerdict (c .end-from .result)) ≡ endNumber (c .before .before .before .before .before .args .bytes .now) (c .before .before .before .before .before .args .reader .now)
+unfolding endNumber
+said c =
+    let a = c .before .before .before .before .before .args in
+    ap plainNumber (c .end-from .ensures ∙ ap (endAnswer (a .bytes .now)) (c .before .position-in .ensures)) ∙ sym (rw (le-leb 6 (length (a .reader .now)) (c .before .before .if1 .left)))
+
+returns : tie.Need-returns
+unfolding endNumber
+returns c = sym (rw (lt-leb 6 (length (c .before .before .before .args .reader .now)) (c .if1 .taken)))
+
+position-in-requires : tie.Need-position-in-requires
+position-in-requires c κs = search needs
+
+end-from-requires : tie.Need-end-from-requires
+end-from-requires c κs = search needs
+
+enum-known-r : tie.Need-enum-known-r
+enum-known-r c = search needs
+
+number-of-requires : tie.Need-number-of-requires
+number-of-requires c κs = search needs
+
+enum-told : tie.Need-enum-told
+enum-told c = search needs
+
+returns-2 : tie.Need-returns-2
+returns-2 c = c .number-of .ensures ∙ ap (λ (v : Verdict). plainNumber (saysVerdict v)) (sym (c .before .before .r .given .1)) ∙ said (c .before .before .before .before)
+
+returns-3 : tie.Need-returns-3
+returns-3 c = ap (λ (v : Verdict). plainNumber (saysVerdict v)) (sym (c .enum-told .given .1)) ∙ said (c .before .before)
+
+pub modelardb-reader-end-spec : {M : Type 1} → statement M
+modelardb-reader-end-spec =
+    tie.close
+    (tie.spec
+    returns
+    position-in-requires
+    end-from-requires
+    enum-known-r
+    number-of-requires
+    enum-told
+    returns-2
+    returns-3)

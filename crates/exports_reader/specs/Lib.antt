@@ -1,0 +1,3 @@
+-- What the contracts of `exports_reader` cite.
+pub mod Row
+pub mod Calls

@@ -1,0 +1,99 @@
+// The C face of the reader. Where it stands crosses as a row of six words (specs/Row.antt); the
+// stream's bytes are handed to each call. A call answers 0 or the number of its refusal, and a refusal
+// changes nothing that was lent.
+ghost use mathlib.Core.Path.{_≡_};
+ghost use lib.ListN.{length};
+ghost use Rattle.exports.specs.Face.{askNumber, askRow, numberOf, rowAfter};
+ghost use Rattle.exports_stream.specs.Calls.{openingOf, countIn};
+ghost use Rattle.reader.specs.Calls.{nextAnswer};
+ghost use Rattle.reader.specs.Run.{lastAnswer};
+ghost use Rattle.exports_reader.specs.Row.{rowLength, positionIn};
+ghost use Rattle.exports_reader.specs.Calls.{openNumber, openRow, oneValue, oneWord, nextRow, endNumber};
+use models::ValueAnswer;
+use models::Verdict;
+use reader::position;
+
+mod row;
+
+// A reader before the first value of a stream into the row: mode 0 for a stream that stores its first
+// value in full, mode 1 for one that opens on the value `opening`.
+#[no_mangle]
+pub extern "C" fn modelardb_reader_open(mode: u32, opening: u32, reader: &mut [u64]) -> u32
+    ensures number { λ r. ⌜ r ≡ openNumber mode (now (reader .entry)) ⌝ }
+    ensures row { λ r. ⌜ now (reader .exit) ≡ openRow mode opening (now (reader .entry)) ⌝ }
+{
+    if 1 < mode {
+        return 3;
+    }
+    if reader.len() < 6 {
+        return 4;
+    }
+    let start = position::start(exports_stream::opening_of(mode, opening));
+    row::put_position(reader, start);
+    0
+}
+
+// The next value into out[0]; the row becomes the reader behind it.
+#[no_mangle]
+pub extern "C" fn modelardb_reader_next(bytes: &[u8], reader: &mut [u64], out: &mut [u32]) -> u32
+    ensures number { λ r. ⌜ r ≡ askNumber rowLength (now (reader .entry)) 1 (length (now (out .entry))) (nextAnswer (now (bytes .entry)) (positionIn (now (reader .entry)))) ⌝ }
+    ensures row { λ r. ⌜ now (reader .exit) ≡ nextRow (now (reader .entry)) (now (out .entry)) (nextAnswer (now (bytes .entry)) (positionIn (now (reader .entry)))) ⌝ }
+    ensures value { λ r. ⌜ now (out .exit) ≡ askRow rowLength (now (reader .entry)) 1 oneValue (now (out .entry)) (nextAnswer (now (bytes .entry)) (positionIn (now (reader .entry)))) ⌝ }
+{
+    if reader.len() < 6 {
+        return 4;
+    }
+    let step = position::step_from(bytes, row::position_in(reader));
+    let answer = step.answer;
+    match answer {
+        ValueAnswer::Refused(r) => exports::number_with(r, 1, out.len()),
+        ValueAnswer::Answered(value) => {
+            if out.len() < 1 {
+                return 4;
+            }
+            out[0] = value;
+            row::put_position(reader, step.after);
+            0
+        }
+    }
+}
+
+// Whether the stream ends behind the values read.
+#[no_mangle]
+pub extern "C" fn modelardb_reader_end(bytes: &[u8], reader: &[u64]) -> u32
+    ensures { λ r. ⌜ r ≡ endNumber (now (bytes .entry)) (now (reader .entry)) ⌝ }
+{
+    if reader.len() < 6 {
+        return 4;
+    }
+    match position::end_from(bytes, row::position_in(reader)) {
+        Verdict::Refused(r) => models::number_of(r),
+        Verdict::Passed => 0,
+    }
+}
+
+// The last of a stream's values, `count` of them, into out[0], by a reader that holds the stream; +0
+// where there are none.
+#[no_mangle]
+pub extern "C" fn modelardb_reader_last_value(
+    bytes: &[u8],
+    count: usize,
+    mode: u32,
+    opening: u32,
+    out: &mut [u32],
+) -> u32
+    ensures number { λ r. ⌜ r ≡ numberOf 1 (length (now (out .entry))) (lastAnswer (now (bytes .entry)) (countIn mode count) (openingOf mode opening)) ⌝ }
+    ensures value { λ r. ⌜ now (out .exit) ≡ rowAfter 1 oneWord (now (out .entry)) (lastAnswer (now (bytes .entry)) (countIn mode count) (openingOf mode opening)) ⌝ }
+{
+    let n = exports_stream::count_in(mode, count);
+    match reader::last_value(bytes, n, exports_stream::opening_of(mode, opening)) {
+        ValueAnswer::Refused(r) => exports::number_with(r, 1, out.len()),
+        ValueAnswer::Answered(value) => {
+            if out.len() < 1 {
+                return 4;
+            }
+            out[0] = value;
+            0
+        }
+    }
+}
