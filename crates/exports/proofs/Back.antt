@@ -11,6 +11,7 @@ use lib.Ieee.Bits.{ofBits-toBits, toBits-lt}
 use mir.Syntax.{w64}
 use mir.Val.{SFits, ofZ}
 use mir.ValLaws.{toZ-ofZ}
+use Rattle.models.specs.Bound.{BoundHeld}
 use Rattle.models.specs.declared.ErrorBound.{ErrorBound}
 use Rattle.models.specs.declared.ErrorBound.the-variants.{Lossless, Absolute, Relative}
 use Rattle.exports.specs.Face.{boundOf, wordOf}
@@ -24,12 +25,7 @@ is-small x ok = lt-ltb (toBits binary32 x) (2 ^ 32) (toBits-lt binary32 x ok)
 pub value-back : (x : Float) → T (fits binary32 x) → ofBits binary32 (toBits binary32 x % 2 ^ 32) ≡ x
 value-back x ok = ap (ofBits binary32) (mod-eq-of-lt (toBits-lt binary32 x ok)) ∙ ofBits-toBits binary32 x ok
 
--- ---- a bound, whose number is an f32
-abbrev pub BoundHeld : ErrorBound → Type 0
-BoundHeld Lossless = T true
-BoundHeld (Absolute e) = T (fits binary32 e)
-BoundHeld (Relative e) = T (fits binary32 e)
-
+-- ---- a bound
 pub bound-back : (b : ErrorBound) → BoundHeld b → boundIn (kindOf b) (bitsOf b) ≡ b
 unfolding boundIn boundOf
 bound-back Lossless ok = refl

@@ -9,9 +9,10 @@ use lib.Ieee.{binary32, binary64, fits}
 use lib.Ieee.Bits.{ofBits-toBits}
 use mir.Syntax.{w64}
 use mir.Val.{SFits}
+use Rattle.models.specs.Bound.{BoundHeld}
 use Rattle.pmc_mean.specs.declared.PMCMean.{PMCMean}
 use Rattle.swing.specs.declared.Swing.{Swing}
-use Rattle.exports.proofs.Back.{BoundHeld, bound-back, is-small, value-back, time-back}
+use Rattle.exports.proofs.Back.{bound-back, is-small, value-back, time-back}
 use Rattle.exports_fit.specs.Row.{pmcRow, pmcIn, swingRow, swingIn}
 
 -- ---- PMC-Mean

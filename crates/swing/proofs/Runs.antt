@@ -60,7 +60,7 @@ fitted-end s p =
     by-case (λ (t : Stepped Swing). t .fits ≡ true → t .state .«end_time» ≡ p .time) s p (λ h. absurd (false≢true h)) (λ none h. refl) (λ some h. refl) (λ one finite h. refl) (λ some more d high low h. refl)
 
 -- what a state has, it has after the call, if it has it after a step: one of a state that may be used, has room, and is followed by the time
-kept : (P : Swing → Type 0) (s : Swing) (g : Given) → P s → (usable s ≡ true → s .length < 65536 → timeFollows s (g .time) ≡ true → P (tried s (pointOf (g .time) (g .bits)) .state)) → P (next s g)
+pub kept : (P : Swing → Type 0) (s : Swing) (g : Given) → P s → (usable s ≡ true → s .length < 65536 → timeFollows s (g .time) ≡ true → P (tried s (pointOf (g .time) (g .bits)) .state)) → P (next s g)
 unfolding fitAnswer
 kept P s g p step =
     after-judging P s (fitCauses s (g .time)) (tried s (pointOf (g .time) (g .bits))) p (λ none.
