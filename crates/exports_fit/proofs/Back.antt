@@ -1,5 +1,5 @@
--- A state that was put into a row is read back from it, whatever stands behind: so the next call on the row goes on where the last one ended. The state's
--- fields are of their formats, as those of every state that the code holds. Assumes nothing.
+-- A state that was put into a row is read back from it, whatever stands behind, where its fields are of their formats: proofs/Held shows that those of every
+-- state that calls make are. Assumes nothing.
 use mathlib.Core.Path.{_≡_}
 use mathlib.Core.Bool.{Bool}
 use mathlib.Core.List.{List, _++_}
