@@ -1,18 +1,22 @@
--- What was put into a word is read back from it. Assumes nothing.
+-- What was put into a word is read back from it; and whatever the words, what is read is of its format. Assumes nothing.
 use mathlib.Core.Path.{_≡_, refl, sym, ap, _∙_}
-use mathlib.Core.Bool.{Bool, true, false}
-use Prim.Native.Nat.{_%_, _^_}
+use mathlib.Core.Bool.{Bool, true, false, _&&_}
+use Prim.Native.Nat.{ℕ, suc, _-_, _%_, _^_}
 use native.Mathlib.Nat.{mod-eq-of-lt}
-use borrow.Author.Tests.{lt-ltb}
-use lib.Dec.{T, eqb, leb}
+use native.Mathlib.Omega.{arith}
+use borrow.Author.Tests.{lt-ltb, ltb-true, ltb-false}
+use lib.Dec.{T, eqb, leb, ltb}
 use lib.IntN.{ℤ, pos, negsuc}
 use lib.Ieee.{Float, binary32, fits, ofBits, toBits}
-use lib.Ieee.Bits.{ofBits-toBits, toBits-lt}
+use lib.Ieee.Bits.{ofBits-toBits, toBits-lt, ofBits-fits}
+use lib.Ieee.Fits.{nan-fits}
 use mir.Syntax.{w64}
 use mir.Val.{SFits, ofZ}
 use mir.ValLaws.{toZ-ofZ}
+use Rattle.models.specs.Bound.{BoundHeld}
 use Rattle.models.specs.declared.ErrorBound.{ErrorBound}
 use Rattle.models.specs.declared.ErrorBound.the-variants.{Lossless, Absolute, Relative}
+use Rattle.models.proofs.Judged.{by-test}
 use Rattle.exports.specs.Face.{boundOf, wordOf}
 use Rattle.exports.specs.Words.{kindOf, bitsOf, small, boundIn, timeIn, wordOfTime}
 use Rattle.exports.proofs.Signed.{read-signed}
@@ -24,17 +28,24 @@ is-small x ok = lt-ltb (toBits binary32 x) (2 ^ 32) (toBits-lt binary32 x ok)
 pub value-back : (x : Float) → T (fits binary32 x) → ofBits binary32 (toBits binary32 x % 2 ^ 32) ≡ x
 value-back x ok = ap (ofBits binary32) (mod-eq-of-lt (toBits-lt binary32 x ok)) ∙ ofBits-toBits binary32 x ok
 
--- ---- a bound, whose number is an f32
-abbrev pub BoundHeld : ErrorBound → Type 0
-BoundHeld Lossless = T true
-BoundHeld (Absolute e) = T (fits binary32 e)
-BoundHeld (Relative e) = T (fits binary32 e)
-
+-- ---- a bound
 pub bound-back : (b : ErrorBound) → BoundHeld b → boundIn (kindOf b) (bitsOf b) ≡ b
 unfolding boundIn boundOf
 bound-back Lossless ok = refl
 bound-back (Absolute e) ok = rw (is-small e ok) (ap Absolute (ofBits-toBits binary32 e ok))
 bound-back (Relative e) ok = rw (is-small e ok) (ap Relative (ofBits-toBits binary32 e ok))
+
+pub bound-of-held : (kind bits : ℕ) → BoundHeld (boundOf kind bits)
+unfolding boundOf
+bound-of-held kind bits =
+    let value = ofBits-fits binary32 bits in
+    by-test BoundHeld (eqb kind 0) _ _ (λ h. tt) (λ h.
+    by-test BoundHeld (eqb kind 1) _ _ (λ h. value) (λ h.
+    by-test BoundHeld (eqb kind 2) _ _ (λ h. value) (λ h. nan-fits binary32)))
+
+pub bound-in-held : (kind bits : ℕ) → BoundHeld (boundIn kind bits)
+unfolding boundIn
+bound-in-held kind bits = by-test BoundHeld (small kind && small bits) _ _ (λ h. bound-of-held kind bits) (λ h. nan-fits binary32)
 
 -- ---- a timestamp
 same-word : (t : ℤ) → wordOfTime t ≡ ofZ w64 t
@@ -44,6 +55,13 @@ same-word (negsuc n) = refl
 
 pub time-back : (t : ℤ) → SFits w64 t → timeIn (wordOfTime t) ≡ t
 time-back t ok = ap timeIn (same-word t) ∙ sym (read-signed (ofZ w64 t)) ∙ toZ-ofZ w64 t ok
+
+pub time-in-fits : (w : ℕ) → SFits w64 (timeIn w)
+unfolding timeIn
+time-in-fits w =
+    by-test (SFits w64) (ltb w (2 ^ 63)) (pos w) (negsuc (2 ^ 64 - suc w))
+    (λ h. record { sfits = ltb-true w (2 ^ 63) h })
+    (λ h. record { sfits = omega (arith, ltb-false w (2 ^ 63) h) })
 
 -- ---- a flag
 pub flag-small : (f : Bool) → leb (wordOf f) 1 ≡ true

@@ -3,3 +3,4 @@ pub mod Rows
 pub mod Small
 pub mod Signed
 pub mod Back
+pub mod Stands

@@ -1,4 +1,5 @@
--- A builder that was put into a row is read back from it. Assumes nothing.
+-- A builder that was put into a row is read back from it, where the fields of its models are of their formats: proofs/Stands shows that those of every builder
+-- that calls make are. Assumes nothing.
 use mathlib.Core.Path.{_≡_, ap, _∙_}
 use mathlib.Core.List.{List, _++_, append-assoc}
 use Prim.Native.Nat.{ℕ}

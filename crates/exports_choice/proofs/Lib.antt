@@ -1,3 +1,4 @@
 -- What the proofs of the choice's C face share.
 pub mod Parts
 pub mod Back
+pub mod Stands

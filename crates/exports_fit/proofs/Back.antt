@@ -1,5 +1,5 @@
--- A state that was put into a row is read back from it, whatever stands behind: so the next call on the row goes on where the last one ended. The state's
--- fields are of their formats, as those of every state that the code holds. Assumes nothing.
+-- A state that was put into a row is read back from it, whatever stands behind, where its fields are of their formats: proofs/Held shows that those of every
+-- state that calls make are. Assumes nothing.
 use mathlib.Core.Path.{_≡_}
 use mathlib.Core.Bool.{Bool}
 use mathlib.Core.List.{List, _++_}
@@ -9,9 +9,10 @@ use lib.Ieee.{binary32, binary64, fits}
 use lib.Ieee.Bits.{ofBits-toBits}
 use mir.Syntax.{w64}
 use mir.Val.{SFits}
+use Rattle.models.specs.Bound.{BoundHeld}
 use Rattle.pmc_mean.specs.declared.PMCMean.{PMCMean}
 use Rattle.swing.specs.declared.Swing.{Swing}
-use Rattle.exports.proofs.Back.{BoundHeld, bound-back, is-small, value-back, time-back}
+use Rattle.exports.proofs.Back.{bound-back, is-small, value-back, time-back}
 use Rattle.exports_fit.specs.Row.{pmcRow, pmcIn, swingRow, swingIn}
 
 -- ---- PMC-Mean

@@ -104,6 +104,11 @@ module _ (b : ErrorBound) (usable : Bool) (n : ℕ) where
       let size = not-false (leb 1 m && leb m 65535) (none .1 .1 .0) in
       (not-false usable (none .1 .0), eqb-false n 0 (none .1 .1 .1 .0), leb-true m 65535 (and-right (leb 1 m) (leb m 65535) size))
 
+-- ---- what goes by a test
+pub by-test : {X : Type 0} (Q : X → Type 0) (test : Bool) (x y : X) → (test ≡ true → Q x) → (test ≡ false → Q y) → Q (cond test x y)
+by-test Q true x y p q = p refl
+by-test Q false x y p q = q refl
+
 -- ---- what a state has, and has after a step that nothing refuses, it has after the call
 module _ {S : Type 0} (P : S → Type 0) where
   pub after-judging : (s : S) (causes : List Cause) (step : Stepped S) → P s → (NoneHolds causes → P (step .state)) → P (stateAfter (judgedOn s causes step))
@@ -114,5 +119,4 @@ module _ {S : Type 0} (P : S → Type 0) where
 
   -- a step that goes by a test
   pub after-test : (test : Bool) (x y : Stepped S) → (test ≡ true → P (x .state)) → (test ≡ false → P (y .state)) → P (cond test x y .state)
-  after-test true x y p q = p refl
-  after-test false x y p q = q refl
+  after-test test x y p q = by-test (λ (t : Stepped S). P (t .state)) test x y p q

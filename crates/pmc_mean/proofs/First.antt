@@ -1,22 +1,23 @@
 -- The first value always fits PMC-Mean, whatever the bound: 0 plus an f32, divided by 1 and rounded to f32, is that f32 again, but that −0 becomes
 -- its equal +0. Assumes nothing.
 use mathlib.Core.Path.{_≡_, refl, sym, ap, _∙_, subst}
-use mathlib.Core.Bool.{Bool, true, false, _&&_, _||_, cond, Bool·beq}
+use mathlib.Core.Bool.{Bool, true, false, _||_, cond, Bool·beq}
 use mathlib.Core.Logic.{_⊎_, inl, inr}
-use Prim.Native.Nat.{ℕ, zero, suc, _+_, _-_, _*_, _%_, _^_, _≤_, _<_}
+use Prim.Native.Nat.{ℕ, zero, suc, _+_, _-_, _*_, _^_, _≤_, _<_}
 use native.Mathlib.Nat.{mul-assoc, mul-comm, mul-right-comm, mul-pos, mul-one, one-mul, zero-mul, eq-of-mul-eq-mul-right, lt-of-mul-lt-mul-right, mul-lt-mul-of-pos-right}
 use native.Mathlib.Omega.{arith}
 use borrow.Author.Tests.{ltb-false, eq-eqb}
 use lib.IntN.{ℤ, pos, negsuc}
-use lib.Dec.{T, eqb, leb, ltb, ltb→lt, leb→le}
+use lib.Dec.{T, eqb, ltb}
 use lib.Pow.{pow-add, pow-pos}
 use lib.Ieee as Ieee
 use lib.Ieee.{Float, Format, binary32, binary64, nan, inf, fin, prec, emax, low, up, down, fits, round, ofBits}
 use lib.Ieee.Exact.{HasValue, round-exact}
 use lib.Ieee.Digits.{back}
-use lib.Ieee.Fits.{and-l, and-r, down-pos, up-pos, fits-widens}
+use lib.Ieee.Fits.{down-pos, up-pos, fits-widens}
 use lib.Ieee.Bits.{ofBits-fits}
 use Rattle.numbers.specs.Narrowed.{narrowed}
+use Rattle.numbers.proofs.Held.{held}
 use Rattle.numbers.proofs.Shifts.{pow-le-back}
 use Rattle.models.specs.Floats.{zeroF, equalOrNan, minF, maxF}
 use Rattle.models.specs.Bound.{within}
@@ -39,15 +40,6 @@ rescaled (fin t m e) s a c num den p h v = (
       ∙ ap (λ (x : ℕ). x * down e) h
       ∙ mul-right-comm a den (down e)),
 )
-
-held : (f : Format) (s : Bool) (m : ℕ) (e : ℤ) → T (fits f (fin s (suc m) e)) → (suc m < 2 ^ prec f) × (down e ≤ 2 ^ low f) × (suc m * up e < 2 ^ suc (emax f) * down e)
-unfolding Ieee.fits
-held f s m e t =
-    let a = eqb (suc m % 2) 1 in
-    let b = ltb (suc m) (2 ^ prec f) in
-    let c = leb (down e) (2 ^ low f) in
-    let d = ltb (suc m * up e) (2 ^ suc (emax f) * down e) in
-    (ltb→lt _ _ (and-r a b (and-l (a && b) c (and-l (a && b && c) d t))), leb→le _ _ (and-r (a && b) c (and-l (a && b && c) d t)), ltb→lt _ _ (and-r (a && b && c) d t))
 
 -- in units of the smallest value it is m, shifted
 placed : (l m : ℕ) (e : ℤ) → down e ≤ 2 ^ l → (j : ℕ) × (m * up e * 2 ^ l ≡ m * 2 ^ j * down e)

@@ -1,7 +1,7 @@
 -- A list of points tried one after the other: fitting xs and then ys is fitting xs ++ ys, and what fitting makes of a fresh state may be used,
 -- has the same bound, and stands for no more points than were tried. Assumes nothing.
 use mathlib.Core.Path.{_≡_, refl}
-use mathlib.Core.Bool.{true, not, _||_}
+use mathlib.Core.Bool.{true, not, _||_, false≢true}
 use mathlib.Core.List.{List, _++_, foldl-append}
 use Prim.Native.Nat.{_+_, _≤_, _<_}
 use native.Mathlib.Omega.{arith}
@@ -10,15 +10,17 @@ use lib.Dec.{eqb}
 use lib.IntN.{ℤ}
 use lib.ListN.{length}
 use lib.Ieee as Ieee
+use lib.Ieee.{Float}
+use Rattle.models.specs.Answers.{Stepped, fitting, failing}
 use Rattle.models.specs.Floats.{equalOrNan}
 use Rattle.models.specs.Bound.{boundAllowed, deviation}
 use Rattle.models.specs.declared.ErrorBound.{ErrorBound}
-use Rattle.models.proofs.Judged.{NoneHolds, after-judging, after-test}
+use Rattle.models.proofs.Judged.{NoneHolds, after-judging, by-test}
 use Rattle.models.proofs.Laws.{and-both}
 use Rattle.models.proofs.Folds.{steps-keep, steps-raise}
 use Rattle.lines.specs.Times.{timeAllowed}
-use Rattle.lines.specs.Line.{_+f_, _-f_, pointOf, bothFinite, valueAt}
-use Rattle.swing.specs.State.{fresh, upperLine, lowerLine, usable, timesAllowed, timeFollows}
+use Rattle.lines.specs.Line.{_+f_, _-f_, pointOf, bothFinite, level, valueAt}
+use Rattle.swing.specs.State.{fresh, upperLine, lowerLine, sumsOf, usable, timesAllowed, timeFollows}
 use Rattle.swing.specs.Step.{opened, moved, flat, second, swung, laterAt, later, tried}
 use Rattle.swing.specs.Calls.{fitCauses, fitAnswer}
 use Rattle.swing.specs.Run.{Given, next, run}
@@ -28,22 +30,37 @@ use Rattle.lines.specs.declared.Line.{Line}
 use Rattle.lines.specs.declared.Terms.{Terms}
 use Rattle.swing.proofs.Allowed.{length-below, follows-allowed, follows-start, start-allowed, one-time, two-times}
 
--- what a state has, with p as its first point too, or moved on to p with whatever lines and sums, it has after the step
-pub stepped : (P : Swing → Type 0) (s : Swing) (p : Point) → P s → (s .length ≡ 0 → P (opened s p)) → ((s .length ≡ 0 → ⊥) → (upper lower : Line) (sums : Terms) → P (moved s p upper lower sums)) → P (tried s p .state)
-unfolding tried flat second later laterAt swung
-stepped P s p stays opens moves =
+-- a step by its cases: a point that does not fit, the first one, one that is the same as the first, the second, and a later one
+pub by-case : (Q : Stepped Swing → Type 0) (s : Swing) (p : Point) → Q (failing s) → (s .length ≡ 0 → Q (fitting (opened s p)))
+    → ((s .length ≡ 0 → ⊥) → Q (fitting (moved s p (level (p .value)) (level (p .value)) (sumsOf s))))
+    → (s .length ≡ 1 → bothFinite (s .«first_value») (p .value) ≡ true → Q (fitting (second s p (deviation (s .«error_bound») (p .value)))))
+    → ((s .length ≡ 0 → ⊥) → (s .length ≡ 1 → ⊥) → (d high low : Float) → Q (fitting (swung s p d high low))) → Q (tried s p)
+unfolding tried flat later laterAt
+by-case Q s p fails opens same two more =
     let d = deviation (s .«error_bound») (p .value) in
     let high = valueAt (upperLine s) (p .time) in
     let low = valueAt (lowerLine s) (p .time) in
-    after-test P (eqb (s .length) 0) _ _ (λ none. opens (eqb-true (s .length) 0 none)) (λ some.
-    let more = moves (eqb-false (s .length) 0 some) in
-    after-test P (not (bothFinite (s .«first_value») (p .value))) _ _
-    (λ h. after-test P (equalOrNan (s .«first_value») (p .value)) _ _ (λ h. more _ _ _) (λ h. stays))
-    (λ h. after-test P (eqb (s .length) 1) _ _ (λ h. more _ _ _)
-    (λ h. after-test P (Ieee.lt (high +f d) (p .value) || Ieee.lt (p .value) (low -f d)) _ _ (λ h. stays) (λ h. more _ _ _))))
+    by-test Q (eqb (s .length) 0) _ _ (λ none. opens (eqb-true (s .length) 0 none)) (λ some.
+    let n = eqb-false (s .length) 0 some in
+    by-test Q (not (bothFinite (s .«first_value») (p .value))) _ _
+    (λ h. by-test Q (equalOrNan (s .«first_value») (p .value)) _ _ (λ h. same n) (λ h. fails))
+    (λ h. by-test Q (eqb (s .length) 1) _ _ (λ one. two (eqb-true (s .length) 1 one) (not-false _ h))
+    (λ one. by-test Q (Ieee.lt (high +f d) (p .value) || Ieee.lt (p .value) (low -f d)) _ _ (λ h. fails) (λ h. more n (eqb-false (s .length) 1 one) d high low))))
 
--- the same after the call, where a step is made only of a state that may be used, has room, and is followed by the time
-kept : (P : Swing → Type 0) (s : Swing) (g : Given) → P s → (usable s ≡ true → s .length < 65536 → timeFollows s (g .time) ≡ true → P (tried s (pointOf (g .time) (g .bits)) .state)) → P (next s g)
+-- what a state has, with p as its first point too, or moved on to p with whatever lines and sums, it has after the step
+pub stepped : (P : Swing → Type 0) (s : Swing) (p : Point) → P s → (s .length ≡ 0 → P (opened s p)) → ((s .length ≡ 0 → ⊥) → (upper lower : Line) (sums : Terms) → P (moved s p upper lower sums)) → P (tried s p .state)
+unfolding second swung
+stepped P s p stays opens moves =
+    by-case (λ (t : Stepped Swing). P (t .state)) s p stays opens (λ some. moves some _ _ _) (λ one finite. moves (λ none. absurd (omega arith)) _ _ _) (λ some more d high low. moves some _ _ _)
+
+-- the last time of a state that took p in is that of p
+pub fitted-end : (s : Swing) (p : Point) → tried s p .fits ≡ true → tried s p .state .«end_time» ≡ p .time
+unfolding opened moved second swung
+fitted-end s p =
+    by-case (λ (t : Stepped Swing). t .fits ≡ true → t .state .«end_time» ≡ p .time) s p (λ h. absurd (false≢true h)) (λ none h. refl) (λ some h. refl) (λ one finite h. refl) (λ some more d high low h. refl)
+
+-- what a state has, it has after the call, if it has it after a step: one of a state that may be used, has room, and is followed by the time
+pub kept : (P : Swing → Type 0) (s : Swing) (g : Given) → P s → (usable s ≡ true → s .length < 65536 → timeFollows s (g .time) ≡ true → P (tried s (pointOf (g .time) (g .bits)) .state)) → P (next s g)
 unfolding fitAnswer
 kept P s g p step =
     after-judging P s (fitCauses s (g .time)) (tried s (pointOf (g .time) (g .bits))) p (λ none.

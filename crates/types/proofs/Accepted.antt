@@ -5,7 +5,7 @@ use mathlib.Core.Bool.{Bool, true, false, not}
 use mathlib.Core.List.{List, [], _∷_}
 use Prim.Native.Nat.{ℕ, _≤_}
 use native.Mathlib.Omega.{arith}
-use borrow.Author.Tests.{eqb-false, ne-eqb, not-false, eqb-true}
+use borrow.Author.Tests.{eqb-false, ltb-false, ne-eqb, not-false, eqb-true}
 use lib.Dec.{eqb, ltb}
 use lib.IntN.{ℤ}
 use lib.ListN.{length}
@@ -38,7 +38,7 @@ use Rattle.types.proofs.Said.{told, neither}
 use Rattle.types.proofs.Parts.{run-usable, run-bounds}
 use Rattle.types.proofs.Chosen.{finish-length, finish-swing, choice-length}
 
-points-length : (ts : List ℤ) (values : List ℕ) → length (points ts values) ≤ length values
+pub points-length : (ts : List ℤ) (values : List ℕ) → length (points ts values) ≤ length values
 unfolding points
 points-length [] values = omega arith
 points-length (t ∷ ts) [] = omega arith
@@ -109,19 +109,36 @@ nothing-refuses b given m allowed size some =
     let swing = ne-eqb (s .swing .length) 0 (λ e. absurd (omega arith)) in
     (rw (bounds .0, bounds .1, allowed), (rw (usable .0, usable .1), (rw size, (rw (pmc, swing), tt))))
 
+-- ---- what choose_model judges, where nothing refuses it
+pub record Clear (ts : List ℤ) (values : List ℕ) (b : ErrorBound) (m : ℕ) : Type 0 where
+  pub allowed : boundAllowed b ≡ true
+  pub most : length values ≤ 65536
+  pub size : metadataAllowed m ≡ true
+  pub same : length ts ≡ length values
+  pub ordered : inOrder ts ≡ true
+  pub some : length values ≡ 0 → ⊥
+
 -- ---- the laws
 module _ (ts : List ℤ) (values : List ℕ) (b : ErrorBound) (m : ℕ) where
+  pub clear : NoneHolds (choiceCauses ts values b m) → Clear ts values b m
+  clear none =
+      let three = neither (ltb 65536 (length values)) (not (metadataAllowed m)) (none .1 .0) in
+      record {
+        allowed = not-false (boundAllowed b) (none .0);
+        most = ltb-false 65536 (length values) (three .0);
+        size = not-false (metadataAllowed m) (three .1);
+        same = eqb-true (length ts) (length values) (not-false (eqb (length ts) (length values)) (none .1 .1 .0));
+        ordered = not-false (inOrder ts) (none .1 .1 .1 .0);
+        some = eqb-false (length values) 0 (none .1 .1 .1 .1 .0);
+      }
+
   abbrev after-all : ModelBuilder
   after-all = run (fresh b) (points ts values)
 
   pub choice-clear : NoneHolds (choiceCauses ts values b m) → NoneHolds (finishCauses after-all m)
   choice-clear none =
-      let allowed = not-false (boundAllowed b) (none .0) in
-      let size = not-false (metadataAllowed m) (neither (ltb 65536 (length values)) (not (metadataAllowed m)) (none .1 .0) .1) in
-      let same = eqb-true (length ts) (length values) (not-false (eqb (length ts) (length values)) (none .1 .1 .0)) in
-      let ordered = not-false (inOrder ts) (none .1 .1 .1 .0) in
-      let some = eqb-false (length values) 0 (none .1 .1 .1 .1 .0) in
-      nothing-refuses b (points ts values) m allowed size (run-some b ts values allowed ordered same some)
+      let c = clear none in
+      nothing-refuses b (points ts values) m (c .allowed) (c .size) (run-some b ts values (c .allowed) (c .ordered) (c .same) (c .some))
 
   -- so the builder's own choice after the same steps is that answer
   pub choice-finishes : NoneHolds (choiceCauses ts values b m) → finishAnswer after-all m ≡ answeredOn (choiceOf after-all m)

@@ -1,6 +1,6 @@
 -- The cost of a model is the nearest f32 to a fraction, so Swing with one value never wins over PMC-Mean with one or more. Assumes nothing.
 use mathlib.Core.Path.{_≡_, refl, sym, ap, _∙_}
-use mathlib.Core.Bool.{Bool, true, false, _&&_, _||_, true≢false, false≢true}
+use mathlib.Core.Bool.{Bool, true, false, true≢false, false≢true}
 use mathlib.Core.Logic.{⊎-elim}
 use Prim.Native.Nat.{ℕ, _+_, _*_, _≤_, _<_}
 use native.Mathlib.Nat.{mul-pos, mul-one, mul-comm, mul-assoc, mul-left-comm, mul-le-mul-left}
@@ -18,6 +18,7 @@ use Rattle.models.specs.Limits.{cost}
 use Rattle.models.proofs.Laws.{and-left, and-right, or-either}
 use Rattle.pmc_mean.specs.declared.PMCMean.{PMCMean}
 use Rattle.swing.specs.declared.Swing.{Swing}
+use Rattle.swing.proofs.Order.{at-most}
 use Rattle.types.specs.Choice.{pmcModel, swingModel, swingWins}
 
 -- ---- a quotient of whole numbers
@@ -54,9 +55,6 @@ cost-is bytes values hb hv some =
 is-true : (b : Bool) → T b → b ≡ true
 is-true true t = refl
 is-true false t = absurd t
-
-at-most : (a b : ℕ) (c : Bool) → (ltb a b || (eqb a b && c)) ≡ true → a ≤ b
-at-most a b c h = ⊎-elim (λ l. omega (arith, ltb-true a b l)) (λ e. omega (arith, eqb-true a b (and-left (eqb a b) c e))) (or-either (ltb a b) (eqb a b && c) h)
 
 pub not-above : (x y : Float) → Ieee.le x y ≡ true → Ieee.lt y x ≡ false
 unfolding Ieee.le Ieee.lt Ieee.eq
