@@ -9,7 +9,7 @@ use borrow.Author.Tests.{lt-ltb, le-ltb, le-leb, lt-leb}
 use lib.Dec.{leb, ltb}
 use lib.ListN.{length, take, drop, getD}
 use Rattle.models.specs.Answers.{Said, answered, refused, SaidOn, answeredOn, refusedOn, Cause, _when_, judge, judgedOn}
-use Rattle.models.specs.Bound.{boundAllowed}
+use Rattle.models.specs.Bound.{boundAllowed, BoundHeld}
 use Rattle.models.proofs.Judged.{NoneHolds, answered-only}
 use Rattle.models.specs.declared.ErrorBound.{ErrorBound}
 use Rattle.exports.specs.Face.{boundOf, plainNumber}
@@ -27,7 +27,7 @@ use Rattle.macaque_v.proofs.Promises.{stateAfter, a-write-goes-on, reopening-go
 use Rattle.macaque_v.proofs.Held.{Held, made-held}
 use Rattle.exports_stream.specs.Calls.{openingOf, rowIn, numberOn, rowOn, writeNumber, writeRow, writeBuffer, reopenNumber, reopenRow, reopenBuffer, gridNumber}
 use Rattle.exports.specs.Words.{small, boundIn}
-use Rattle.exports.proofs.Back.{BoundHeld, bound-back, flag-small, flag-back}
+use Rattle.exports.proofs.Back.{bound-back, flag-small, flag-back}
 use Rattle.exports_stream.specs.Row.{rowOf, standsForState, read, writerIn}
 
 -- ---- a row is read back as the writer that it was made of
