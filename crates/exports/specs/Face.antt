@@ -1,7 +1,7 @@
 -- How a call crosses the C face. A bound is its kind and the bits of its f32. The answer is a number: 0, or that of a refusal. The values
 -- are words at the front of a lent row, and a row that does not hold them is a lent output that is too short, 4, in its place in 01's order.
 use mathlib.Core.Bool.{Bool, true, false, cond, _||_}
-use mathlib.Core.List.{List, _++_}
+use mathlib.Core.List.{List, _++_, [], _∷_}
 use Prim.Native.Nat.{ℕ}
 use lib.Dec.{eqb, leb}
 use lib.Ieee.{nan, binary32, ofBits}
@@ -37,6 +37,10 @@ wordOf true = 1
 unfoldable pub rowAfter : {A : Type 0} → ℕ → (A → List ℕ) → List ℕ → Said A → List ℕ
 rowAfter need words row (refused n) = row
 rowAfter need words row (answered x) = cond (leb need (length row)) (words x ++ drop (length (words x)) row) row
+
+-- an answer of one word
+abbrev pub oneWord : ℕ → List ℕ
+oneWord w = w ∷ []
 
 -- ---- a call with no values to hand over, but in memory that it was lent for them: the number alone
 abbrev pub plainNumber : {A : Type 0} → Said A → ℕ

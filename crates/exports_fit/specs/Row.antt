@@ -77,10 +77,6 @@ pmcStep t = pmcRow (t .state) (t .fits)
 abbrev pub swingStep : Stepped Swing → List ℕ
 swingStep t = swingRow (t .state) (t .fits)
 
--- ---- the words of an answer
-abbrev pub oneWord : ℕ → List ℕ
-oneWord w = w ∷ []
-
 abbrev pub endsAt : ℕ → ℕ → Ends
 endsAt first last = record { first = first; last = last }
 

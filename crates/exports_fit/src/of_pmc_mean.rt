@@ -16,8 +16,8 @@ ghost use lib.Ieee.{binary32, toBits};
 ghost use Rattle.models.specs.Answers.{verdict};
 ghost use Rattle.pmc_mean.specs.Calls.{newAnswer, fitAnswer, costAnswer, modelAnswer};
 ghost use Rattle.pmc_mean.specs.Grid.{sumAnswer, gridCauses, gridMemory};
-ghost use Rattle.exports.specs.Face.{boundOf, numberOf, rowAfter, plainNumber, stepNumber, stepRow, askNumber, askRow};
-ghost use Rattle.exports_fit.specs.Row.{pmcIn, pmcRow, pmcStep, oneWord};
+ghost use Rattle.exports.specs.Face.{boundOf, numberOf, rowAfter, plainNumber, stepNumber, stepRow, askNumber, askRow, oneWord};
+ghost use Rattle.exports_fit.specs.Row.{pmcIn, pmcRow, pmcStep};
 
 // The state before any value into the row.
 #[no_mangle]

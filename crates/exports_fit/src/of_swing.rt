@@ -17,8 +17,8 @@ ghost use Rattle.models.specs.Answers.{verdict};
 ghost use Rattle.lines.specs.Line.{pointOf};
 ghost use Rattle.swing.specs.Calls.{newAnswer, fitAnswer, costAnswer, modelAnswer};
 ghost use Rattle.swing.specs.Grid.{averageAnswer, sumAnswer, gridCauses, gridMemory};
-ghost use Rattle.exports.specs.Face.{boundOf, numberOf, rowAfter, plainNumber, stepNumber, stepRow, askNumber, askRow};
-ghost use Rattle.exports_fit.specs.Row.{swingIn, swingRow, swingStep, oneWord, twoWords};
+ghost use Rattle.exports.specs.Face.{boundOf, numberOf, rowAfter, plainNumber, stepNumber, stepRow, askNumber, askRow, oneWord};
+ghost use Rattle.exports_fit.specs.Row.{swingIn, swingRow, swingStep, twoWords};
 
 // The state before any point into the row.
 #[no_mangle]

@@ -9,8 +9,8 @@ ghost use mathlib.Core.List.{_++_};
 ghost use Prim.Native.Nat.{_≤_};
 ghost use lib.ListN.{length, drop};
 ghost use Rattle.models.specs.Answers.{answered};
-ghost use Rattle.exports.specs.Face.{numberOf, rowAfter};
-ghost use Rattle.exports_fit.specs.Row.{pmcIn, pmcRow, swingIn, swingRow, oneWord, endsAt, twoWords};
+ghost use Rattle.exports.specs.Face.{numberOf, rowAfter, oneWord};
+ghost use Rattle.exports_fit.specs.Row.{pmcIn, pmcRow, swingIn, swingRow, endsAt, twoWords};
 
 // ---- PMC-Mean
 

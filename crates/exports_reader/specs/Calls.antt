@@ -37,8 +37,3 @@ nextRow row out said = cond (leb rowLength (length row) && leb 1 (length out)) (
 
 unfoldable pub endNumber : List ℕ → List ℕ → ℕ
 endNumber bytes row = cond (leb rowLength (length row)) (plainNumber (endAnswer bytes (positionIn row))) 4
-
--- ---- last_value
-
-abbrev pub oneWord : ℕ → List ℕ
-oneWord v = v ∷ []

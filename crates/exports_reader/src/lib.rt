@@ -3,12 +3,12 @@
 // changes nothing that was lent.
 ghost use mathlib.Core.Path.{_≡_};
 ghost use lib.ListN.{length};
-ghost use Rattle.exports.specs.Face.{askNumber, askRow, numberOf, rowAfter};
+ghost use Rattle.exports.specs.Face.{askNumber, askRow, numberOf, rowAfter, oneWord};
 ghost use Rattle.exports_stream.specs.Calls.{openingOf, countIn};
 ghost use Rattle.reader.specs.Calls.{nextAnswer};
 ghost use Rattle.reader.specs.Run.{lastAnswer};
 ghost use Rattle.exports_reader.specs.Row.{rowLength, positionIn};
-ghost use Rattle.exports_reader.specs.Calls.{openNumber, openRow, oneValue, oneWord, nextRow, endNumber};
+ghost use Rattle.exports_reader.specs.Calls.{openNumber, openRow, oneValue, nextRow, endNumber};
 use models::ValueAnswer;
 use models::Verdict;
 use reader::position;

@@ -20,9 +20,9 @@ use Rattle.parameters.specs.Calls.{lengthAnswer, bytesAfter}
 use Rattle.parameters.specs.declared.Form.{Form}
 use Rattle.segments.specs.Calls.{writeAnswer, valuesAfter, residualsAfter}
 use Rattle.segments.specs.declared.Segment.{Segment}
-use Rattle.exports.specs.Face.{plainNumber}
+use Rattle.exports.specs.Face.{plainNumber, oneWord}
 use Rattle.exports.proofs.Rows.{Faced, all-words}
-use Rattle.exports_segments.specs.Calls.{oneWord, endsWords, segmentWords, rowIn, rowShort, encodeNumber, encodeOut, encodeRow}
+use Rattle.exports_segments.specs.Calls.{endsWords, segmentWords, rowIn, rowShort, encodeNumber, encodeOut, encodeRow}
 use Rattle.exports_segments.specs.Calls.{segmentCauses, segmentNumber, segmentValuesOut, segmentResidualsOut, segmentRow}
 
 -- ---- two words to the front of a row

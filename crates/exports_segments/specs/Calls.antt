@@ -15,13 +15,9 @@ use Rattle.segments.specs.Calls.{writeCauses, writeAnswer, valuesAfter, residua
 use Rattle.segments.specs.declared.Segment.{Segment}
 use Rattle.segment_grid.specs.Segment.{endsIn}
 use Rattle.segment_grid.specs.Calls.{gridAnswer, gridMemory, sumAnswer}
-use Rattle.exports.specs.Face.{numberOf, rowAfter, plainNumber}
+use Rattle.exports.specs.Face.{numberOf, rowAfter, plainNumber, oneWord}
 
 -- ---- the words of an answer
-
--- a value, or how many bytes there are
-abbrev pub oneWord : ℕ → List ℕ
-oneWord w = w ∷ []
 
 -- a line's first and last value
 abbrev pub endsWords : Ends → List ℕ

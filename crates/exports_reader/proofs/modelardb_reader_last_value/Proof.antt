@@ -7,7 +7,7 @@ use Rattle.models.specs.Calls.{saysValue}
 use Rattle.reader.specs.Run.{lastAnswer}
 use Rattle.exports.proofs.Rows.{refused-row, short-row, one-word}
 use Rattle.exports_stream.specs.Calls.{openingOf, countIn}
-use Rattle.exports_reader.specs.Calls.{oneWord}
+use Rattle.exports.specs.Face.{oneWord}
 use Rattle.exports_reader.proofs.modelardb_reader_last_value.Statement.{statement}
 use Rattle.exports_reader.proofs.modelardb_reader_last_value.Tie as tie
 

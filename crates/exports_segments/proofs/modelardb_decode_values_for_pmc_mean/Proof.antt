@@ -2,8 +2,7 @@
 use borrow.Author.Needs.{needs}
 use mathlib.Core.Path.{ap, _∙_}
 use lib.ListN.{length}
-use Rattle.exports.specs.Face.{numberOf, rowAfter}
-use Rattle.exports_segments.specs.Calls.{oneWord}
+use Rattle.exports.specs.Face.{numberOf, rowAfter, oneWord}
 use Rattle.exports_segments.proofs.modelardb_decode_values_for_pmc_mean.Statement.{statement}
 use Rattle.exports_segments.proofs.modelardb_decode_values_for_pmc_mean.Tie as tie
 

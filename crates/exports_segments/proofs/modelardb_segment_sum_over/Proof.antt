@@ -2,8 +2,8 @@
 use borrow.Author.Needs.{needs}
 use mathlib.Core.Path.{ap, _∙_}
 use lib.ListN.{length}
-use Rattle.exports.specs.Face.{numberOf, rowAfter}
-use Rattle.exports_segments.specs.Calls.{oneWord, sumNumber, sumOut}
+use Rattle.exports.specs.Face.{numberOf, rowAfter, oneWord}
+use Rattle.exports_segments.specs.Calls.{sumNumber, sumOut}
 use Rattle.exports_segments.proofs.modelardb_segment_sum_over.Statement.{statement}
 use Rattle.exports_segments.proofs.modelardb_segment_sum_over.Tie as tie
 

@@ -4,9 +4,9 @@ use native.Mathlib.Omega.{arith}
 use Rattle.models.specs.Refusals.{number}
 use Rattle.pmc_mean.specs.Calls.{saysCost, costAnswer}
 use Rattle.pmc_mean.specs.declared.PMCMean.{PMCMean}
-use Rattle.exports.specs.Face.{numberOf, rowAfter}
+use Rattle.exports.specs.Face.{numberOf, rowAfter, oneWord}
 use Rattle.exports.proofs.Rows.{ask-short, ask-refused, ask-answered}
-use Rattle.exports_fit.specs.Row.{pmcIn, oneWord}
+use Rattle.exports_fit.specs.Row.{pmcIn}
 use Prim.Native.Nat.{ℕ}
 use mathlib.Core.List.{List, [], _∷_}
 use lib.Ieee.{Float, binary32, toBits}

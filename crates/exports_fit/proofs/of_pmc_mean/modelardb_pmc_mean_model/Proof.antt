@@ -4,9 +4,9 @@ use native.Mathlib.Omega.{arith}
 use Rattle.models.specs.Refusals.{number}
 use Rattle.pmc_mean.specs.Calls.{saysModel, modelAnswer}
 use Rattle.pmc_mean.specs.declared.PMCMean.{PMCMean}
-use Rattle.exports.specs.Face.{numberOf, rowAfter}
+use Rattle.exports.specs.Face.{numberOf, rowAfter, oneWord}
 use Rattle.exports.proofs.Rows.{ask-short, ask-refused, ask-answered}
-use Rattle.exports_fit.specs.Row.{pmcIn, oneWord}
+use Rattle.exports_fit.specs.Row.{pmcIn}
 use borrow.Author.Needs.{needs}
 use Rattle.exports_fit.proofs.of_pmc_mean.modelardb_pmc_mean_model.Statement.{statement}
 use Rattle.exports_fit.proofs.of_pmc_mean.modelardb_pmc_mean_model.Tie as tie

@@ -3,9 +3,8 @@ use mathlib.Core.Path.{_≡_, sym, ap, _∙_}
 use lib.ListN.{length}
 use Rattle.models.specs.Refusals.{number}
 use Rattle.models.specs.Calls.{saysValue}
-use Rattle.exports.specs.Face.{numberOf, rowAfter}
+use Rattle.exports.specs.Face.{numberOf, rowAfter, oneWord}
 use Rattle.exports.proofs.Rows.{refused-row}
-use Rattle.exports_fit.specs.Row.{oneWord}
 use Rattle.pmc_mean.specs.Grid.{sumAnswer}
 use borrow.Author.Needs.{needs}
 use Rattle.exports_fit.proofs.of_pmc_mean.modelardb_pmc_mean_sum.Statement.{statement}

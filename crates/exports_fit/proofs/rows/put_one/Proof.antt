@@ -3,7 +3,7 @@ use mathlib.Core.Path.{refl}
 use native.Mathlib.Omega.{arith}
 use Rattle.models.specs.Answers.{answered}
 use Rattle.exports.proofs.Rows.{short-row, one-word}
-use Rattle.exports_fit.specs.Row.{oneWord}
+use Rattle.exports.specs.Face.{oneWord}
 use borrow.Author.Needs.{needs}
 use Rattle.exports_fit.proofs.rows.put_one.Statement.{statement}
 use Rattle.exports_fit.proofs.rows.put_one.Tie as tie

@@ -3,8 +3,8 @@ use borrow.Author.Needs.{needs}
 use mathlib.Core.Path.{sym, ap, _∙_}
 use Rattle.parameters.specs.Calls.{saysLength}
 use Rattle.parameters.specs.declared.LengthAnswer.{LengthAnswer}
-use Rattle.exports.specs.Face.{plainNumber}
-use Rattle.exports_segments.specs.Calls.{oneWord, rowIn}
+use Rattle.exports.specs.Face.{plainNumber, oneWord}
+use Rattle.exports_segments.specs.Calls.{rowIn}
 use Rattle.exports_segments.proofs.rows.put_length.Statement.{statement}
 use Rattle.exports_segments.proofs.rows.put_length.Tie as tie
 

@@ -4,7 +4,7 @@ use mathlib.Core.Path.{refl, ap, _∙_}
 use Rattle.models.specs.Refusals.{number}
 use Rattle.models.specs.Calls.{saysValue}
 use Rattle.exports.proofs.Rows.{refused-row, short-row, one-word}
-use Rattle.exports_segments.specs.Calls.{oneWord}
+use Rattle.exports.specs.Face.{oneWord}
 use Rattle.exports_segments.proofs.rows.put_value.Statement.{statement}
 use Rattle.exports_segments.proofs.rows.put_value.Tie as tie
 
