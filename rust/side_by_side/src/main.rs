@@ -3,14 +3,13 @@
 //! f32; with a NAME only the parts run whose names begin with it.
 
 mod context;
-mod face;
-mod inputs;
 mod lent;
 mod order;
 mod parts;
 mod shape;
 
 use context::{Outcome, Part};
+use side_by_side::{face, inputs};
 use std::process::ExitCode;
 use std::sync::atomic::{AtomicUsize, Ordering};
 use std::sync::mpsc;

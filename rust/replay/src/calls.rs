@@ -1,0 +1,218 @@
+//! The calls by their numbers, in the order of include/modelardb.h, as the oracle answers them.
+
+use crate::record::Record;
+use modelardb_rattle::ffi::StoredSegment;
+use oracle::paper::models::ErrorBound;
+use oracle::paper::{Answer, models, numbers};
+use side_by_side::face::{self, choice, fit, segments};
+
+/// Their names, and the refusals that each can give.
+pub const CALLS: [(&str, &[u64]); 34] = [
+    ("modelardb_widen", &[]),
+    ("modelardb_narrow", &[]),
+    ("modelardb_is_value_within_error_bound", &[1, 4]),
+    ("modelardb_maximum_allowed_deviation", &[1, 4]),
+    ("modelardb_macaque_v_new", &[1, 3, 4]),
+    ("modelardb_macaque_v_compress_values", &[1, 2, 3, 4]),
+    ("modelardb_macaque_v_reopen", &[1, 3, 4, 5, 6, 7, 8, 12]),
+    ("modelardb_macaque_v_grid", &[3, 4, 5, 6, 7, 8]),
+    ("modelardb_macaque_v_sum", &[3, 4, 5, 6, 7, 8]),
+    ("modelardb_pmc_mean_new", &[1, 4]),
+    ("modelardb_pmc_mean_fit_value", &[1, 2, 3, 4]),
+    ("modelardb_pmc_mean_bytes_per_value", &[1, 2, 3, 4, 11]),
+    ("modelardb_pmc_mean_model", &[1, 2, 4, 11]),
+    ("modelardb_pmc_mean_sum", &[3, 4]),
+    ("modelardb_pmc_mean_grid", &[3, 4]),
+    ("modelardb_swing_new", &[1, 4]),
+    ("modelardb_swing_fit_data_point", &[1, 2, 3, 4, 10]),
+    ("modelardb_swing_bytes_per_value", &[1, 2, 3, 4, 11]),
+    ("modelardb_swing_model", &[1, 2, 4, 11]),
+    ("modelardb_swing_sum_by_average", &[3, 4, 10, 11]),
+    ("modelardb_swing_sum_over", &[3, 4, 10, 11]),
+    ("modelardb_swing_grid", &[3, 4, 10, 11]),
+    ("modelardb_model_builder_new", &[1, 4]),
+    (
+        "modelardb_model_builder_try_to_update_models",
+        &[1, 2, 3, 4, 10],
+    ),
+    ("modelardb_model_builder_finish", &[1, 2, 3, 4, 11]),
+    ("modelardb_choose_model", &[1, 3, 4, 10, 11, 12]),
+    ("modelardb_encode_values_for_pmc_mean", &[4]),
+    ("modelardb_encode_values_for_swing", &[4]),
+    ("modelardb_decode_values_for_pmc_mean", &[4, 9]),
+    ("modelardb_decode_values_for_swing", &[4, 9]),
+    ("modelardb_segment_write", &[1, 3, 4]),
+    ("modelardb_segment_grid", &[3, 4, 5, 6, 7, 8, 9, 10, 11, 12]),
+    (
+        "modelardb_segment_sum_by_average",
+        &[3, 4, 5, 6, 7, 8, 9, 10, 11, 12],
+    ),
+    (
+        "modelardb_segment_sum_over",
+        &[3, 4, 5, 6, 7, 8, 9, 10, 11, 12],
+    ),
+];
+
+/// What the call of a record answers; its memory becomes what the call leaves.
+pub fn answer(record: &mut Record) -> u64 {
+    match record.call {
+        0..4 => of_numbers(record),
+        4..9 => of_streams(record).into(),
+        9..15 => of_pmc_mean(record).into(),
+        15..22 => of_swing(record).into(),
+        22..26 => of_the_choice(record).into(),
+        _ => of_segments(record).into(),
+    }
+}
+
+fn of_numbers(record: &mut Record) -> u64 {
+    let Record {
+        call, x, w, v, r, ..
+    } = record;
+    match call {
+        0 => numbers::widen(x[0]),
+        1 => numbers::narrow(w[0]).into(),
+        2 => {
+            let within = models::is_value_within_error_bound(bound(x[0], x[1]), x[2], x[3]);
+            in_row(within.map(u32::from), v).into()
+        }
+        _ => in_row(
+            models::maximum_allowed_deviation(bound(x[0], x[1]), w[0]),
+            r,
+        )
+        .into(),
+    }
+}
+
+/// "A bound's kind above 2 [is refused] with 1", as any that is not allowed.
+fn bound(kind: u32, bits: u32) -> ErrorBound {
+    match kind {
+        0 => ErrorBound::Lossless,
+        1 => ErrorBound::Absolute(f32::from_bits(bits)),
+        2 => ErrorBound::Relative(f32::from_bits(bits)),
+        _ => ErrorBound::Absolute(f32::NAN),
+    }
+}
+
+/// The number of an answer of one word, which goes into the row.
+fn in_row<T>(answer: Answer<T>, row: &mut [T]) -> u32 {
+    match fit::in_room(answer, 1, row.len()) {
+        Ok(word) => {
+            row[0] = word;
+            0
+        }
+        Err(number) => number,
+    }
+}
+
+fn of_streams(record: &mut Record) -> u32 {
+    let Record {
+        call,
+        x,
+        w,
+        p,
+        v,
+        r,
+        ..
+    } = record;
+    let size = |place: usize| w[place] as usize;
+    match call {
+        4 => face::new((x[0], x[1]), (x[2], x[3]), r),
+        5 => face::compress_values(r, v, p),
+        6 => {
+            let (opening, bound) = ((x[0], x[1]), (x[2], x[3]));
+            face::reopen(p, size(0), (size(1), size(2)), opening, bound, r)
+        }
+        7 => face::grid(p, size(0), (x[0], x[1]), v),
+        _ => face::sum(p, size(0), (x[0], x[1]), v),
+    }
+}
+
+fn of_pmc_mean(record: &mut Record) -> u32 {
+    let Record {
+        call, x, w, v, r, ..
+    } = record;
+    let size = || w[0] as usize;
+    match call {
+        9 => fit::pmc_mean_new((x[0], x[1]), r),
+        10 => fit::pmc_mean_fit_value(r, x[0]),
+        11 => fit::pmc_mean_bytes_per_value(r, size(), v),
+        12 => fit::pmc_mean_model(r, v),
+        13 => fit::pmc_mean_sum(size(), x[0], v),
+        _ => fit::pmc_mean_grid(x[0], size(), v),
+    }
+}
+
+fn of_swing(record: &mut Record) -> u32 {
+    let Record {
+        call,
+        x,
+        w,
+        t,
+        v,
+        r,
+        ..
+    } = record;
+    let ends = || ((w[0] as i64, w[1] as i64), (x[0], x[1]));
+    match call {
+        15 => fit::swing_new((x[0], x[1]), r),
+        16 => fit::swing_fit_data_point(r, w[0] as i64, x[0]),
+        17 => fit::swing_bytes_per_value(r, w[0] as usize, v),
+        18 => fit::swing_model(r, v),
+        19 => fit::swing_sum_by_average(ends(), w[2] as usize, v),
+        20 => fit::swing_sum_over(ends(), t, v),
+        _ => fit::swing_grid(ends(), t, v),
+    }
+}
+
+fn of_the_choice(record: &mut Record) -> u32 {
+    let Record {
+        call,
+        x,
+        w,
+        t,
+        v,
+        r,
+        s,
+        ..
+    } = record;
+    match call {
+        22 => choice::new((x[0], x[1]), r),
+        23 => choice::try_to_update_models(r, w[0] as i64, x[0]),
+        24 => choice::finish(r, w[0] as usize, s),
+        _ => choice::choose_model(t, v, (x[0], x[1]), w[0] as usize, r),
+    }
+}
+
+fn of_segments(record: &mut Record) -> u32 {
+    let Record {
+        call,
+        x,
+        t,
+        p,
+        q,
+        v,
+        r,
+        ..
+    } = record;
+    match call {
+        26 => segments::encode_values_for_pmc_mean(x[0], (x[1], x[2]), p, r),
+        27 => segments::encode_values_for_swing((x[0], x[1]), (x[2], x[3]), p, r),
+        28 => segments::decode_values_for_pmc_mean((x[0], x[1]), p, v),
+        29 => segments::decode_values_for_swing((x[0], x[1]), p, v),
+        30 => segments::segment_write((x[0], (x[1], x[2])), (x[3], x[4]), v, p, q, r),
+        _ => {
+            let segment = StoredSegment {
+                model: x[0],
+                extremes: (x[1], x[2]),
+                values: p,
+                residuals: q,
+            };
+            match call {
+                31 => segments::segment_grid(segment, t, v),
+                32 => segments::segment_sum_by_average(segment, t, v),
+                _ => segments::segment_sum_over(segment, t, v),
+            }
+        }
+    }
+}

@@ -1,0 +1,78 @@
+//! A record: a call, the numbers and the memory that it is handed.
+
+use crate::calls;
+use std::fmt::Write;
+
+/// What each list holds is said in crates/replay/src/calls.rt: `x` and `w` the numbers of 32 and of 64 bits in
+/// the order of the parameters, `t` timestamps, `p` and `q` bytes, `v` values, `r` and `s` rows.
+#[derive(Clone, Default)]
+pub struct Record {
+    pub call: usize,
+    pub x: Vec<u32>,
+    pub w: Vec<u64>,
+    pub t: Vec<i64>,
+    pub p: Vec<u8>,
+    pub q: Vec<u8>,
+    pub v: Vec<u32>,
+    pub r: Vec<u64>,
+    pub s: Vec<u64>,
+}
+
+impl Record {
+    /// The answer, and the record with the memory as it is left.
+    pub fn answered(&self) -> (u64, Self) {
+        let mut left = self.clone();
+        let number = calls::answer(&mut left);
+        (number, left)
+    }
+
+    /// Its line. Behind the colon stand the answer and those lists that are not left as they were.
+    pub fn line(&self) -> String {
+        let (number, left) = self.answered();
+        let mut line = format!("{:x}", self.call);
+        let times: Vec<u64> = self.t.iter().map(|&time| time as u64).collect();
+        for (name, words) in [('x', wide(&self.x)), ('w', self.w.clone()), ('t', times)] {
+            put(&mut line, name, &words);
+        }
+        let (before, after) = (self.lent(), left.lent());
+        for (name, words) in &before {
+            put(&mut line, *name, words);
+        }
+        _ = write!(line, " : {number:x}");
+        for ((name, words), (_, before)) in after.iter().zip(&before) {
+            if words != before {
+                put(&mut line, *name, words);
+            }
+        }
+        line + "\n"
+    }
+
+    /// The memory that a call may change.
+    fn lent(&self) -> [(char, Vec<u64>); 5] {
+        [
+            ('p', wide(&self.p)),
+            ('q', wide(&self.q)),
+            ('v', wide(&self.v)),
+            ('r', self.r.clone()),
+            ('s', self.s.clone()),
+        ]
+    }
+}
+
+fn wide<T: Copy + Into<u64>>(words: &[T]) -> Vec<u64> {
+    words.iter().map(|&word| word.into()).collect()
+}
+
+/// A list by its name, where it has words; a word that is repeated stands once, behind its count.
+fn put(line: &mut String, name: char, words: &[u64]) {
+    if words.is_empty() {
+        return;
+    }
+    _ = write!(line, " {name}");
+    for run in words.chunk_by(|a, b| a == b) {
+        _ = match run.len() {
+            1 => write!(line, " {:x}", run[0]),
+            count => write!(line, " {count:x}*{:x}", run[0]),
+        };
+    }
+}
