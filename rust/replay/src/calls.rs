@@ -4,10 +4,10 @@ use crate::record::Record;
 use modelardb_rattle::ffi::StoredSegment;
 use oracle::paper::models::ErrorBound;
 use oracle::paper::{Answer, models, numbers};
-use side_by_side::face::{self, choice, fit, segments};
+use side_by_side::face::{self, choice, fit, reader, segments};
 
 /// Their names, and the refusals that each can give.
-pub const CALLS: [(&str, &[u64]); 34] = [
+pub const CALLS: [(&str, &[u64]); 38] = [
     ("modelardb_widen", &[]),
     ("modelardb_narrow", &[]),
     ("modelardb_is_value_within_error_bound", &[1, 4]),
@@ -51,6 +51,10 @@ pub const CALLS: [(&str, &[u64]); 34] = [
         "modelardb_segment_sum_over",
         &[3, 4, 5, 6, 7, 8, 9, 10, 11, 12],
     ),
+    ("modelardb_reader_open", &[3, 4]),
+    ("modelardb_reader_next", &[2, 3, 4, 5, 6, 7]),
+    ("modelardb_reader_end", &[2, 4, 8]),
+    ("modelardb_reader_last_value", &[3, 4, 5, 6, 7, 8]),
 ];
 
 /// What the call of a record answers; its memory becomes what the call leaves.
@@ -61,7 +65,8 @@ pub fn answer(record: &mut Record) -> u64 {
         9..15 => of_pmc_mean(record).into(),
         15..22 => of_swing(record).into(),
         22..26 => of_the_choice(record).into(),
-        _ => of_segments(record).into(),
+        26..34 => of_segments(record).into(),
+        _ => of_the_reader(record).into(),
     }
 }
 
@@ -130,14 +135,20 @@ fn of_streams(record: &mut Record) -> u32 {
 
 fn of_pmc_mean(record: &mut Record) -> u32 {
     let Record {
-        call, x, w, v, r, ..
+        call,
+        x,
+        w,
+        v,
+        r,
+        s,
+        ..
     } = record;
     let size = || w[0] as usize;
     match call {
         9 => fit::pmc_mean_new((x[0], x[1]), r),
         10 => fit::pmc_mean_fit_value(r, x[0]),
-        11 => fit::pmc_mean_bytes_per_value(r, size(), v),
-        12 => fit::pmc_mean_model(r, v),
+        11 => fit::pmc_mean_bytes_per_value(s, size(), v),
+        12 => fit::pmc_mean_model(s, v),
         13 => fit::pmc_mean_sum(size(), x[0], v),
         _ => fit::pmc_mean_grid(x[0], size(), v),
     }
@@ -151,14 +162,15 @@ fn of_swing(record: &mut Record) -> u32 {
         t,
         v,
         r,
+        s,
         ..
     } = record;
     let ends = || ((w[0] as i64, w[1] as i64), (x[0], x[1]));
     match call {
         15 => fit::swing_new((x[0], x[1]), r),
         16 => fit::swing_fit_data_point(r, w[0] as i64, x[0]),
-        17 => fit::swing_bytes_per_value(r, w[0] as usize, v),
-        18 => fit::swing_model(r, v),
+        17 => fit::swing_bytes_per_value(s, w[0] as usize, v),
+        18 => fit::swing_model(s, v),
         19 => fit::swing_sum_by_average(ends(), w[2] as usize, v),
         20 => fit::swing_sum_over(ends(), t, v),
         _ => fit::swing_grid(ends(), t, v),
@@ -179,7 +191,7 @@ fn of_the_choice(record: &mut Record) -> u32 {
     match call {
         22 => choice::new((x[0], x[1]), r),
         23 => choice::try_to_update_models(r, w[0] as i64, x[0]),
-        24 => choice::finish(r, w[0] as usize, s),
+        24 => choice::finish(s, w[0] as usize, r),
         _ => choice::choose_model(t, v, (x[0], x[1]), w[0] as usize, r),
     }
 }
@@ -214,5 +226,24 @@ fn of_segments(record: &mut Record) -> u32 {
                 _ => segments::segment_sum_over(segment, t, v),
             }
         }
+    }
+}
+
+fn of_the_reader(record: &mut Record) -> u32 {
+    let Record {
+        call,
+        x,
+        w,
+        p,
+        v,
+        r,
+        s,
+        ..
+    } = record;
+    match call {
+        34 => reader::open((x[0], x[1]), r),
+        35 => reader::next(p, r, v),
+        36 => reader::end(p, s),
+        _ => reader::last_value(p, w[0] as usize, (x[0], x[1]), v),
     }
 }

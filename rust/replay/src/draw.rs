@@ -1,7 +1,7 @@
 //! Inputs: any of a call's, and those at its limits.
 
 use crate::record::Record;
-use side_by_side::face::{self, choice, fit, segments};
+use side_by_side::face::{self, choice, fit, reader, segments};
 use side_by_side::inputs::{Inputs, SPECIAL};
 
 /// What memory holds before a call.
@@ -12,9 +12,11 @@ pub fn at_limits(call: usize) -> Vec<Record> {
     let mut inputs = Inputs::new(call as u64);
     let mut record = loop {
         let record = drawn(call, &mut inputs);
-        // The first two calls answer a value, and any of them will do; a line of 65,536 points has two ends.
+        // The first two calls answer a value, and any of them will do; a line of 65,536 points has two ends,
+        // and a reader behind as many values a place.
         let is_line = call != 16 || record.r.get(11).is_some_and(|&length| length > 1);
-        if call < 2 || record.answered().0 == 0 && is_line {
+        let has_place = call != 35 || record.r.get(4).is_some_and(|&place| place > 0);
+        if call < 2 || record.answered().0 == 0 && is_line && has_place {
             break record;
         }
     };
@@ -29,18 +31,18 @@ pub fn at_limits(call: usize) -> Vec<Record> {
             record.v = vec![0; 65_537];
             vec![record]
         }
-        6..=8 | 13 | 14 => {
+        6..=8 | 13 | 14 | 37 => {
             let place = usize::from(call == 6);
             record.w[place] = 65_537;
             vec![record]
         }
-        10 => with_length(record, 5),
+        10 | 35 => with_length(record, 5),
         16 => with_length(record, 11),
         19 => {
             record.w[2] = 65_537;
             vec![record]
         }
-        20 | 21 | 31.. => {
+        20 | 21 | 31..=33 => {
             record.t = vec![0; 65_537];
             vec![record]
         }
@@ -79,7 +81,8 @@ pub fn drawn(call: usize, inputs: &mut Inputs) -> Record {
         15..22 => of_swing(call, inputs),
         22..26 => of_the_choice(call, inputs),
         26..31 => of_parameters(call, inputs),
-        _ => of_reading(inputs),
+        31..34 => of_reading(inputs),
+        _ => of_the_reader(call, inputs),
     };
     Record { call, ..record }
 }
@@ -252,7 +255,7 @@ fn of_pmc_mean(call: usize, inputs: &mut Inputs) -> Record {
             record.r = handed(inputs, row);
         }
         11 | 12 => {
-            record.r = handed(inputs, row);
+            record.s = handed(inputs, row);
             record.v = room(inputs, 1, STALE.into());
             if call == 11 {
                 record.w = vec![metadata(inputs)];
@@ -283,7 +286,7 @@ fn of_swing(call: usize, inputs: &mut Inputs) -> Record {
             record.r = handed(inputs, row);
         }
         17 | 18 => {
-            record.r = handed(inputs, row);
+            record.s = handed(inputs, row);
             record.v = room(inputs, call - 16, STALE.into());
             if call == 17 {
                 record.w = vec![metadata(inputs)];
@@ -339,8 +342,8 @@ fn of_the_choice(call: usize, inputs: &mut Inputs) -> Record {
         }
         24 => {
             record.w = vec![metadata(inputs)];
-            record.r = handed(inputs, row);
-            record.s = room(inputs, 5, STALE.into());
+            record.s = handed(inputs, row);
+            record.r = room(inputs, 5, STALE.into());
         }
         _ => {
             let count = inputs.below(7) as usize;
@@ -441,5 +444,36 @@ fn of_reading(inputs: &mut Inputs) -> Record {
         ..Record::default()
     };
     record.v = room(inputs, count, STALE.into());
+    record
+}
+
+fn of_the_reader(call: usize, inputs: &mut Inputs) -> Record {
+    if call == 37 {
+        return of_streams(8, inputs);
+    }
+    let mut record = Record::default();
+    if call == 34 {
+        record.x = opening(inputs);
+        record.r = room(inputs, 6, STALE.into());
+        return record;
+    }
+    let (opened, count, _, mut bytes) = stream(inputs);
+    if inputs.flip() {
+        inputs.damage(&mut bytes);
+    }
+    let mut row = vec![0; 6];
+    reader::open(opened, &mut row);
+    for _ in 0..inputs.below(count as u64 + 1) {
+        reader::next(&bytes, &mut row, &mut [0]);
+    }
+    let row = handed(inputs, row);
+    record.p = bytes;
+    match call {
+        35 => {
+            record.v = room(inputs, 1, STALE.into());
+            record.r = row;
+        }
+        _ => record.s = row,
+    }
     record
 }

@@ -4,7 +4,8 @@ use crate::calls;
 use std::fmt::Write;
 
 /// What each list holds is said in crates/replay/src/calls.rt: `x` and `w` the numbers of 32 and of 64 bits in
-/// the order of the parameters, `t` timestamps, `p` and `q` bytes, `v` values, `r` and `s` rows.
+/// the order of the parameters, `t` timestamps, `p` and `q` bytes, `v` values, `s` a row that is
+/// only read and `r` one that is written.
 #[derive(Clone, Default)]
 pub struct Record {
     pub call: usize,
