@@ -10,24 +10,24 @@ use lib.Dec.{leb, ltb}
 use lib.ListN.{length, take, drop, getD}
 use Rattle.models.specs.Answers.{Said, answered, refused, SaidOn, answeredOn, refusedOn, Cause, _when_, judge, judgedOn}
 use Rattle.models.specs.Bound.{boundAllowed, BoundHeld}
-use Rattle.models.proofs.Judged.{NoneHolds, answered-only}
+use Rattle.models.proofs.Judged.{NoneHolds, answered-only, by-test}
 use Rattle.models.specs.declared.ErrorBound.{ErrorBound}
 use Rattle.exports.specs.Face.{boundOf, plainNumber}
 use Rattle.bits.specs.Bits.{Below, wholeBytes}
-use Rattle.bits.proofs.Below.{below-take}
-use Rattle.macaque_v.specs.State.{writerOf, isFirst, openingValue}
-use Rattle.macaque_v.specs.Calls.{lentBytes, writeCauses, writeAnswer, writeMemory}
+use Rattle.bits.proofs.Below.{below-nil, below-take}
+use Rattle.macaque_v.specs.State.{writerOf, isFirst, openingValue, opened}
+use Rattle.macaque_v.specs.Calls.{newAnswer, lentBytes, writeCauses, writeAnswer, writeMemory}
 use Rattle.macaque_v.specs.Read.{reopenCauses, reopenAnswer, reopenMemory, gridAnswer}
 use Rattle.stream.specs.Format.{usable}
 use Rattle.macaque_v.specs.Write.{writerAt, wroteBy}
 use Rattle.macaque_v.specs.Made.{Made}
 use Rattle.macaque_v.specs.declared.MacaqueV.{MacaqueV}
 use Rattle.macaque_v.specs.declared.Opening.{Opening}
-use Rattle.macaque_v.proofs.Promises.{stateAfter, a-write-goes-on, reopening-goes-back}
+use Rattle.macaque_v.proofs.Promises.{stateAfter, a-fresh-writer, a-write-goes-on, a-write-is-accepted, reopening-goes-back}
 use Rattle.macaque_v.proofs.Held.{Held, made-held}
-use Rattle.exports_stream.specs.Calls.{openingOf, rowIn, numberOn, rowOn, writeNumber, writeRow, writeBuffer, reopenNumber, reopenRow, reopenBuffer, gridNumber}
+use Rattle.exports_stream.specs.Calls.{openingOf, rowIn, newNumber, newRow, numberOn, rowOn, writeNumber, writeRow, writeBuffer, reopenNumber, reopenRow, reopenBuffer, gridNumber}
 use Rattle.exports.specs.Words.{small, boundIn}
-use Rattle.exports.proofs.Back.{bound-back, flag-small, flag-back}
+use Rattle.exports.proofs.Back.{bound-back, bound-of-held, bound-in-held, flag-small, flag-back}
 use Rattle.exports_stream.specs.Row.{rowOf, standsForState, read, writerIn}
 
 -- ---- a row is read back as the writer that it was made of
@@ -48,6 +48,62 @@ module _ {b : ErrorBound} {o : Opening} {xs buf : List ℕ} {m : MacaqueV} (M : 
   made-row rest =
       row-back m rest (subst BoundHeld (sym (ap (λ (w : MacaqueV). w .«error_bound») (M .writer))) f) (subst Held (sym (M .writer)) (made-held b o xs hl bx))
 
+-- row and buffer are what one fresh run over xs leaves: the row's writer has made the bytes
+pub record RowMade (b : ErrorBound) (o : Opening) (xs buf row : List ℕ) : Type 0 where
+  pub words : 10 ≤ length row
+  pub made : Made b o xs buf (writerIn row)
+
+row-long : (m : MacaqueV) (rest : List ℕ) → 10 ≤ length (rowOf m ++ rest)
+unfolding rowOf
+row-long m rest = omega arith
+
+-- a row that begins with a made writer's words
+module _ {b : ErrorBound} {o : Opening} {xs buf row : List ℕ} {m : MacaqueV} (M : Made b o xs buf m) (f : BoundHeld b) (hl : openingValue o < 2 ^ 32) (bx : Below 32 xs)
+    (rest : List ℕ) (is : row ≡ rowOf m ++ rest) where
+  row-made : RowMade b o xs buf row
+  row-made =
+      record {
+        words = subst (λ (r : List ℕ). 10 ≤ length r) (sym is) (row-long m rest);
+        made = subst (Made b o xs buf) (sym (ap writerIn is ∙ made-row M f hl bx rest)) M;
+      }
+
+-- whatever the words, the bound that they stand for is of its format
+writer-bound : (row : List ℕ) → BoundHeld ((writerIn row) .«error_bound»)
+unfolding writerIn
+writer-bound row = by-test (λ (m : MacaqueV). BoundHeld (m .«error_bound»)) (standsForState row) _ _ (λ h. held) (λ h. held)
+  where
+    held : BoundHeld (boundIn (getD row 0 0) (getD row 1 0))
+    held = bound-in-held (getD row 0 0) (getD row 1 0)
+
+-- ---- a new row
+
+module _ (kind bound mode value : ℕ) (row : List ℕ) (hl : openingValue (openingOf mode value) < 2 ^ 32) (ok : boundAllowed (boundOf kind bound) ≡ true)
+    (mode-is : mode ≤ 1) (words : 10 ≤ length row) where
+  abbrev newWriter : MacaqueV
+  newWriter = writerOf (boundOf kind bound) (isFirst (openingOf mode value)) (opened (openingOf mode value))
+
+  new-opens : newAnswer (boundOf kind bound) (openingOf mode value) ≡ answered newWriter
+  unfolding newAnswer judge
+  new-opens = rw ok
+
+  a-mode : ltb 1 mode ≡ false
+  a-mode = le-ltb 1 mode mode-is
+
+  has-words : ltb (length row) 10 ≡ false
+  has-words = le-ltb (length row) 10 words
+
+  -- an allowed bound, a mode and a row of ten words are accepted, and nothing of the buffer is in use, whatever it holds
+  pub a-new-row : (newNumber kind bound mode value row ≡ 0)
+      × ((buf : List ℕ) → RowMade (boundOf kind bound) (openingOf mode value) [] buf (newRow kind bound mode value row))
+  unfolding newNumber newRow judge
+  a-new-row =
+      let is : newRow kind bound mode value row ≡ rowOf newWriter ++ drop 10 row = rw (ok, a-mode, has-words) (ap (rowIn row) new-opens) in (
+        rw (ok, a-mode, has-words) (ap plainNumber new-opens),
+        λ buf. row-made (a-fresh-writer (boundOf kind bound) (openingOf mode value) buf newWriter new-opens) (bound-of-held kind bound) hl (below-nil 32) (drop 10 row) is,
+      )
+
+-- ---- writing through a row
+
 -- every number of a list of causes is above 0
 abbrev Positive : List Cause → Type 0
 Positive [] = Unit {0}
@@ -65,20 +121,24 @@ unfolding writeAnswer
 accepted-zero m ys buf h =
     no-zero m (writeCauses m ys (lentBytes (length buf))) (writerAt m (wroteBy m ys)) (omega arith, (omega arith, (omega arith, (omega arith, tt)))) h
 
-module _ {b : ErrorBound} {o : Opening} {xs buf : List ℕ} (row : List ℕ) (M : Made b o xs buf (writerIn row)) (f : BoundHeld b) (hl : openingValue o < 2 ^ 32)
-    (words : 10 ≤ length row) where
+module _ {b : ErrorBound} {o : Opening} {xs buf row : List ℕ} (R : RowMade b o xs buf row) (hl : openingValue o < 2 ^ 32) where
+  row-holds : leb 10 (length row) ≡ true
+  row-holds = le-leb 10 (length row) (R .words)
+
   -- an accepted write leaves the bytes of one fresh run, and a row that stands for its writer
-  pub a-row-goes-on : (ys : List ℕ) → Below 32 (xs ++ ys) → writeNumber row ys buf ≡ 0
-      → Made b o (xs ++ ys) (writeBuffer row ys buf) (writerIn (writeRow row ys buf))
+  pub a-row-goes-on : (ys : List ℕ) → Below 32 (xs ++ ys) → writeNumber row ys buf ≡ 0 → RowMade b o (xs ++ ys) (writeBuffer row ys buf) (writeRow row ys buf)
   unfolding writeNumber writeRow writeBuffer
   a-row-goes-on ys by h =
-      let holds : leb 10 (length row) ≡ true = le-leb 10 (length row) words in
       let n : MacaqueV = writerAt (writerIn row) (wroteBy (writerIn row) ys) in
-      let a : writeAnswer (writerIn row) ys buf ≡ answeredOn n = accepted-zero (writerIn row) ys buf (rw holds at h) in
-      let made : Made b o (xs ++ ys) (writeMemory (writerIn row) ys buf) n = a-write-goes-on M ys n a in
-      let left : rowOn row (writeAnswer (writerIn row) ys buf) ≡ rowOf n ++ drop 10 row = ap (rowOn row) a in
-      let stands : writerIn (rowOn row (writeAnswer (writerIn row) ys buf)) ≡ n = ap writerIn left ∙ made-row made f hl by (drop 10 row) in
-      rw holds (subst (λ (w : MacaqueV). Made b o (xs ++ ys) (writeMemory (writerIn row) ys buf) w) (sym stands) made)
+      let a : writeAnswer (writerIn row) ys buf ≡ answeredOn n = accepted-zero (writerIn row) ys buf (rw row-holds at h) in
+      let f : BoundHeld b = subst (λ (m : MacaqueV). BoundHeld (m .«error_bound»)) (R .made .writer) (writer-bound row) in
+      rw row-holds (row-made (a-write-goes-on (R .made) ys n a) f hl by (drop 10 row) (ap (rowOn row) a))
+
+  -- and it is accepted, wherever room and count limit allow
+  pub a-row-is-accepted : Below 32 xs → boundAllowed b ≡ true → (ys : List ℕ) → length xs + length ys ≤ 65536
+      → (stateAfter b o (xs ++ ys)) .place ≤ 8 * length buf → writeNumber row ys buf ≡ 0
+  unfolding writeNumber
+  a-row-is-accepted bx ok ys most room = rw row-holds (ap numberOn (a-write-is-accepted (R .made) bx hl ok ys most room))
 
 -- ---- reopening through a row
 
@@ -94,7 +154,7 @@ unfolding reopenAnswer
 reopened-free buf used count k o b n h = answered-only (reopenCauses b (length buf) used count k) _ n h .0
 
 module _ (kind bound mode value : ℕ) (row : List ℕ) {xs buf : List ℕ} {m : MacaqueV} (M : Made (boundOf kind bound) (openingOf mode value) xs buf m)
-    (f : BoundHeld (boundOf kind bound)) (hl : openingValue (openingOf mode value) < 2 ^ 32) (bx : Below 32 xs) (ok : boundAllowed (boundOf kind bound) ≡ true)
+    (hl : openingValue (openingOf mode value) < 2 ^ 32) (bx : Below 32 xs) (ok : boundAllowed (boundOf kind bound) ≡ true)
     (most : length xs ≤ 65536) (mode-is : mode ≤ 1) (words : 10 ≤ length row) where
   module _ (k : ℕ) (le : k ≤ length xs) where
     abbrev used : ℕ
@@ -132,13 +192,11 @@ module _ (kind bound mode value : ℕ) (row : List ℕ) {xs buf : List ℕ} {m :
 
     -- reopened at any k, the row stands for the writer after the first k inputs, and the cut bytes are those of one fresh run over these
     pub a-row-resumes : (reopenNumber buf used (length xs) k mode value kind bound row ≡ 0)
-        × Made (boundOf kind bound) (openingOf mode value) (take k xs) (reopenBuffer buf used (length xs) k mode value kind bound row)
-        (writerIn (reopenRow buf used (length xs) k mode value kind bound row))
+        × RowMade (boundOf kind bound) (openingOf mode value) (take k xs) (reopenBuffer buf used (length xs) k mode value kind bound row)
+        (reopenRow buf used (length xs) k mode value kind bound row)
     a-row-resumes =
         let made = reopening-goes-back M bx hl ok most k le .1 in
-        let stands : writerIn (reopenRow buf used (length xs) k mode value kind bound row) ≡ now =
-        ap writerIn row-is ∙ made-row made f hl (below-take 32 k xs bx) (drop 10 row) in
-        (number-is, rw (buffer-is, stands) made)
+        (number-is, rw buffer-is (row-made made (bound-of-held kind bound) hl (below-take 32 k xs bx) (drop 10 row) row-is))
 
 -- ---- words that stand for no state, or for no mode
 

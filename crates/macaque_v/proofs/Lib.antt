@@ -3,6 +3,7 @@ pub mod Promises
 pub mod Held
 pub mod Stepping
 pub mod Writing
+pub mod Near
 pub mod Accepting
 pub mod ReadingRun
 pub mod ReadingTally

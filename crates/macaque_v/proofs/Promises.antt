@@ -3,15 +3,14 @@
 use mathlib.Core.Path.{_≡_, refl, sym, ap, ap₂, _∙_, subst}
 use mathlib.Core.Bool.{Bool, true, false, cond, not}
 use mathlib.Core.List.{List, [], _∷_, _++_, foldl}
-use Prim.Native.Nat.{ℕ, _+_, _*_, _^_, _≤_, _<_, min}
-use native.Mathlib.Nat.{min-eq-left}
+use Prim.Native.Nat.{ℕ, _+_, _*_, _^_, _≤_, _<_}
 use native.Mathlib.Omega.{arith}
 use borrow.Author.Tests.{le-leb, le-ltb}
 use lib.Dec.{ltb}
 use lib.ListN.{length, take, drop}
 use lib.Seq.{length-take-le}
 use Rattle.bits.specs.Bits.{Below, bitsOf, wholeBytes, laidIn, cutIn}
-use Rattle.bits.proofs.Below.{below-take}
+use Rattle.bits.proofs.Below.{below-nil, below-take}
 use Rattle.bits.proofs.InBytes.{length-cutIn}
 use Rattle.models.specs.Answers.{Said, answered, refused, SaidOn, answeredOn, refusedOn, Done, Cause, _when_, judge, verdict}
 use Rattle.models.specs.Bound.{boundAllowed}
@@ -20,12 +19,13 @@ use Rattle.models.specs.declared.ErrorBound.the-variants.{Lossless}
 use Rattle.models.proofs.Judged.{none, accepted-only}
 use Rattle.models.proofs.Judged as judging
 use Rattle.stream.specs.Format.{State, macaque, mostValues, usable}
-use Rattle.stream.specs.Write.{wrote, kept, wroteIn, streamOf}
+use Rattle.stream.specs.Write.{keptFrom, kept, after, wrote, wroteIn, streamOf}
 use Rattle.stream.specs.Read.{Reading, done, stopped, readAll, Reopened, reopened, bufferAfter}
 use Rattle.stream.specs.Made as theory
 use Rattle.stream.proofs.Formats.{macaque-good}
 use Rattle.stream.proofs.Promises.{gathers-over-the-kept-values, gathers-each-value-once}
-use Rattle.stream.proofs.Writing.{count-after, length-kept, wrote-append, kept-lossless}
+use Rattle.stream.proofs.Rule.{usable-says, usable-if}
+use Rattle.stream.proofs.Writing.{fresh-small, count-after, length-kept, wrote-append, kept-lossless}
 use Rattle.stream.proofs.Made as spine
 use Rattle.stream.proofs.AnyStream.{any-resumed}
 use Rattle.coding.specs.Keep.{keepRule}
@@ -38,7 +38,8 @@ use Rattle.macaque_v.specs.declared.MacaqueV.{MacaqueV}
 use Rattle.macaque_v.specs.declared.Opening.{Opening}
 use Rattle.coding.proofs.Keeping.{keeps}
 use Rattle.macaque_v.proofs.Accepting.{accepted}
-use Rattle.macaque_v.proofs.Writing.{place-grows}
+use Rattle.macaque_v.proofs.Writing.{written-count, place-grows}
+use Rattle.macaque_v.proofs.Near.{Near, NearIn, wrote-near, all-near}
 
 -- ---- the spine, as the theory of streams has it
 
@@ -58,16 +59,17 @@ in-theory {b} {o} {xs} {buf} {m} M =
       bytes = subst (λ (w : MacaqueV). take (wholeBytes (w .place)) buf ≡ streamOf (keepRule b) (streamIn (isFirst o)) (openingValue o) xs) (M .writer) (M .bytes);
     }
 
--- a state that may be used, under an allowed bound: where room and count limit allow, nothing refuses
-allowed : (b : ErrorBound) (o : Opening) (s : State Ends) (ys buf : List ℕ) → boundAllowed b ≡ true → usable macaque (length buf) s ≡ true
-    → s .count + length ys ≤ 65536 → (wrote (keepRule b) (streamIn (isFirst o)) s ys) .place ≤ 8 * length buf → length buf ≤ 2 ^ 60
+-- a state that may be used and is near the start, under an allowed bound: where room and count limit allow, nothing refuses
+allowed : (b : ErrorBound) (o : Opening) (s : State Ends) (ys buf : List ℕ) → boundAllowed b ≡ true → usable macaque (length buf) s ≡ true → Near s
+    → s .count + length ys ≤ 65536 → (wrote (keepRule b) (streamIn (isFirst o)) s ys) .place ≤ 8 * length buf
     → writeAnswer (writerOf b (isFirst o) s) ys buf ≡ answeredOn (writerOf b (isFirst o) (wrote (keepRule b) (streamIn (isFirst o)) s ys))
 unfolding writeAnswer judge
-allowed b o s ys buf ok free most room long =
-    let all : lentBytes (length buf) ≡ length buf = min-eq-left long in
-    let may : usable macaque (lentBytes (length buf)) s ≡ true = ap (λ (n : ℕ). usable macaque n s) all ∙ free in
+allowed b o s ys buf ok free near most room =
+    let m : MacaqueV = writerOf b (isFirst o) s in
+    let says = usable-says macaque macaque-good (length buf) s free in
+    let may : usable macaque (lentBytes (length buf)) s ≡ true = usable-if macaque macaque-good (lentBytes (length buf)) s (omega (arith, says .0)) (omega arith) (says .2) in
     let few : tooMany (s .count) (length ys) ≡ false = le-ltb 65536 (s .count + length ys) (omega arith) in
-    let fits = le-leb ((wrote (keepRule b) (streamIn (isFirst o)) s ys) .place) (8 * lentBytes (length buf)) (omega arith) in
+    let fits = le-leb ((wroteBy m ys) .place) (8 * lentBytes (length buf)) (omega (arith, wrote-near m ys near, written-count m ys)) in
     rw (ok, may, few, fits)
 
 -- ---- writing, from the state s that the theory speaks of
@@ -93,15 +95,16 @@ module _ (b : ErrorBound) (o : Opening) (xs buf : List ℕ) (s : State Ends)
 
   -- where the bound is allowed, and room and count limit allow, nothing refuses
   accepts : Below 32 xs → openingValue o < 2 ^ 32 → boundAllowed b ≡ true → (ys : List ℕ) → length xs + length ys ≤ 65536
-      → (wrote (keepRule b) (streamIn (isFirst o)) s ys) .place ≤ 8 * length buf → length buf ≤ 2 ^ 60
+      → (wrote (keepRule b) (streamIn (isFirst o)) s ys) .place ≤ 8 * length buf
       → writeAnswer (writerOf b (isFirst o) s) ys buf ≡ answeredOn (writerOf b (isFirst o) (wrote (keepRule b) (streamIn (isFirst o)) s ys))
-  accepts bx hl ok ys most room long =
+  accepts bx hl ok ys most room =
       let vs : List ℕ = kept (keepRule b) (streamIn (isFirst o)) (opened o) xs in
       let counted : s .count ≡ length xs =
       ap (λ (t : State Ends). t .count) (M .state) ∙ count-after (streamIn (isFirst o)) (opened o) vs ∙ omega (arith, length-kept (streamIn (isFirst o)) (keepRule b) (opened o) xs) in
       let free : usable macaque (length buf) s ≡ true =
       spine.made-usable (keepRule b) (streamIn (isFirst o)) (openingValue o) M macaque-good (keeps b 32) hl bx (omega arith) in
-      allowed b o s ys buf ok free (omega arith) room long
+      let near : Near s = subst Near (sym (M .state)) (wrote-near (writerOf b (isFirst o) (opened o)) xs (omega arith)) in
+      allowed b o s ys buf ok free near (omega arith) room
 
 -- reopening the first `used` bytes of buf, which hold xs, at k, and writing ys: what is answered, and what is left
 pub record ResumesAsOne (b : ErrorBound) (o : Opening) (xs buf : List ℕ) (used k : ℕ) (ys : List ℕ) : Type 0 where
@@ -132,12 +135,12 @@ module _ {b : ErrorBound} {o : Opening} {xs buf : List ℕ} {m : MacaqueV} (M : 
 
   -- and it is accepted, wherever room and count limit allow
   pub a-write-is-accepted : Below 32 xs → openingValue o < 2 ^ 32 → boundAllowed b ≡ true → (ys : List ℕ) → length xs + length ys ≤ 65536
-      → (stateAfter b o (xs ++ ys)) .place ≤ 8 * length buf → length buf ≤ 2 ^ 60
+      → (stateAfter b o (xs ++ ys)) .place ≤ 8 * length buf
       → writeAnswer m ys buf ≡ answeredOn (writerOf b (isFirst o) (stateAfter b o (xs ++ ys)))
-  a-write-is-accepted bx hl ok ys most room long =
+  a-write-is-accepted bx hl ok ys most room =
       let next : stateAfter b o (xs ++ ys) ≡ wrote (keepRule b) (streamIn (isFirst o)) (stateAfter b o xs) ys = wrote-append (streamIn (isFirst o)) (keepRule b) (opened o) xs ys in
       ap (λ (w : MacaqueV). writeAnswer w ys buf) (M .writer)
-      ∙ accepts b o xs buf (stateAfter b o xs) (in-theory M) bx hl ok ys most (subst (λ (t : State Ends). t .place ≤ 8 * length buf) next room) long
+      ∙ accepts b o xs buf (stateAfter b o xs) (in-theory M) bx hl ok ys most (subst (λ (t : State Ends). t .place ≤ 8 * length buf) next room)
       ∙ ap (λ (t : State Ends). answeredOn (writerOf b (isFirst o) t)) (sym next)
 
   -- ---- demand 3, resuming: reopened at any k from 0 to n, the writer is in the state that it had after its first k inputs, and the cut bytes are
@@ -209,14 +212,14 @@ module _ {b : ErrorBound} {o : Opening} {xs buf : List ℕ} {m : MacaqueV} (M : 
   -- reopened at any k, any further list that room and count limit allow is accepted, and leaves the bytes and the writer of one fresh
   -- run over the first k inputs and the list
   pub resumed-as-one-run : Below 32 xs → openingValue o < 2 ^ 32 → boundAllowed b ≡ true → length xs ≤ 65536 → (k : ℕ) → k ≤ length xs → (ys : List ℕ)
-      → k + length ys ≤ 65536 → (stateAfter b o (take k xs ++ ys)) .place ≤ 8 * length buf → length buf ≤ 2 ^ 60
+      → k + length ys ≤ 65536 → (stateAfter b o (take k xs ++ ys)) .place ≤ 8 * length buf
       → ResumesAsOne b o xs buf (wholeBytes (m .place)) k ys
-  resumed-as-one-run bx hl ok most k le ys few room long =
+  resumed-as-one-run bx hl ok most k le ys few room =
       let used : ℕ = wholeBytes (m .place) in
       let back = reopening-goes-back M bx hl ok most k le in
       let same : length (reopenMemory buf used (length xs) k o b) ≡ length buf = reopened-long bx hl ok most k le in
       let firsts : length (take k xs) ≡ k = length-take-le k xs le in
-      let accepted = a-write-is-accepted (back .1) (below-take 32 k xs bx) hl ok ys (omega arith) (omega (arith, room)) (omega (arith, long)) in
+      let accepted = a-write-is-accepted (back .1) (below-take 32 k xs bx) hl ok ys (omega arith) (omega (arith, room)) in
       record { opens = back .0; accepts = accepted; made = a-write-goes-on (back .1) ys _ accepted }
 
 -- "Minimum and maximum start fresh and take in each kept value from the left, the raw first one too, and never an input that was not kept": the writer after
@@ -257,7 +260,7 @@ pub record Resumes (b : ErrorBound) (o : Opening) (n k used : ℕ) (buf vs : Lis
   pub writer : MacaqueV
   pub opens : reopenAnswer buf used n k o b ≡ answered writer
   -- any further list that room and count limit allow is accepted
-  pub accepts : (ys : List ℕ) → k + length ys ≤ 65536 → (wroteBy writer ys) .place ≤ 8 * length buf → length buf ≤ 2 ^ 60
+  pub accepts : (ys : List ℕ) → k + length ys ≤ 65536 → (wroteBy writer ys) .place ≤ 8 * length buf
       → writeAnswer writer ys (reopenMemory buf used n k o b) ≡ answeredOn (writerAt writer (wroteBy writer ys))
   pub reads : (ys : List ℕ) → Below 32 ys → (after : MacaqueV) → writeAnswer writer ys (reopenMemory buf used n k o b) ≡ answeredOn after
       → valuesIn (take (wholeBytes (after .place)) (writeMemory writer ys (reopenMemory buf used n k o b))) (k + length ys) o
@@ -289,7 +292,7 @@ module _ (b : ErrorBound) (o : Opening) (t : State Ends) (ys buf : List ℕ) (af
 
 pub any-stream-resumes : (b : ErrorBound) (o : Opening) (n k used : ℕ) (buf vs : List ℕ) → boundAllowed b ≡ true → openingValue o < 2 ^ 32 → n ≤ 65536
     → k ≤ n → used ≤ length buf → valuesIn (take used buf) n o ≡ answered vs → Resumes b o n k used buf vs
-unfolding reopenAnswer reopenMemory judge
+unfolding reopenAnswer reopenMemory judge keptFrom after
 any-stream-resumes b o n k used buf vs ok hl most le fits h =
     let S = streamIn (isFirst o) in
     let w = read-whole (readAll S n (opened o) (bitsOf (take used buf))) vs h in
@@ -300,12 +303,13 @@ any-stream-resumes b o n k used buf vs ok hl most le fits h =
     let t : State Ends = R .state in
     let memory : reopenMemory buf used n k o b ≡ cutIn buf (t .place) = rw (ok, few, inside, held) (ap (λ (q : Reopened Ends). bufferAfter q buf) (R .opens)) in
     let long : length (cutIn buf (t .place)) ≡ length buf = length-cutIn buf (t .place) (omega (arith, R .placed)) in
+    let near : Near t = subst NearIn (R .reads [] (below-nil 32) (omega (arith, R .placed))) (all-near (isFirst o) (k + 0) (opened o) _ (fresh-small S 32 (openingValue o) hl) (omega arith)) in
     record {
       writer = writerOf b (isFirst o) t;
       opens = rw (ok, few, inside, held) (ap (resumed b (isFirst o)) (R .opens));
-      accepts = λ ys most room most-bytes.
+      accepts = λ ys most room.
           ap (writeAnswer (writerOf b (isFirst o) t) ys) memory
-          ∙ allowed b o t ys (cutIn buf (t .place)) ok (subst (λ (z : ℕ). usable macaque z t ≡ true) (sym long) (R .mayBeUsed)) (omega (arith, R .counted)) (omega (arith, long)) (omega (arith, long));
+          ∙ allowed b o t ys (cutIn buf (t .place)) ok (subst (λ (z : ℕ). usable macaque z t ≡ true) (sym long) (R .mayBeUsed)) near (omega (arith, R .counted)) (omega (arith, long));
       reads = λ ys by after e.
           let u = wrote-on b o t ys (cutIn buf (t .place)) after (ap (writeAnswer (writerOf b (isFirst o) t) ys) (sym memory) ∙ e) in
           let room : (wrote (keepRule b) S t ys) .place ≤ 8 * length buf = omega (arith, u .1, long) in

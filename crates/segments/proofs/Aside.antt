@@ -90,7 +90,7 @@ module _ (b : ErrorBound) (last : ℕ) (small : last < 2 ^ 32) (xs : List ℕ) (
   module _ (m : MacaqueV) (opens : newAnswer b (On last) ≡ answered m) (buf : List ℕ) (long : length buf ≡ 1436) where
     pub written-aside : writeAnswer m xs buf ≡ answeredOn (writerOf b false (residualsOn b last xs))
     written-aside =
-        a-write-is-accepted (a-fresh-writer b (On last) buf m opens) (λ i. omega arith) small (opened-allowed b last m opens) xs (omega arith) (omega (arith, residuals-place)) (omega arith)
+        a-write-is-accepted (a-fresh-writer b (On last) buf m opens) (λ i. omega arith) small (opened-allowed b last m opens) xs (omega arith) (omega (arith, residuals-place))
 
     module _ (n : MacaqueV) (h : writeAnswer m xs buf ≡ answeredOn n) where
       same-writer : n ≡ writerOf b false (residualsOn b last xs)
