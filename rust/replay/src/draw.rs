@@ -7,8 +7,64 @@ use side_by_side::inputs::{Inputs, SPECIAL};
 /// What memory holds before a call.
 const STALE: u8 = 0x5A;
 
-/// Records that no drawing finds: counts and lists above their limits, and states at them.
+/// "At most 65,536 values a call or stream".
+const MOST: usize = 65_536;
+
+/// 1.0.
+const ONE: u32 = 0x3F80_0000;
+
+/// Records that no drawing finds: at the limits of counts, lists and states, and above them.
 pub fn at_limits(call: usize) -> Vec<Record> {
+    let mut records = above_limits(call);
+    let accepted = within_limits(call);
+    records.extend(accepted.into_iter().map(|record| Record { call, ..record }));
+    records
+}
+
+/// As many values as a call takes, all the same, so that their lines are short: each of them is coded in two
+/// bits, those of a repeat, but for a stream's first, which is stored in full.
+fn within_limits(call: usize) -> Vec<Record> {
+    let repeats = vec![0xAA; MOST / 4];
+    let out = |places| vec![STALE.into(); places];
+    let most = MOST as u64;
+    let record = Record::default();
+    match call {
+        // The bytes that it takes, and one less.
+        5 => [MOST / 4 + 4, MOST / 4 + 3].map(written).to_vec(),
+        6 => [0, 1, most].map(reopened).to_vec(),
+        7 | 8 | 37 => vec![Record {
+            x: vec![1, ONE],
+            w: vec![most],
+            p: repeats,
+            v: out(if call == 7 { MOST } else { 1 }),
+            ..record
+        }],
+        13 | 14 => vec![Record {
+            x: vec![ONE],
+            w: vec![most],
+            v: out(if call == 14 { MOST } else { 1 }),
+            ..record
+        }],
+        19 => vec![Record {
+            x: vec![ONE, ONE],
+            w: vec![0, 10, most],
+            v: out(1),
+            ..record
+        }],
+        30 => vec![Record {
+            x: vec![0, ONE, ONE, 0, 0],
+            v: vec![0; 255],
+            p: vec![STALE; 8],
+            q: vec![STALE; 6 * 255],
+            r: vec![STALE.into(); 4],
+            ..record
+        }],
+        _ => vec![],
+    }
+}
+
+/// Counts and lists above their limits, and states at and above them.
+fn above_limits(call: usize) -> Vec<Record> {
     let mut inputs = Inputs::new(call as u64);
     let mut record = loop {
         let record = drawn(call, &mut inputs);
@@ -59,6 +115,29 @@ pub fn at_limits(call: usize) -> Vec<Record> {
             vec![record]
         }
         _ => vec![],
+    }
+}
+
+/// The most values, written with the first in full into so many bytes.
+fn written(bytes: usize) -> Record {
+    let mut row = vec![0; 10];
+    face::new((0, 0), (0, 0), &mut row);
+    Record {
+        p: vec![STALE; bytes],
+        v: vec![ONE; MOST],
+        r: row,
+        ..Record::default()
+    }
+}
+
+/// A stream of the most values, reopened behind the first k.
+fn reopened(k: u64) -> Record {
+    Record {
+        x: vec![1, ONE, 0, 0],
+        w: vec![MOST as u64 / 4, MOST as u64, k],
+        p: vec![0xAA; MOST / 4],
+        r: vec![STALE.into(); 10],
+        ..Record::default()
     }
 }
 
@@ -476,4 +555,24 @@ fn of_the_reader(call: usize, inputs: &mut Inputs) -> Record {
         _ => record.s = row,
     }
     record
+}
+
+#[cfg(test)]
+mod tests {
+    use super::{Record, within_limits};
+
+    /// At its limit a call is accepted, but for the write that lacks a byte.
+    #[test]
+    fn limits_are_accepted() {
+        let answers = |call: usize| -> Vec<u64> {
+            let records = within_limits(call).into_iter();
+            let records = records.map(|record| Record { call, ..record });
+            records.map(|record| record.answered().0).collect()
+        };
+        assert_eq!(answers(5), [0, 4]);
+        assert_eq!(answers(6), [0, 0, 0]);
+        for call in [7, 8, 13, 14, 19, 30, 37] {
+            assert_eq!(answers(call), [0], "call {call}");
+        }
+    }
 }

@@ -39,6 +39,7 @@ impl Record {
         for (name, words) in &before {
             put(&mut line, *name, words);
         }
+        put(&mut line, 's', &self.s);
         _ = write!(line, " : {number:x}");
         for ((name, words), (_, before)) in after.iter().zip(&before) {
             if words != before {
@@ -49,13 +50,12 @@ impl Record {
     }
 
     /// The memory that a call may change.
-    fn lent(&self) -> [(char, Vec<u64>); 5] {
+    fn lent(&self) -> [(char, Vec<u64>); 4] {
         [
             ('p', wide(&self.p)),
             ('q', wide(&self.q)),
             ('v', wide(&self.v)),
             ('r', self.r.clone()),
-            ('s', self.s.clone()),
         ]
     }
 }
