@@ -1,7 +1,7 @@
 // Replays the list of the oracle's answers in standard input: makes each call that it holds, and compares
 // what the call answers and all memory that it was lent with what the oracle answered and left. Standard
-// output has a line for each title of the list, how many answers were replayed behind it and how many of
-// them differ, and a line for each line of the list that differs or cannot be read.
+// output has a line for each title of the list: how many answers were replayed behind it and how many of them
+// differ, and before that the number of each line that differs or cannot be read.
 
 use at::At;
 use libc::STDIN_FILENO;

@@ -1,6 +1,6 @@
 // A line of the list, read byte by byte into words:
 //
-//    CALL x .. w .. t .. p .. q .. v .. r .. s .. : NUMBER p .. q .. v .. r .. s ..
+//    CALL x .. w .. t .. p .. q .. v .. r .. s .. : NUMBER p .. q .. v .. r ..
 //
 // hexadecimal words between single letters that name the lists (calls.rt says what each holds), first
 // the call's number and what it is handed, then what it must answer and leave. A list that is not named
@@ -33,7 +33,7 @@ pub const ANSWER: usize = 9;
 
 pub const SHIFT: usize = 6;
 
-const LAST: usize = 14;
+const LAST: usize = 13;
 
 // What is known of a line so far. Its marks are, for each list, where its words begin, 0 for a list that
 // is not named, and ENDS places on, where they end.
