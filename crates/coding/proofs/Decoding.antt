@@ -2,18 +2,21 @@
 use mathlib.Core.Path.{_≡_, sym, ap, ap₂, _∙_}
 use mathlib.Core.Logic.{_⊎_, ⊎-map}
 use mathlib.Core.Bool.{true, false}
+use mathlib.Core.List.{List}
 use Prim.Native.Nat.{ℕ, _+_, _-_, _*_, _%_, _^_, _≤_, _<_}
 use native.Mathlib.Omega.{arith}
 use lib.Bits.{bitXor}
-use lib.ListN.{length}
+use lib.ListN.{length, take, drop}
 use lib.Pow.{shl-exact}
-use Rattle.bits.specs.Bits.{field, fieldAt}
+use Rattle.bits.specs.Bits.{field, fieldAt, bitsOf}
 use Rattle.stream.specs.Format.{macaque, Window, span}
 use Rattle.stream.specs.Read.{got, refused, windowRead, readRaw, readOne}
 use Rattle.stream.proofs.OneValue.{enough}
 use Rattle.stream.proofs.Branches as branch
 use Rattle.coding.specs.Code.{windowIn}
-use Rattle.coding.specs.Ahead.{bitsIn, IsPart}
+use Rattle.coding.specs.Ahead.{bitsIn, IsPart, saysStep, KeptSays}
+use Rattle.coding.specs.declared.decode.Decoded.{Decoded}
+use Rattle.coding.specs.declared.decode.Decoded.the-variants.{Got, Refused}
 use Rattle.coding.proofs.Words.{bits-in-long, part-in}
 
 module _ (word left : ℕ) (most : left ≤ 45) (win : Window) (l : ℕ) where
@@ -106,3 +109,9 @@ module _ (word left : ℕ) (most : left ≤ 45) (win : Window) (l : ℕ) where
             (omega (arith, bits-in-long word left most, im))
             ∙ ap₂ (λ (x z : ℕ). got (bitXor (fieldAt 13 z (bitsIn word left) * 2 ^ (32 - x - z)) l) (windowRead macaque x z) (13 + z)) ia im
             ∙ ap (λ (n : ℕ). at (n * 2 ^ (32 - a - m))) (part-in word left most y 13 m (py .is) d))
+
+-- what was decoded of the bits ahead is what stands at the place
+pub kept-says : (bytes : List ℕ) (place lead trail last word : ℕ) (r : Decoded) → bitsIn word 45 ≡ take 45 (drop place (bitsOf bytes))
+    → saysStep r ≡ readOne macaque false (windowIn lead trail) last (bitsIn word 45) → KeptSays bytes place lead trail last r
+kept-says bytes place lead trail last word (Got v l t u) e f = sym (f ∙ ap (readOne macaque false (windowIn lead trail) last) e)
+kept-says bytes place lead trail last word (Refused r) e f = tt

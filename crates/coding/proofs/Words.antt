@@ -63,7 +63,7 @@ module _ (bytes : List ℕ) (place n : ℕ) (h : place + n ≤ 8 * length bytes)
   rest-long = length-drop place (bitsOf bytes) ∙ ap (λ (k : ℕ). k - place) (length-bitsOf bytes)
 
   -- n bits from the place on, moved to the top of a word
-  moved : take n (field 64 (fieldAt place n (bitsOf bytes) * 2 ^ (64 - n))) ≡ take n (drop place (bitsOf bytes))
+  pub moved : take n (field 64 (fieldAt place n (bitsOf bytes) * 2 ^ (64 - n))) ≡ take n (drop place (bitsOf bytes))
   moved =
       let v : ℕ = fieldAt place n (bitsOf bytes) in
       let m : ℕ = 64 - n in

@@ -1,12 +1,13 @@
 -- The bits ahead of a place as a word, and what one value read of them says. Assumes nothing.
 use mathlib.Core.Path.{_≡_}
-use mathlib.Core.Bool.{Bool}
-use mathlib.Core.List.{List}
-use Prim.Native.Nat.{ℕ, _+_, _^_, _≤_, _<_}
-use lib.ListN.{take, drop}
+use mathlib.Core.Bool.{Bool, true, false}
+use mathlib.Core.List.{List, [], _∷_}
+use Prim.Native.Nat.{ℕ, zero, suc, _+_, _*_, _^_, _≤_, _<_}
+use lib.ListN.{length, take, drop}
 use Rattle.bits.specs.Bits.{field, fieldAt, bitsOf}
 use Rattle.models.specs.Refusals.{number}
-use Rattle.stream.specs.Read.{Step, got, refused}
+use Rattle.stream.specs.Format.{macaque}
+use Rattle.stream.specs.Read.{Step, got, refused, readOne}
 use Rattle.coding.specs.Code.{windowIn}
 use Rattle.coding.specs.declared.decode.Ahead.{Ahead}
 use Rattle.coding.specs.declared.decode.Decoded.{Decoded}
@@ -29,6 +30,32 @@ pub record IsAhead (bytes : List ℕ) (place : ℕ) (r : Ahead) : Type 0 where
   pub bits : bitsIn (r .word) (r .left) ≡ take 45 (drop place (bitsOf bytes))
   pub most : r .left ≤ 45
 
+-- ---- repeats
+
+-- the code words of k repeats
+unfoldable pub repeated : ℕ → List Bool
+repeated zero = []
+repeated (suc k) = true ∷ false ∷ repeated k
+
+-- a word begins with k repeats
+pub record AtTop (word k : ℕ) : Type 0 where
+  pub bits : take (2 * k) (field 64 word) ≡ repeated k
+  pub most : k ≤ 28
+
+-- k repeats stand at the place
+pub record RepeatsAt (bytes : List ℕ) (place k : ℕ) : Type 0 where
+  pub bits : take (2 * k) (drop place (bitsOf bytes)) ≡ repeated k
+  pub there : place + 2 * k ≤ 8 * length bytes
+  pub most : k ≤ 28
+
+-- ---- one value
+
 abbrev pub saysStep : Decoded → Step
 saysStep (Got value lead trail used) = got value (windowIn lead trail) used
 saysStep (Refused r) = refused (number r)
+
+-- a value that is got is the one at the place
+abbrev pub KeptSays : List ℕ → ℕ → ℕ → ℕ → ℕ → Decoded → Type 0
+KeptSays bytes place lead trail last (Got value lead′ trail′ used) =
+    readOne macaque false (windowIn lead trail) last (take 45 (drop place (bitsOf bytes))) ≡ got value (windowIn lead′ trail′) used
+KeptSays bytes place lead trail last (Refused r) = Unit

@@ -7,7 +7,7 @@ ghost use Rattle.bits.specs.Bits.{field, fieldAt};
 ghost use Rattle.stream.specs.Format.{macaque};
 ghost use Rattle.stream.specs.Read.{readOne};
 ghost use Rattle.coding.specs.Code.{windowIn};
-ghost use Rattle.coding.specs.Ahead.{Held, bitsIn, IsPart, IsAhead, saysStep};
+ghost use Rattle.coding.specs.Ahead.{Held, bitsIn, IsPart, IsAhead, AtTop, RepeatsAt, saysStep, KeptSays};
 use models::Refusal;
 
 // ---- the bits ahead
@@ -59,6 +59,30 @@ fn part(word: u64, skip: usize, width: usize) -> u32
     ensures { λ r. ⌜ IsPart word skip width r ⌝ }
 {
     ((word << skip) >> (64 - width)) as u32
+}
+
+// ---- repeats
+
+// How many repeats stand at the place, as far as eight bytes from there on say it: 28 at most.
+pub fn repeats(bytes: &[u8], place: usize) -> usize
+    requires { ⌜ place ≤ 8 * length (now bytes) ⌝ }
+    ensures { λ r. ⌜ RepeatsAt (now (bytes .entry)) place r ⌝ }
+{
+    if bytes.len() - place / 8 < 8 {
+        return 0;
+    }
+    at_top(bits::word_at(bytes, place))
+}
+
+// How many repeats a word begins with, 28 at most: each is `10`.
+fn at_top(word: u64) -> usize
+    ensures { λ r. ⌜ AtTop word r ⌝ }
+{
+    let k = (u64::leading_zeros(word ^ 0xAAAA_AAAA_AAAA_AAAA) / 2) as usize;
+    if 28 < k {
+        return 28;
+    }
+    k
 }
 
 // ---- one value
@@ -136,6 +160,21 @@ fn in_window(word: u64, left: usize, lead: u32, trail: u32, last: u32) -> Decode
         trail,
         used: 1 + width,
     }
+}
+
+// The value at a place, where it is coded in the last window and eight bytes stand from there on: any other is refused here.
+pub fn kept_at(bytes: &[u8], place: usize, lead: u32, trail: u32, last: u32) -> Decoded
+    requires { ⌜ (place ≤ 8 * length (now bytes)) × Held lead trail ⌝ }
+    ensures { λ r. ⌜ KeptSays (now (bytes .entry)) place lead trail last r ⌝ }
+{
+    if bytes.len() - place / 8 < 8 {
+        return Decoded::Refused(Refusal::EndsEarly);
+    }
+    let word = bits::word_at(bytes, place);
+    if part(word, 0, 1) != 0 {
+        return Decoded::Refused(Refusal::NoWindow);
+    }
+    in_window(word, 45, lead, trail, last)
 }
 
 // `11`, a header that sets a new window, then the bits in it.

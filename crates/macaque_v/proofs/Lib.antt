@@ -6,6 +6,7 @@ pub mod Writing
 pub mod Near
 pub mod Accepting
 pub mod ReadingRun
+pub mod Repeating
 pub mod ReadingTally
 pub mod ReadingEnd
 pub mod ReadingAll

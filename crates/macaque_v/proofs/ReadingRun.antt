@@ -7,7 +7,7 @@ use Prim.Native.Nat.{ℕ, suc, _+_, _-_, _*_, _≤_, _<_}
 use native.Mathlib.Nat.{min-le-left, min-le-right}
 use native.Mathlib.Numerals.{add-one}
 use native.Mathlib.Omega.{arith}
-use lib.ListN.{length, take, drop, getD, set, length-append, length-take, length-drop}
+use lib.ListN.{length, take, drop, getD, set, length-append, length-take, length-drop, length-set}
 use lib.Seq.{take-suc, take-suc-set, drop-cons, drop-drop, drop-set-lt, set-at, append-snoc, length-take-le}
 use Rattle.bits.specs.Bits.{bitsOf}
 use Rattle.bits.proofs.Bytes.{length-bitsOf}
@@ -23,7 +23,7 @@ use Rattle.stream.proofs.Steps.{read-stopped}
 use Rattle.macaque_v.specs.State.{modeOf}
 use Rattle.coding.specs.Code.{windowIn}
 use Rattle.coding.specs.Ahead.{Held}
-use Rattle.macaque_v.specs.ReadRun.{stateAt, Stands, readFrom, Reads, StopsBy}
+use Rattle.macaque_v.specs.ReadRun.{stateAt, Stands, readFrom, Reads, ReadsOn, StopsBy}
 use Rattle.macaque_v.specs.declared.read_run.Cursor.{Cursor}
 use Rattle.coding.proofs.Words.{read-of-45}
 
@@ -139,16 +139,38 @@ module _ (first : Bool) (bytes : List ℕ) where
 
   -- ---- into lent memory
 
-  pub filled-more : {from at to : Cursor} (i : ℕ) (old new : List ℕ) → Reads first bytes from i (take i new) at → drop i new ≡ drop i old → i < length new
-      → Reads first bytes at 1 (to .last ∷ []) to
-      → Reads first bytes from (i + 1) (take (i + 1) (set new i (to .last))) to × (drop (i + 1) (set new i (to .last)) ≡ drop (i + 1) old)
-  filled-more {from} {at} {to} i old new R e h Q =
-      let v : ℕ = to .last in
-      let more : i < i + 1 = omega arith in
-      let front : take (i + 1) (set new i v) ≡ take i new ++ (v ∷ []) = ap (λ (n : ℕ). take n (set new i v)) (add-one i) ∙ take-suc-set new i v h in (
-        subst (λ (us : List ℕ). Reads first bytes from (i + 1) us to) (sym front) (reads-then R Q),
-        drop-set-lt (i + 1) new i v more ∙ sym (drop-drop 1 i new) ∙ ap (drop 1) e ∙ drop-drop 1 i old,
-      )
+  -- i values stand in the first i places, and the places from n on keep what they held
+  pub record Filled (from : Cursor) (n i : ℕ) (old new : List ℕ) (at : Cursor) : Type 0 where
+    pub reads : Reads first bytes from i (take i new) at
+    pub back : drop n new ≡ drop n old
+    pub fits : i ≤ n
+    pub long : length new ≡ length old
+
+  module _ {from at : Cursor} (n i : ℕ) (old new : List ℕ) (F : Filled from n i old new at) where
+    pub filled-more : {to : Cursor} → i < n → n ≤ length old → Reads first bytes at 1 (to .last ∷ []) to → Filled from n (i + 1) old (set new i (to .last)) to
+    filled-more {to} h g Q =
+        let v : ℕ = to .last in
+        let less : i < length new = omega (arith, F .long) in
+        let front : take (i + 1) (set new i v) ≡ take i new ++ (v ∷ []) = ap (λ (k : ℕ). take k (set new i v)) (add-one i) ∙ take-suc-set new i v less in
+        record {
+          reads = subst (λ (us : List ℕ). Reads first bytes from (i + 1) us to) (sym front) (reads-then (F .reads) Q);
+          back = drop-set-lt n new i v h ∙ F .back;
+          fits = omega arith;
+          long = length-set new i v ∙ F .long;
+        }
+
+    pub filled-on : {to : Cursor} {new′ : List ℕ} → ReadsOn first bytes at i n new new′ to → (j : ℕ) → j ≡ i + (to .count - at .count) → Filled from n j old new′ to
+    filled-on {to} {new′} Q j e =
+        let k : ℕ = Q .many in
+        let is : i + k ≡ j = omega (arith, Q .reads .counted) in
+        record {
+          reads =
+              subst (λ (m : ℕ). Reads first bytes from m (take m new′) to) is
+              (subst (λ (us : List ℕ). Reads first bytes from (i + k) us to) (sym (Q .front)) (reads-then (F .reads) (Q .reads)));
+          back = Q .back ∙ F .back;
+          fits = omega (arith, Q .fits);
+          long = Q .long ∙ F .long;
+        }
 
 -- one value more is copied
 pub copied-more : (values old : List ℕ) (i : ℕ) → i < length values → i < length old

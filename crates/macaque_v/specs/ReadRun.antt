@@ -1,7 +1,7 @@
 -- Reading value after value in lent bytes: where reading stands, what it read, what is taken in of the values, and what is left. Assumes nothing.
 use mathlib.Core.Path.{_≡_}
 use mathlib.Core.Bool.{Bool, true, false}
-use mathlib.Core.List.{List, [], _∷_}
+use mathlib.Core.List.{List, [], _∷_, _++_}
 use mathlib.Core.Option.{Option, none, some}
 use Prim.Native.Nat.{ℕ, _+_, _*_, _^_, _≤_, _<_}
 use lib.ListN.{length, take, drop}
@@ -21,6 +21,8 @@ use Rattle.coding.specs.Ahead.{Held}
 use Rattle.macaque_v.specs.declared.read_run.Cursor.{Cursor}
 use Rattle.macaque_v.specs.declared.read_run.Run.{Run}
 use Rattle.macaque_v.specs.declared.read_run.Run.the-variants as OfRun
+use Rattle.macaque_v.specs.declared.read_run.Kept.{Kept}
+use Rattle.macaque_v.specs.declared.read_run.Kept.the-variants as OfKept
 use Rattle.macaque_v.specs.declared.read_run.Aim.{Aim}
 use Rattle.macaque_v.specs.declared.read_run.Aim.the-variants as OfAim
 use Rattle.macaque_v.specs.declared.read_run.Tally.{Tally}
@@ -61,6 +63,21 @@ pub record StopsBy {A : Type 0} (reading : Reading A) (cause : Refusal) : Type 0
 abbrev pub NextSays : Bool → List ℕ → Cursor → Run → Type 0
 NextSays first bytes at (OfRun.To to) = Reads first bytes at 1 (to .last ∷ []) to
 NextSays first bytes at (OfRun.Refused r) = StopsBy (readFrom first bytes at 1) r
+
+-- a value more in the last window, where there is one
+abbrev pub KeptNext : Bool → List ℕ → Cursor → Kept → Type 0
+KeptNext first bytes at (OfKept.To to) = Reads first bytes at 1 (to .last ∷ []) to
+KeptNext first bytes at OfKept.No = Unit
+
+-- some values more are read, and stand in the places from i on; those before i and those from n on keep what they held
+pub record ReadsOn (first : Bool) (bytes : List ℕ) (at : Cursor) (i n : ℕ) (old new : List ℕ) (to : Cursor) : Type 0 where
+  pub many : ℕ
+  pub values : List ℕ
+  pub reads : Reads first bytes at many values to
+  pub fits : i + many ≤ n
+  pub front : take (i + many) new ≡ take i old ++ values
+  pub back : drop n new ≡ drop n old
+  pub long : length new ≡ length old
 
 -- the values are in the first n places, and the others keep what they held
 abbrev pub FillSays : Bool → List ℕ → Cursor → ℕ → List ℕ → List ℕ → Run → Type 0

@@ -2,10 +2,10 @@
 ghost use mathlib.Core.Path.{_≡_};
 ghost use mathlib.Core.List.{_++_};
 ghost use Prim.Native.Nat.{_+_, _*_, _^_, _<_, _≤_};
-ghost use lib.ListN.{length, take, drop};
+ghost use lib.ListN.{length, take, drop, replicate};
 ghost use Rattle.stream.specs.Format.{gathered, gatherFrom};
 ghost use Rattle.macaque_v.specs.State.{modeOf};
-ghost use Rattle.macaque_v.specs.ReadRun.{Stands, NextSays, FillSays, WalkSays, WholeSays, gatherSum, tallied, IsStretched, leftBehind};
+ghost use Rattle.macaque_v.specs.ReadRun.{Stands, NextSays, KeptNext, ReadsOn, FillSays, WalkSays, WholeSays, gatherSum, tallied, IsStretched, leftBehind};
 use coding::decode;
 use coding::decode::Decoded;
 use models::Refusal;
@@ -65,12 +65,94 @@ pub fn fill(bytes: &[u8], first: bool, from: Cursor, n: usize, out: &mut [u32]) 
             }
             Run::To(to) => {
                 out[i] = to.last;
-                at = to;
-                i += 1;
+                let kept = in_window(bytes, first, to, i + 1, n, out);
+                let j = i + 1 + (kept.count - to.count);
+                at = repeats(bytes, first, kept, j, n, out);
+                i = j + (at.count - kept.count);
             }
         }
     }
     Run::To(at)
+}
+
+// A value more in the last window, or none.
+enum Kept {
+    To(Cursor),
+    No,
+}
+
+fn next_kept(bytes: &[u8], first: bool, at: Cursor) -> Kept
+    requires { ⌜ Stands (now bytes) at × (0 < at .count) × (at .count < 65536) ⌝ }
+    ensures { λ r. ⌜ KeptNext first (now (bytes .entry)) at r ⌝ }
+{
+    match decode::kept_at(bytes, at.place, at.lead, at.trail, at.last) {
+        Decoded::Refused(_) => Kept::No,
+        Decoded::Got {
+            value,
+            lead,
+            trail,
+            used,
+        } => Kept::To(Cursor {
+            last: value,
+            lead,
+            trail,
+            place: at.place + used,
+            count: at.count + 1,
+        }),
+    }
+}
+
+// The values in the last window that stand behind a value, into the places from i on.
+fn in_window(bytes: &[u8], first: bool, from: Cursor, i: usize, n: usize, out: &mut [u32]) -> Cursor
+    requires { ⌜ Stands (now bytes) from × (0 < from .count) × (from .count + n ≤ 65536 + i) × (i ≤ n) × (n ≤ length (now out)) ⌝ }
+    ensures { λ r. ⌜ ReadsOn first (now (bytes .entry)) from i n (now (out .entry)) (now (out .exit)) r ⌝ }
+{
+    let mut at = from;
+    let mut j = i;
+    while j < n {
+        match next_kept(bytes, first, at) {
+            Kept::No => {
+                return at;
+            }
+            Kept::To(to) => {
+                out[j] = to.last;
+                at = to;
+                j += 1;
+            }
+        }
+    }
+    at
+}
+
+// The repeats that stand behind a value, into the places from i on. They are taken at once, 28 at most, and only where so many places are free.
+fn repeats(bytes: &[u8], first: bool, at: Cursor, i: usize, n: usize, out: &mut [u32]) -> Cursor
+    requires { ⌜ Stands (now bytes) at × (0 < at .count) × (at .count ≤ 65536) × (i ≤ n) × (n ≤ length (now out)) ⌝ }
+    ensures { λ r. ⌜ ReadsOn first (now (bytes .entry)) at i n (now (out .entry)) (now (out .exit)) r ⌝ }
+{
+    if n - i < 28 {
+        return at;
+    }
+    let k = decode::repeats(bytes, at.place);
+    spread(out, i, at.last);
+    Cursor {
+        last: at.last,
+        lead: at.lead,
+        trail: at.trail,
+        place: at.place + 2 * k,
+        count: at.count + k,
+    }
+}
+
+// A value into 28 places.
+fn spread(out: &mut [u32], i: usize, value: u32)
+    requires { ⌜ i + 28 ≤ length (now out) ⌝ }
+    ensures { λ _. ⌜ now (out .exit) ≡ take i (now (out .entry)) ++ (replicate 28 value ++ drop (i + 28) (now (out .entry))) ⌝ }
+{
+    let mut j: usize = 0;
+    while j < 28 {
+        out[i + j] = value;
+        j += 1;
+    }
 }
 
 // The first n values of `values` into the first places of `out`.

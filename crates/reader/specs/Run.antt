@@ -1,12 +1,9 @@
 -- Reading on: n nexts from where a reader stands, and the end behind them; and the last value that is read so. Assumes nothing.
-use mathlib.Core.Bool.{Bool, false, _&&_}
 use mathlib.Core.List.{List, [], _∷_}
 use Prim.Native.Nat.{ℕ, zero, suc}
-use lib.Dec.{leb, ltb}
+use lib.Dec.{ltb}
 use Rattle.models.specs.Answers.{Said, Done, answered, refused, SaidOn, answeredOn, refusedOn, _when_, judge}
 use Rattle.models.specs.Limits.{mostValues}
-use Rattle.models.specs.declared.ValueAnswer.{ValueAnswer}
-use Rattle.models.specs.declared.ValueAnswer.the-variants as OfValue
 use Rattle.macaque_v.specs.Read.{valuesIn}
 use Rattle.macaque_v.specs.declared.Opening.{Opening}
 use Rattle.reader.specs.Calls.{openedAt, Taken, nextAnswer, endAnswer}
@@ -58,17 +55,3 @@ lastOf v (refused n) = refused n
 -- of a stream's values, `count` of them: "Reading takes exactly the stream's bytes and a count"
 unfoldable pub lastAnswer : List ℕ → ℕ → Opening → Said ℕ
 lastAnswer bytes count o = judge refused (3 when ltb mostValues count ∷ []) (lastOf 0 (valuesIn bytes count o))
-
--- one more value is read
-abbrev pub goesOn : ValueAnswer → ℕ → ℕ → Bool
-goesOn (OfValue.Answered v) read count = leb count mostValues && ltb read count
-goesOn (OfValue.Refused r) read count = false
-
--- what the last answer and the end come to
-abbrev pub finished : Said ℕ → Said Done → Said ℕ
-finished (answered v) (answered u) = answered v
-finished (answered v) (refused n) = refused n
-finished (refused n) end = refused n
-
-unfoldable pub outcomeOf : Said ℕ → ℕ → Said Done → Said ℕ
-outcomeOf answer count end = judge refused (3 when ltb mostValues count ∷ []) (finished answer end)

@@ -7,7 +7,13 @@ ghost use Rattle.models.specs.Calls.{saysVerdict, saysValue};
 ghost use Rattle.reader.specs.Calls.{openedAt, saysNext, nextAnswer, endAnswer};
 ghost use Rattle.reader.specs.Run.{lastAnswer};
 use crate::position::Position;
+use macaque_v::MacaqueV;
 use macaque_v::Opening;
+use macaque_v::read;
+use macaque_v::read_run;
+use macaque_v::read_run::Aim;
+use macaque_v::read_run::Walk;
+use models::Refusal;
 use models::ValueAnswer;
 use models::Verdict;
 
@@ -55,19 +61,27 @@ impl<'a> Reader<'a> {
     }
 }
 
-// The last of a stream's values, `count` of them, by a reader; +0 where there are none. Its parameters
-// are plain, so whoever calls it needs no proof by hand.
+// The last of a stream's values, `count` of them, as a reader that goes through them all finds it; +0
+// where there are none. Its parameters are plain, so whoever calls it needs no proof by hand.
 pub fn last_value(stream: &[u8], count: usize, opening: Opening) -> ValueAnswer
     ensures { λ r. ⌜ saysValue r ≡ lastAnswer (now (stream .entry)) count opening ⌝ }
 {
-    let mut reader = Reader::open(stream, opening);
-    let mut answer = ValueAnswer::Answered(0);
-    let mut read: usize = 0;
-    while position::goes_on(answer, read, count) {
-        let next = reader.next();
-        answer = next.answer;
-        reader = next.reader;
-        read += 1;
+    if MacaqueV::MOST_VALUES < count {
+        return ValueAnswer::Refused(Refusal::OverLimit);
     }
-    position::outcome(answer, count, reader.end())
+    match read_run::go_to_end(
+        stream,
+        read::is_first(opening),
+        read::start(opening),
+        count,
+        Aim::Nothing,
+    ) {
+        Walk::Refused(r) => ValueAnswer::Refused(r),
+        Walk::To(to, _) => {
+            if count == 0 {
+                return ValueAnswer::Answered(0);
+            }
+            ValueAnswer::Answered(to.last)
+        }
+    }
 }

@@ -2,9 +2,8 @@
 ghost use mathlib.Core.Path.{_≡_};
 ghost use Prim.Native.Nat.{_<_};
 ghost use Rattle.models.specs.Answers.{verdict};
-ghost use Rattle.models.specs.Calls.{saysVerdict, saysValue};
+ghost use Rattle.models.specs.Calls.{saysVerdict};
 ghost use Rattle.reader.specs.Calls.{openedAt, mayUse, Ready, nextCauses, nextRead, nextAnswer, saysStep, endAnswer};
-ghost use Rattle.reader.specs.Run.{goesOn, outcomeOf};
 use coding::decode;
 use coding::decode::Decoded;
 use macaque_v::MacaqueV;
@@ -66,34 +65,6 @@ pub fn end_from(stream: &[u8], from: Position) -> Verdict
     }
     let left = read_run::left_behind(stream, at.place);
     models::when(Refusal::Leftover, left, Verdict::Passed)
-}
-
-// ---- reading on
-
-// Whether one more value is read: fewer are than were asked for, and none was refused.
-pub fn goes_on(answer: ValueAnswer, read: usize, count: usize) -> bool
-    ensures { λ r. ⌜ r ≡ goesOn answer read count ⌝ }
-{
-    match answer {
-        ValueAnswer::Refused(_) => false,
-        ValueAnswer::Answered(_) => (count <= MacaqueV::MOST_VALUES) & (read < count),
-    }
-}
-
-// The last answer, where the stream ends behind it.
-pub fn outcome(answer: ValueAnswer, count: usize, end: Verdict) -> ValueAnswer
-    ensures { λ r. ⌜ saysValue r ≡ outcomeOf (saysValue answer) count (saysVerdict end) ⌝ }
-{
-    if MacaqueV::MOST_VALUES < count {
-        return ValueAnswer::Refused(Refusal::OverLimit);
-    }
-    let ValueAnswer::Answered(_) = answer else {
-        return answer;
-    };
-    match end {
-        Verdict::Refused(r) => ValueAnswer::Refused(r),
-        Verdict::Passed => answer,
-    }
 }
 
 // ---- the causes of refusal

@@ -1,28 +1,38 @@
 -- `macaque_v::read_run::fill` meets its contract: the first i values are read, and stand in the first i places. Assumes nothing.
 use borrow.Author.Needs.{needs}
 use mathlib.Core.Path.{_≡_, refl, subst}
-use Prim.Native.Nat.{ℕ, _-_, _≤_}
+use Prim.Native.Nat.{ℕ, _+_, _-_, _≤_}
 use native.Mathlib.Omega.{arith}
-use lib.ListN.{length, take, drop, length-set}
+use lib.ListN.{length, take, drop, set, length-set}
 use Rattle.macaque_v.specs.ReadRun.{Reads, NextSays}
 use Rattle.macaque_v.specs.declared.read_run.Run.{Run}
-use Rattle.macaque_v.proofs.ReadingRun.{reads-none, then-stops, filled-more}
+use Rattle.macaque_v.proofs.ReadingRun.{reads-none, then-stops, Filled, filled-more, filled-on}
 use Rattle.macaque_v.proofs.read_run.fill.Statement.{statement}
 use Rattle.macaque_v.proofs.read_run.fill.Tie as tie
 
 abbrev Inv-loop : tie.InvT-loop
-Inv-loop bytes first n out₀ at₀ i₀ out at i = (i ≤ n) × (length out ≡ length out₀) × Reads first bytes at₀ i (take i out) at × (drop i out ≡ drop i out₀)
+Inv-loop bytes first n out₀ at₀ i₀ out at i = Filled first bytes at₀ n i out₀ out at
 
 abbrev μ-loop : tie.MeasureT-loop
 μ-loop bytes first n out₀ at₀ i₀ out at i = n - i
 
+-- a value is read, and stands in its place
+stored : (c : tie.After-known-told2 Inv-loop μ-loop)
+    → Filled (c .before .before .before .before .before .before .before .before .args .first) (c .before .before .before .before .before .before .before .before .args .bytes .now) (c .before .before .before .before .before .before .before .before .args .from) (c .before .before .before .before .before .before .before .before .args .n) (c .before .before .before .before .before .loop .i + 1) (c .before .before .before .before .before .before .before .before .args .out .now)
+    (set (c .before .before .before .before .before .loop .out) (c .before .before .before .before .before .loop .i) (c .before .to .given .0 .0 .last)) (c .before .to .given .0 .0)
+stored c =
+    let a = c .before .before .before .before .before .before .before .before .args in
+    let l = c .before .before .before .before .before .loop in
+    filled-more (a .first) (a .bytes .now) (a .n) (l .i) (a .out .now) (l .out) (l .inv) (omega arith) (omega arith)
+    (subst (λ (q : Run). NextSays (a .first) (a .bytes .now) (l .at) q) (c .before .to .given .1) (c .before .before .before .next .ensures))
+
 loop-holds : tie.Need-loop-holds Inv-loop μ-loop
 loop-holds c =
     let a = c .before .before .args in
-    (omega arith, refl, reads-none (a .first) (a .bytes .now) (a .from) (c .before .before .pre .0), refl)
+    record { reads = reads-none (a .first) (a .bytes .now) (a .from) (c .before .before .pre .0); back = refl; fits = omega arith; long = refl }
 
 next-requires : tie.Need-next-requires Inv-loop μ-loop
-next-requires c κs = (c .before .loop .inv .2 .stands, omega (arith, c .before .loop .inv .2 .counted))
+next-requires c κs = (c .before .loop .inv .reads .stands, omega (arith, c .before .loop .inv .reads .counted))
 
 enum-known-r : tie.Need-enum-known-r Inv-loop μ-loop
 enum-known-r c = search needs
@@ -34,7 +44,7 @@ returns : tie.Need-returns Inv-loop μ-loop
 returns c =
     let a = c .before .before .before .before .before .before .before .before .args in
     let l = c .before .before .before .before .before .loop in
-    then-stops (a .first) (a .bytes .now) (l .inv .2) 1
+    then-stops (a .first) (a .bytes .now) (l .inv .reads) 1
     (subst (λ (q : Run). NextSays (a .first) (a .bytes .now) (l .at) q) (c .before .r .given .1) (c .before .before .before .next .ensures)) (a .n) (omega arith)
 
 enum-known-to : tie.Need-enum-known-to Inv-loop μ-loop
@@ -46,19 +56,62 @@ mul-out c = search needs
 slice-write-out : tie.Need-slice-write-out Inv-loop μ-loop
 slice-write-out c = search needs
 
+add-in-window : tie.Need-add-in-window Inv-loop μ-loop
+add-in-window c = search needs
+
+in-window-requires : tie.Need-in-window-requires Inv-loop μ-loop
+in-window-requires c κs =
+    let f = stored (c .before) in
+    (f .reads .stands, omega (arith, f .reads .counted), omega (arith, f .reads .counted, c .before .before .before .before .before .before .before .before .before .pre .1), f .fits, omega (arith, f .long))
+
+add-j : tie.Need-add-j Inv-loop μ-loop
+add-j c = search needs
+
+sub-j : tie.Need-sub-j Inv-loop μ-loop
+sub-j c = omega (arith, c .before .before .before .before .in-window .ensures .reads .counted)
+
+add-j-2 : tie.Need-add-j-2 Inv-loop μ-loop
+add-j-2 c =
+    let w = c .before .before .before .before .in-window .ensures in
+    omega (arith, w .reads .counted, w .fits, c .before .before .before .before .before .before .before .before .before .before .before .before .before .before .pre .1)
+
+repeats-requires : tie.Need-repeats-requires Inv-loop μ-loop
+repeats-requires c κs =
+    let w = c .before .before .before .before .before .in-window .ensures in
+    let f = stored (c .before .before .before .before .before .before .before) in (
+      w .reads .stands,
+      omega (arith, w .reads .counted, f .reads .counted),
+      omega (arith, w .reads .counted, w .fits, f .reads .counted, c .before .before .before .before .before .before .before .before .before .before .before .before .before .before .before .pre .1),
+      omega (arith, w .reads .counted, w .fits),
+      omega (arith, w .long, f .long, c .before .before .before .before .before .before .before .before .before .before .before .before .before .before .before .pre .2),
+    )
+
+sub-i : tie.Need-sub-i Inv-loop μ-loop
+sub-i c = omega (arith, c .before .before .before .before .repeats .ensures .reads .counted)
+
 add-i : tie.Need-add-i Inv-loop μ-loop
-add-i c = search needs
+add-i c =
+    let w = c .before .before .before .before .before .before .before .before .before .before .in-window .ensures in
+    let r = c .before .before .before .before .repeats .ensures in
+    omega (arith, w .reads .counted, r .reads .counted, r .fits, c .before .before .before .before .before .before .before .before .before .before .before .before .before .before .before .before .before .before .before .before .pre .1)
 
 loop-less : tie.Need-loop-less Inv-loop μ-loop
-loop-less c = search needs
+loop-less c =
+    let w = c .before .before .before .before .before .before .before .before .before .before .in-window .ensures in
+    let r = c .before .before .before .before .repeats .ensures in
+    omega (arith, w .reads .counted, r .reads .counted, r .fits)
 
 loop-again : tie.Need-loop-again Inv-loop μ-loop
 loop-again c =
-    let a = c .before .before .before .before .before .before .before .before .args in
-    let l = c .before .before .before .before .before .loop in
-    let one = subst (λ (q : Run). NextSays (a .first) (a .bytes .now) (l .at) q) (c .before .to .given .1) (c .before .before .before .next .ensures) in
-    let more = filled-more (a .first) (a .bytes .now) (l .i) (a .out .now) (l .out) (l .inv .2) (l .inv .3) (omega arith) one in
-    (omega arith, simp length-set (l .inv .1), more .0, more .1)
+    let a = c .before .before .before .before .before .before .before .before .before .before .before .before .before .before .before .before .before .before .before .before .args in
+    let l = c .before .before .before .before .before .before .before .before .before .before .before .before .before .before .before .before .before .loop in
+    let to = c .before .before .before .before .before .before .before .before .before .before .before .before .before .to .given .0 .0 in
+    let w = c .before .before .before .before .before .before .before .before .before .before .in-window in
+    let r = c .before .before .before .before .repeats in
+    let j = l .i + 1 + (w .result .count - to .count) in
+    filled-on (a .first) (a .bytes .now) (a .n) j (a .out .now) _
+    (filled-on (a .first) (a .bytes .now) (a .n) (l .i + 1) (a .out .now) (set (l .out) (l .i) (to .last)) (stored (c .before .before .before .before .before .before .before .before .before .before .before .before)) (w .ensures) j refl)
+    (r .ensures) (j + (r .result .count - w .result .count)) refl
 
 same-length-2 : tie.Need-same-length-2 Inv-loop μ-loop
 same-length-2 c = search needs
@@ -68,7 +121,7 @@ returns-2 c =
     let a = c .before .before .before .before .args in
     let l = c .before .loop in
     let e : l .i ≡ a .n = omega arith in
-    subst (λ (n : ℕ). Reads (a .first) (a .bytes .now) (a .from) n (take n (l .out)) (l .at) × (drop n (l .out) ≡ drop n (a .out .now))) e (l .inv .2, l .inv .3)
+    (subst (λ (k : ℕ). Reads (a .first) (a .bytes .now) (a .from) k (take k (l .out)) (l .at)) e (l .inv .reads), l .inv .back)
 
 pub fill-spec : {M : Type 1} → statement M
 fill-spec =
@@ -84,6 +137,13 @@ fill-spec =
     enum-known-to
     mul-out
     slice-write-out
+    add-in-window
+    in-window-requires
+    add-j
+    sub-j
+    add-j-2
+    repeats-requires
+    sub-i
     add-i
     loop-less
     loop-again

@@ -1,0 +1,74 @@
+-- A word's repeats: as far as it goes like 1010.., it begins with them. Assumes nothing.
+use mathlib.Core.Path.{_≡_, refl, sym, ap, ap₂, _∙_}
+use mathlib.Core.Bool.{Bool, true, false}
+use mathlib.Core.List.{List, [], _∷_}
+use Prim.Native.Nat.{ℕ, zero, suc, _+_, _-_, _*_, _/_, _^_, _≤_, _<_}
+use native.Mathlib.Nat.{div-eq-of-lt, lt-of-lt-of-le}
+use native.Mathlib.Omega.{arith}
+use lib.Bits.{bitXor, xor-zero-l, xor-shr, xor-lt}
+use lib.Count.{leadingZeros, leading-length}
+use lib.Dec.{lit<}
+use lib.ListN.{length, take, drop}
+use lib.Pow.{pow-mono}
+use lib.Seq.{take-at, take-take}
+use Rattle.bits.specs.Bits.{field, fieldAt, bitsOf}
+use Rattle.bits.proofs.Counts.{xor-undo}
+use Rattle.bits.proofs.Fields.{length-field, field-split}
+use Rattle.coding.specs.Ahead.{repeated, AtTop, RepeatsAt}
+use Rattle.coding.proofs.Words.{moved}
+
+-- the first k of more
+front-repeated : (k m : ℕ) → take (2 * k) (repeated (k + m)) ≡ repeated k
+unfolding repeated
+front-repeated zero m = refl
+front-repeated (suc k) m =
+    let e : 2 * suc k ≡ suc (suc (2 * k)) = omega arith in
+    let f : suc k + m ≡ suc (k + m) = omega arith in
+    ap₂ (λ (a b : ℕ). take a (repeated b)) e f ∙ ap (λ (z : List Bool). true ∷ false ∷ z) (front-repeated k m)
+
+pattern-is : field 64 0xAAAA_AAAA_AAAA_AAAA ≡ repeated 32
+unfolding field repeated
+pattern-is = refl
+
+top-bits : (a m v : ℕ) → take a (field (a + m) v) ≡ field a (v / 2 ^ m)
+top-bits a m v = ap (take a) (field-split a m v) ∙ take-at (field a (v / 2 ^ m)) (field m v) a (length-field a (v / 2 ^ m))
+
+same-where-xor-is-0 : (a b : ℕ) → bitXor a b ≡ 0 → a ≡ b
+same-where-xor-is-0 a b e = sym (xor-undo a b) ∙ ap (λ (x : ℕ). bitXor x b) e ∙ xor-zero-l b
+
+pub at-top : (word k : ℕ) → word < 2 ^ 64 → 2 * k ≤ leadingZeros 64 (bitXor word 0xAAAA_AAAA_AAAA_AAAA) → take (2 * k) (field 64 word) ≡ repeated k
+at-top word k w h =
+    let P : ℕ = 0xAAAA_AAAA_AAAA_AAAA in
+    let x : ℕ = bitXor word P in
+    let long = leading-length 64 x (xor-lt 64 word P w (lit< tt)) in
+    let m : ℕ = 64 - 2 * k in
+    let all : 2 * k + m ≡ 64 = omega (arith, long .1) in
+    let small : x < 2 ^ m = lt-of-lt-of-le (long .2) (pow-mono (omega (arith, long .1))) in
+    let high : word / 2 ^ m ≡ P / 2 ^ m = same-where-xor-is-0 (word / 2 ^ m) (P / 2 ^ m) (sym (xor-shr word P m) ∙ div-eq-of-lt small) in
+    let half : 32 ≡ k + (32 - k) = omega (arith, all) in
+    ap (λ (n : ℕ). take (2 * k) (field n word)) (sym all) ∙ top-bits (2 * k) m word
+    ∙ ap (field (2 * k)) high
+    ∙ sym (ap (λ (n : ℕ). take (2 * k) (field n P)) (sym all) ∙ top-bits (2 * k) m P)
+    ∙ ap (take (2 * k)) pattern-is
+    ∙ ap (λ (n : ℕ). take (2 * k) (repeated n)) half
+    ∙ front-repeated k (32 - k)
+
+-- the repeats of the word of n bits from the place on, where there are more bits than they take
+pub repeats-at : (bytes : List ℕ) (place n : ℕ) → place + n ≤ 8 * length bytes → n ≤ 64 → 56 ≤ n
+    → (word k : ℕ) → word ≡ fieldAt place n (bitsOf bytes) * 2 ^ (64 - n) → AtTop word k → RepeatsAt bytes place k
+repeats-at bytes place n h most w word k e t =
+    let less : 2 * k ≤ n = omega (arith, t .most) in
+    record {
+      bits =
+          sym (take-take (2 * k) n (drop place (bitsOf bytes)) less)
+          ∙ ap (take (2 * k)) (sym (moved bytes place n h most))
+          ∙ take-take (2 * k) n (field 64 (fieldAt place n (bitsOf bytes) * 2 ^ (64 - n))) less
+          ∙ ap (λ (x : ℕ). take (2 * k) (field 64 x)) (sym e)
+          ∙ t .bits;
+      there = omega arith;
+      most = t .most;
+    }
+
+pub no-repeats : (bytes : List ℕ) (place : ℕ) → place ≤ 8 * length bytes → RepeatsAt bytes place 0
+unfolding repeated
+no-repeats bytes place h = record { bits = refl; there = omega arith; most = omega arith }

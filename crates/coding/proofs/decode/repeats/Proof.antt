@@ -1,0 +1,32 @@
+-- `coding::decode::repeats` meets its contract: eight bytes have 57 bits or more from the place on. Assumes nothing.
+use borrow.Author.Needs.{needs}
+use mathlib.Core.Path.{_≡_, ap, _∙_}
+use Prim.Native.Nat.{ℕ, _-_, _*_, _%_, _^_}
+use native.Mathlib.Omega.{arith}
+use Rattle.bits.specs.Bits.{fieldAt, bitsOf}
+use Rattle.coding.proofs.Repeats.{repeats-at, no-repeats}
+use Rattle.coding.proofs.decode.repeats.Statement.{statement}
+use Rattle.coding.proofs.decode.repeats.Tie as tie
+
+sub-if1 : tie.Need-sub-if1
+sub-if1 c = search needs
+
+returns : tie.Need-returns
+returns c = no-repeats (c .before .before .args .bytes .now) (c .before .before .args .place) (omega arith)
+
+word-at-requires : tie.Need-word-at-requires
+word-at-requires c κs = search needs
+
+at-top-requires : tie.Need-at-top-requires
+at-top-requires c κs = search needs
+
+returns-2 : tie.Need-returns-2
+returns-2 c =
+    let a = c .before .before .before .before .args in
+    let n = 64 - a .place % 8 in
+    let up : a .place % 8 ≡ 64 - n = omega arith in
+    repeats-at (a .bytes .now) (a .place) n (omega arith) (omega arith) (omega arith) (c .before .word-at .result) (c .at-top .result)
+    (c .before .word-at .ensures ∙ ap (λ (k : ℕ). fieldAt (a .place) n (bitsOf (a .bytes .now)) * 2 ^ k) up) (c .at-top .ensures)
+
+pub repeats-spec : {M : Type 1} → statement M
+repeats-spec = tie.close (tie.spec sub-if1 returns word-at-requires at-top-requires returns-2)
