@@ -1,15 +1,13 @@
-//! The jobs, by the proved library and by the Rust's text, each over all streams.
+//! The jobs, each over many lists of values or the streams that the library makes of them, and how long
+//! a side takes for one.
 
-use crate::series::VALUES;
-use modelardb_rattle::{self as library, MacaqueV, Opening};
+use crate::sides::{self, Ours, Side};
 use oracle::paper::models::ErrorBound;
-use oracle::rust::Direct;
+use std::hint::black_box;
 use std::ops::Range;
+use std::time::Instant;
 
-/// How many lists a part has: they divide [`crate::series::STREAMS`].
-const PART: usize = 250;
-
-/// What is timed.
+/// What is timed on both sides.
 #[derive(Clone, Copy, PartialEq)]
 pub enum Job {
     Written,
@@ -17,11 +15,19 @@ pub enum Job {
     Summed,
 }
 
-/// What a job is done on: lists of values, the bound, and the streams that the library makes of them.
+/// What a job is done on: lists of equally many values, the bound, and their streams.
 pub struct Lists<'a> {
     pub rooms: &'a [Vec<f32>],
     pub bound: ErrorBound,
     pub streams: Vec<Vec<u8>>,
+}
+
+/// What a job makes of one list or stream.
+#[derive(Clone, Copy)]
+pub enum Made<'a> {
+    Bytes(&'a [u8]),
+    Values(&'a [f32]),
+    Sum(f32),
 }
 
 impl<'a> Lists<'a> {
@@ -34,117 +40,126 @@ impl<'a> Lists<'a> {
         }
     }
 
-    /// The lists in parts that take a few milliseconds.
-    pub fn parts(&self) -> Vec<Range<usize>> {
-        let starts = (0..self.rooms.len()).step_by(PART);
-        starts.map(|start| start..start + PART).collect()
+    /// How many values each list has.
+    pub fn count(&self) -> usize {
+        self.rooms[0].len()
     }
-}
 
-/// What a job makes of one list or stream.
-#[derive(Clone, Copy)]
-pub enum Made<'a> {
-    Bytes(&'a [u8]),
-    Values(&'a [f32]),
-    Sum(f32),
-}
+    /// How many values there are in all.
+    pub fn values(&self) -> usize {
+        self.rooms.len() * self.count()
+    }
 
-/// Does a job on a part of the lists or streams; each result goes to `take`.
-pub fn run(
-    side: &dyn Side,
-    job: Job,
-    lists: &Lists,
-    part: Range<usize>,
-    take: &mut dyn FnMut(Made),
-) {
-    let mut out = vec![0.0; VALUES];
-    match job {
-        Job::Written => {
-            for values in &lists.rooms[part] {
-                take(Made::Bytes(&side.write(lists.bound, values)));
+    /// The lists in parts of about a quarter of a million values, which take a few milliseconds.
+    fn parts(&self) -> Vec<Range<usize>> {
+        let size = (250_000 / self.count()).max(1);
+        let starts = (0..self.rooms.len()).step_by(size);
+        starts
+            .map(|start| start..self.rooms.len().min(start + size))
+            .collect()
+    }
+
+    /// Does a job on a part of the lists or streams; each result goes to `take`.
+    fn run(&self, side: &dyn Side, job: Job, part: Range<usize>, take: &mut dyn FnMut(Made)) {
+        let mut out = vec![0.0; self.count()];
+        match job {
+            Job::Written => {
+                for values in &self.rooms[part] {
+                    take(Made::Bytes(&side.write(self.bound, values)));
+                }
             }
-        }
-        Job::Read => {
-            for bytes in &lists.streams[part] {
-                side.read(bytes, &mut out);
-                take(Made::Values(&out));
+            Job::Read => {
+                for bytes in &self.streams[part] {
+                    side.read(bytes, &mut out);
+                    take(Made::Values(&out));
+                }
             }
-        }
-        Job::Summed => {
-            for bytes in &lists.streams[part] {
-                take(Made::Sum(side.sum(bytes)));
+            Job::Summed => {
+                for bytes in &self.streams[part] {
+                    take(Made::Sum(side.sum(bytes, self.count())));
+                }
             }
         }
     }
-}
 
-/// All that a job makes, in bytes.
-pub fn results(side: &dyn Side, job: Job, lists: &Lists) -> Vec<Vec<u8>> {
-    let mut all = vec![];
-    run(side, job, lists, 0..lists.rooms.len(), &mut |made| {
-        all.push(match made {
-            Made::Bytes(bytes) => bytes.to_vec(),
-            Made::Values(values) => values.iter().flat_map(|v| v.to_le_bytes()).collect(),
-            Made::Sum(sum) => sum.to_le_bytes().to_vec(),
+    /// All that a job makes, in bytes.
+    fn results(&self, side: &dyn Side, job: Job) -> Vec<Vec<u8>> {
+        let mut all = vec![];
+        self.run(side, job, 0..self.rooms.len(), &mut |made| {
+            all.push(match made {
+                Made::Bytes(bytes) => bytes.to_vec(),
+                Made::Values(values) => values.iter().flat_map(|v| v.to_le_bytes()).collect(),
+                Made::Sum(sum) => sum.to_le_bytes().to_vec(),
+            });
         });
-    });
-    all
+        all
+    }
+
+    /// Whether two sides make the same of a job.
+    pub fn agree(&self, side: &dyn Side, other: &dyn Side, job: Job) -> bool {
+        self.results(side, job) == self.results(other, job)
+    }
+
+    /// The nanoseconds a value that each side takes. The sides take turns on each part of the lists,
+    /// round after round, and the best time of each part counts.
+    pub fn times(&self, sides: &[&dyn Side], job: Job, rounds: u32) -> Vec<f64> {
+        let mut tasks: Vec<Box<dyn FnMut(Range<usize>) + '_>> = vec![];
+        for &side in sides {
+            tasks.push(Box::new(move |part| {
+                self.run(side, job, part, &mut |made| {
+                    black_box(made);
+                });
+            }));
+        }
+        best(&self.parts(), &mut tasks, rounds, self.values())
+    }
+
+    /// The nanoseconds a value that reopening at the end takes.
+    pub fn reopening(&mut self, rounds: u32) -> f64 {
+        let (parts, count, bound) = (self.parts(), self.count(), self.bound);
+        let values = self.values();
+        let streams = &mut self.streams;
+        let mut task = |part: Range<usize>| {
+            for bytes in &mut streams[part] {
+                black_box(sides::reopened(bound, bytes, count));
+            }
+        };
+        best(&parts, &mut [&mut task], rounds, values)[0]
+    }
+
+    /// Whether reopening at the end gives the writer that wrote the stream.
+    pub fn reopens(&mut self) -> bool {
+        let (count, bound) = (self.count(), self.bound);
+        let pairs = self.rooms.iter().zip(&mut self.streams);
+        let mut same = pairs.map(|(values, bytes)| {
+            sides::reopened(bound, bytes, count) == sides::written(bound, values).0
+        });
+        same.all(|same| same)
+    }
 }
 
-/// A side of the comparison, on one list or stream of [`VALUES`] values, its first one in full.
-pub trait Side {
-    fn write(&self, bound: ErrorBound, values: &[f32]) -> Vec<u8>;
-    fn read(&self, bytes: &[u8], out: &mut Vec<f32>);
-    fn sum(&self, bytes: &[u8]) -> f32;
-}
-
-/// The proved library, through the safe crate.
-pub struct Ours;
-
-impl Side for Ours {
-    /// Makes the bytes anew, as the Rust's writer does: room for 45 bits a value, cut to what is used.
-    fn write(&self, bound: ErrorBound, values: &[f32]) -> Vec<u8> {
-        let mut buffer = vec![0; (45 * values.len()).div_ceil(8)];
-        let writer = MacaqueV::new(of_library(bound), Opening::First);
-        let mut writer = writer.expect("an allowed bound");
-        let written = writer.compress_values(values, &mut buffer);
-        written.expect("room for every value");
-        buffer.truncate(writer.bytes_used());
-        buffer
+/// The nanoseconds that each task takes for one of the values: the tasks take turns on each part, round
+/// after round, and the best time of each part counts.
+fn best<T: FnMut(Range<usize>)>(
+    parts: &[Range<usize>],
+    tasks: &mut [T],
+    rounds: u32,
+    values: usize,
+) -> Vec<f64> {
+    let mut sums = vec![0.0; tasks.len()];
+    for part in parts {
+        let mut best = vec![f64::INFINITY; tasks.len()];
+        for _ in 0..rounds {
+            for (best, task) in best.iter_mut().zip(tasks.iter_mut()) {
+                let begin = Instant::now();
+                task(part.clone());
+                *best = best.min(begin.elapsed().as_secs_f64());
+            }
+        }
+        for (sum, best) in sums.iter_mut().zip(best) {
+            *sum += best;
+        }
     }
-
-    fn read(&self, bytes: &[u8], out: &mut Vec<f32>) {
-        let drawn = library::macaque_v::grid(bytes, VALUES, Opening::First, out);
-        drawn.expect("a stream");
-    }
-
-    fn sum(&self, bytes: &[u8]) -> f32 {
-        library::macaque_v::sum(bytes, VALUES, Opening::First).expect("a stream")
-    }
-}
-
-fn of_library(bound: ErrorBound) -> library::ErrorBound {
-    match bound {
-        ErrorBound::Lossless => library::ErrorBound::Lossless,
-        ErrorBound::Absolute(bound) => library::ErrorBound::Absolute(bound),
-        ErrorBound::Relative(bound) => library::ErrorBound::Relative(bound),
-    }
-}
-
-/// The text's grid has a timestamp for each value, and looks only at how many there are.
-static TIMESTAMPS: [i64; VALUES] = [0; VALUES];
-
-impl Side for Direct {
-    fn write(&self, bound: ErrorBound, values: &[f32]) -> Vec<u8> {
-        (self.write)(bound, values)
-    }
-
-    fn read(&self, bytes: &[u8], out: &mut Vec<f32>) {
-        out.clear();
-        (self.read)(bytes, &TIMESTAMPS, out);
-    }
-
-    fn sum(&self, bytes: &[u8]) -> f32 {
-        (self.sum)(bytes, VALUES)
-    }
+    let nanoseconds = |seconds: f64| seconds * 1e9 / values as f64;
+    sums.into_iter().map(nanoseconds).collect()
 }

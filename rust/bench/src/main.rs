@@ -1,127 +1,232 @@
-//! Times the proved library and the Rust's text on the same streams, and prints a row for each job:
-//! `JOB ours SECONDS rust SECONDS ratio R`. Usage: `bench [ROUNDS] [JOB]`, where JOB is how the names of
-//! the rows wanted begin.
+//! Times the proved library and the Rust's text on the same streams, and prints tables in the form of
+//! docs/SPEED.md. Usage: `bench [ROUNDS] [JOB]`, where JOB is how the names of the jobs wanted begin, or
+//! `bench --quick`, a short run that holds each ratio to a loose limit.
 
 mod jobs;
 mod series;
+mod short;
+mod sides;
 
-use jobs::{Job, Lists, Ours, Side};
+use jobs::{Job, Lists};
 use oracle::paper::models::ErrorBound::{self, Absolute, Lossless, Relative};
 use oracle::rust::{AT_HAND, Calls};
-use std::hint::black_box;
-use std::ops::Range;
+use sides::{MOST_VALUES, Ours, Side};
 use std::process::ExitCode;
-use std::time::Instant;
+
+const USAGE: &str = "usage: bench [ROUNDS] [JOB], a whole number above 0 and how a job's name begins; or bench --quick";
 
 const BOUNDS: [(&str, ErrorBound); 3] = [
     ("lossless", Lossless),
-    ("absolute-0.1", Absolute(0.1)),
-    ("relative-1", Relative(1.0)),
+    ("absolute 0.1", Absolute(0.1)),
+    ("relative 1 %", Relative(1.0)),
 ];
 
-const JOBS: [(&str, Job); 3] = [
-    ("written", Job::Written),
-    ("read", Job::Read),
-    ("summed", Job::Summed),
+/// Each job with the goals of its rows: at most this part of the Rust with document 01's bodies.
+const JOBS: [(&str, Job, [f64; 3]); 3] = [
+    ("written", Job::Written, [0.20, 0.20, 0.40]),
+    ("read", Job::Read, [0.10, 0.25, 0.45]),
+    ("summed", Job::Summed, [0.15, 0.35, 0.65]),
 ];
+
+/// At most this part of the text as published, in every row.
+const PUBLISHED_GOAL: f64 = 0.70;
+
+/// A value of a stream of 65,536 takes at most so many times as long as one of a stream of 1,000.
+const LONG_GOAL: f64 = 1.20;
+
+/// A quick run fails where a ratio is above so many times its goal.
+const LOOSE: f64 = 2.5;
 
 fn main() -> ExitCode {
-    let mut words = std::env::args().skip(1);
-    let rounds = words.next().map_or(Some(5), |word| word.parse().ok());
-    let Some(rounds) = rounds.filter(|&rounds| rounds > 0) else {
-        eprintln!(
-            "usage: bench [ROUNDS] [JOB], a whole number above 0 and how a row's name begins"
-        );
+    let words: Vec<String> = std::env::args().skip(1).collect();
+    let Some(bench) = Bench::asked(&words) else {
+        eprintln!("{USAGE}");
         return ExitCode::from(2);
     };
-    let bench = Bench {
-        rounds,
-        wanted: words.next().unwrap_or_default(),
-    };
-    let rooms = series::rooms();
-    let lists = BOUNDS.map(|(name, bound)| (name, Lists::new(&rooms, bound)));
-    if AT_HAND.is_empty() {
-        println!("only ours is timed, since ORACLE_SRC names no folder with the Rust's text");
-        bench.each(&lists, "", |row, job, lists| bench.alone(row, job, lists));
-        return ExitCode::SUCCESS;
+    if bench.run() {
+        ExitCode::SUCCESS
+    } else {
+        ExitCode::FAILURE
     }
-    let mut equal = true;
-    for calls in AT_HAND {
-        let build = if calls.is_filled() { "" } else { "-published" };
-        bench.each(&lists, build, |row, job, lists| {
-            equal &= bench.beside(calls, row, job, lists);
-        });
-    }
-    ExitCode::from(u8::from(!equal))
 }
 
+/// What is asked for: the rounds, the jobs by how their names begin, how many streams of 1,000 values,
+/// and the limit of a ratio as a multiple of its goal.
 struct Bench {
     rounds: u32,
     wanted: String,
+    streams: usize,
+    limit: f64,
 }
 
 impl Bench {
-    /// Every job with every bound, by the name of its row.
-    fn each(&self, lists: &[(&str, Lists)], build: &str, mut run: impl FnMut(&str, Job, &Lists)) {
-        for (what, job) in JOBS {
-            for (bound, lists) in lists {
-                let row = format!("{what}-{bound}{build}");
-                if row.starts_with(&self.wanted) {
-                    run(&row, job, lists);
+    fn asked(words: &[String]) -> Option<Self> {
+        if let [word] = words
+            && word == "--quick"
+        {
+            return Some(Self {
+                rounds: 5,
+                wanted: String::new(),
+                streams: 1_000,
+                limit: LOOSE,
+            });
+        }
+        let number = words.first().map_or(Some(5), |word| word.parse().ok());
+        Some(Self {
+            rounds: number.filter(|&rounds| rounds > 0 && words.len() <= 2)?,
+            wanted: words.get(1).cloned().unwrap_or_default(),
+            streams: 10_000,
+            limit: f64::INFINITY,
+        })
+    }
+
+    /// All tables. Whether the sides agree, and every ratio keeps the limit.
+    fn run(&self) -> bool {
+        if AT_HAND.is_empty() {
+            println!("only ours is timed, since ORACLE_SRC names no folder with the Rust's text\n");
+        }
+        let rooms = series::rooms(self.streams, 1_000);
+        let nights = series::rooms(self.streams / 66, MOST_VALUES);
+        let sides = self.beside_the_rust(&rooms);
+        let long = self.long_streams(&rooms, &nights);
+        self.short_calls(&rooms[..500]);
+        sides && long
+    }
+
+    fn is_wanted(&self, job: &str) -> bool {
+        job.starts_with(&self.wanted)
+    }
+
+    /// The jobs beside both builds of the Rust.
+    fn beside_the_rust(&self, rooms: &[Vec<f32>]) -> bool {
+        println!(
+            "Nanoseconds a value, streams of 1,000 values, and ours as a part of the Rust's\n"
+        );
+        head("| job | bound | ours | filled | ratio | goal | published | ratio | goal |");
+        let mut good = true;
+        for (index, (bound, error_bound)) in BOUNDS.into_iter().enumerate() {
+            let lists = Lists::new(rooms, error_bound);
+            for (name, job, goals) in JOBS {
+                if self.is_wanted(name) {
+                    good &= self.row(name, bound, job, goals[index], &lists);
                 }
             }
         }
+        println!();
+        good
     }
 
-    /// A job by the library alone.
-    fn alone(&self, row: &str, job: Job, lists: &Lists) {
-        let [ours] = self.best([&Ours], job, lists);
-        println!("{row} ours {ours:.3}");
-    }
-
-    /// A job by both. They must make the same of it, but for the lossy streams of the text as published,
-    /// which keeps other values (docs/DIFFERENCES.md).
-    fn beside(&self, calls: &Calls, row: &str, job: Job, lists: &Lists) -> bool {
-        if jobs::results(&Ours, job, lists) != jobs::results(&calls.direct, job, lists) {
-            let is_listed = !calls.is_filled() && job == Job::Written && lists.bound != Lossless;
-            let why = if is_listed {
-                "as listed: not timed"
+    /// A job by all sides. They must make the same of it, but for the lossy streams of the text as
+    /// published, which keeps other values (docs/DIFFERENCES.md): such a row is not timed.
+    fn row(&self, name: &str, bound: &str, job: Job, goal: f64, lists: &Lists) -> bool {
+        let mut good = true;
+        let mut builds: Vec<&Calls> = vec![];
+        for calls in AT_HAND {
+            if lists.agree(&Ours, &calls.direct, job) {
+                builds.push(calls);
+            } else if calls.is_filled() || job != Job::Written || lists.bound == Lossless {
+                println!("{name}, {bound}: ours and {} differ", calls.name);
+                good = false;
+            }
+        }
+        let mut sides: Vec<&dyn Side> = vec![&Ours];
+        sides.extend(builds.iter().map(|calls| &calls.direct as &dyn Side));
+        let times = lists.times(&sides, job, self.rounds);
+        let ours = times[0];
+        print!("| {name} | {bound} | {ours:.2} |");
+        for (calls, time) in builds.iter().zip(&times[1..]) {
+            let goal = if calls.is_filled() {
+                goal
             } else {
-                "which is wrong"
+                PUBLISHED_GOAL
             };
-            println!("{row}: the two differ, {why}");
-            return is_listed;
+            good &= self.ratio(ours, *time, goal);
         }
-        let [ours, rust] = self.best([&Ours, &calls.direct], job, lists);
-        let ratio = ours / rust;
-        println!("{row} ours {ours:.3} rust {rust:.3} ratio {ratio:.2}");
-        true
+        println!();
+        good
     }
 
-    /// The seconds that each side takes. The sides take turns on each part of the lists, round after
-    /// round, and the best time of each part counts.
-    fn best<const N: usize>(&self, sides: [&dyn Side; N], job: Job, lists: &Lists) -> [f64; N] {
-        let mut sums = [0.0; N];
-        for part in lists.parts() {
-            let mut best = [f64::INFINITY; N];
-            for _ in 0..self.rounds {
-                for (best, side) in best.iter_mut().zip(sides) {
-                    *best = best.min(seconds(side, job, lists, part.clone()));
+    /// The end of a row: a time, and how many times as long another takes, held to its limit.
+    fn ratio(&self, ours: f64, other: f64, goal: f64) -> bool {
+        let ratio = ours / other;
+        let good = ratio <= self.limit * goal;
+        let mark = if good { "" } else { " is too much" };
+        print!(" {other:.2} | {ratio:.2}{mark} | {goal:.2} |");
+        good
+    }
+
+    /// The jobs and reopening at the end, a value of the longest streams beside one of short ones.
+    fn long_streams(&self, rooms: &[Vec<f32>], nights: &[Vec<f32>]) -> bool {
+        println!("Nanoseconds a value, streams of 65,536 values beside those of 1,000\n");
+        head("| job | bound | 65,536 | 1,000 | ratio | goal |");
+        let mut good = true;
+        for (bound, error_bound) in BOUNDS {
+            let (mut short, mut long) = (
+                Lists::new(rooms, error_bound),
+                Lists::new(nights, error_bound),
+            );
+            for (name, job, _) in JOBS {
+                if self.is_wanted(name) {
+                    good &= self.agree_when_long(name, bound, job, &long);
+                    let [short, long] =
+                        [&short, &long].map(|lists| lists.times(&[&Ours], job, self.rounds)[0]);
+                    good &= self.long_row(name, bound, long, short);
                 }
             }
-            for (sum, best) in sums.iter_mut().zip(best) {
-                *sum += best;
+            if self.is_wanted("reopened") {
+                if !(short.reopens() && long.reopens()) {
+                    println!("reopened, {bound}: another writer than the one that wrote");
+                    good = false;
+                }
+                let [short, long] =
+                    [&mut short, &mut long].map(|lists| lists.reopening(self.rounds));
+                good &= self.long_row("reopened", bound, long, short);
             }
         }
-        sums
+        println!();
+        good
+    }
+
+    fn long_row(&self, name: &str, bound: &str, long: f64, short: f64) -> bool {
+        print!("| {name} | {bound} | {long:.2} |");
+        let good = self.ratio(long, short, LONG_GOAL);
+        println!();
+        good
+    }
+
+    fn agree_when_long(&self, name: &str, bound: &str, job: Job, lists: &Lists) -> bool {
+        let mut filled = AT_HAND.iter().filter(|calls| calls.is_filled());
+        let good = filled.all(|calls| lists.agree(&Ours, &calls.direct, job));
+        if !good {
+            println!("{name}, {bound}, 65,536 values: ours and filled differ");
+        }
+        good
+    }
+
+    /// What the call itself costs.
+    fn short_calls(&self, rooms: &[Vec<f32>]) {
+        println!("Nanoseconds a call, short calls through the Rust face\n");
+        head("| call | bound | ours | filled | published |");
+        for (bound, error_bound) in BOUNDS {
+            if self.is_wanted("written") {
+                let ours = short::one_value_written(rooms, error_bound, self.rounds);
+                println!("| one value written to a state | {bound} | {ours:.0} | – | – |");
+            }
+            if self.is_wanted("read") {
+                print!("| a stream of {} read | {bound} |", short::SHORT);
+                let builds = AT_HAND.iter().map(|calls| &calls.direct as &dyn Side);
+                for side in std::iter::once(&Ours as &dyn Side).chain(builds) {
+                    let time = short::short_stream_read(side, rooms, error_bound, self.rounds);
+                    print!(" {time:.0} |");
+                }
+                println!();
+            }
+        }
     }
 }
 
-/// How long a side takes for a job on a part of the lists.
-fn seconds(side: &dyn Side, job: Job, lists: &Lists, part: Range<usize>) -> f64 {
-    let begin = Instant::now();
-    jobs::run(side, job, lists, part, &mut |made| {
-        black_box(made);
-    });
-    begin.elapsed().as_secs_f64()
+/// A table's head and the line under it.
+fn head(row: &str) {
+    println!("{row}");
+    println!("{}|", "|---".repeat(row.matches('|').count() - 1));
 }

@@ -3,42 +3,39 @@
 
 use std::f64::consts::TAU;
 
-/// How many streams there are, and how many values each has.
-pub const STREAMS: usize = 10_000;
-pub const VALUES: usize = 1_000;
-
 const MINUTES_A_DAY: f64 = 1440.0;
 
-pub fn rooms() -> Vec<Vec<f32>> {
+/// So many rooms, with so many readings each.
+pub fn rooms(streams: usize, values: usize) -> Vec<Vec<f32>> {
     let mut noise = Noise(1);
     let kinds = [temperature, humidity, power];
-    let room = |number: usize| kinds[number % kinds.len()](&mut noise);
-    (0..STREAMS).map(room).collect()
+    let room = |number: usize| kinds[number % kinds.len()](&mut noise, values);
+    (0..streams).map(room).collect()
 }
 
 /// Degrees: a level of its own that drifts over the day, and a sensor that is off by up to 0.05.
-fn temperature(noise: &mut Noise) -> Vec<f32> {
+fn temperature(noise: &mut Noise, values: usize) -> Vec<f32> {
     let (level, drift) = (noise.between(17.0, 24.0), noise.between(0.5, 3.0));
-    drifting(noise, level, drift, 0.05)
+    drifting(noise, values, level, drift, 0.05)
 }
 
 /// Per cent: as a temperature, with a sensor that is off by up to 0.5.
-fn humidity(noise: &mut Noise) -> Vec<f32> {
+fn humidity(noise: &mut Noise, values: usize) -> Vec<f32> {
     let (level, drift) = (noise.between(30.0, 60.0), noise.between(2.0, 10.0));
-    drifting(noise, level, drift, 0.5)
+    drifting(noise, values, level, drift, 0.5)
 }
 
-fn drifting(noise: &mut Noise, level: f64, drift: f64, off: f64) -> Vec<f32> {
+fn drifting(noise: &mut Noise, values: usize, level: f64, drift: f64, off: f64) -> Vec<f32> {
     let start = noise.between(0.0, TAU);
     let reading = |minute: usize| {
         let time = start + minute as f64 / MINUTES_A_DAY * TAU;
         two_decimals(level + drift * time.sin() + noise.between(-off, off))
     };
-    (0..VALUES).map(reading).collect()
+    (0..values).map(reading).collect()
 }
 
 /// Watts: a level that something switched on or off changes now and then, and up to 1 % around it.
-fn power(noise: &mut Noise) -> Vec<f32> {
+fn power(noise: &mut Noise, values: usize) -> Vec<f32> {
     let mut level = 20.0;
     let reading = |_| {
         if noise.between(0.0, 1.0) < 0.02 {
@@ -46,7 +43,7 @@ fn power(noise: &mut Noise) -> Vec<f32> {
         }
         two_decimals(level * noise.between(0.99, 1.01))
     };
-    (0..VALUES).map(reading).collect()
+    (0..values).map(reading).collect()
 }
 
 fn two_decimals(value: f64) -> f32 {

@@ -1,0 +1,83 @@
+//! What is compared: the proved library through its safe crate, and the Rust's text by its own entry
+//! points, on one list or stream whose first value is stored in full.
+
+use modelardb_rattle::{self as library, MacaqueV, Opening};
+use oracle::paper::models::ErrorBound;
+use oracle::rust::Direct;
+
+/// The most values of a list.
+pub const MOST_VALUES: usize = MacaqueV::MOST_VALUES;
+
+/// A side of the comparison.
+pub trait Side {
+    /// The bytes of a stream of the values, in a list of their own.
+    fn write(&self, bound: ErrorBound, values: &[f32]) -> Vec<u8>;
+    /// The values of a stream, as many as `out` holds, into it.
+    fn read(&self, bytes: &[u8], out: &mut Vec<f32>);
+    /// The sum of the `count` values of a stream.
+    fn sum(&self, bytes: &[u8], count: usize) -> f32;
+}
+
+/// The proved library.
+pub struct Ours;
+
+impl Side for Ours {
+    fn write(&self, bound: ErrorBound, values: &[f32]) -> Vec<u8> {
+        let (writer, mut buffer) = written(bound, values);
+        buffer.truncate(writer.bytes_used());
+        buffer
+    }
+
+    fn read(&self, bytes: &[u8], out: &mut Vec<f32>) {
+        let drawn = library::macaque_v::grid(bytes, out.len(), Opening::First, out);
+        drawn.expect("a stream");
+    }
+
+    fn sum(&self, bytes: &[u8], count: usize) -> f32 {
+        library::macaque_v::sum(bytes, count, Opening::First).expect("a stream")
+    }
+}
+
+/// A writer behind the values, and its buffer with room for 45 bits a value, the most that one takes.
+pub fn written(bound: ErrorBound, values: &[f32]) -> (MacaqueV, Vec<u8>) {
+    let mut buffer = vec![0; (45 * values.len()).div_ceil(8)];
+    let writer = MacaqueV::new(of_library(bound), Opening::First);
+    let mut writer = writer.expect("an allowed bound");
+    let written = writer.compress_values(values, &mut buffer);
+    written.expect("room for every value");
+    (writer, buffer)
+}
+
+/// The writer behind all values of a stream. The bytes stay, as a stream has no bits behind its last value.
+pub fn reopened(bound: ErrorBound, bytes: &mut [u8], count: usize) -> MacaqueV {
+    let used = bytes.len();
+    let writer = MacaqueV::reopen(bytes, used, count, count, Opening::First, of_library(bound));
+    writer.expect("a stream")
+}
+
+fn of_library(bound: ErrorBound) -> library::ErrorBound {
+    match bound {
+        ErrorBound::Lossless => library::ErrorBound::Lossless,
+        ErrorBound::Absolute(bound) => library::ErrorBound::Absolute(bound),
+        ErrorBound::Relative(bound) => library::ErrorBound::Relative(bound),
+    }
+}
+
+/// The text's grid has a timestamp for each value, and looks only at how many there are.
+static TIMESTAMPS: [i64; MOST_VALUES] = [0; MOST_VALUES];
+
+impl Side for Direct {
+    fn write(&self, bound: ErrorBound, values: &[f32]) -> Vec<u8> {
+        (self.write)(bound, values)
+    }
+
+    fn read(&self, bytes: &[u8], out: &mut Vec<f32>) {
+        let timestamps = &TIMESTAMPS[..out.len()];
+        out.clear();
+        (self.read)(bytes, timestamps, out);
+    }
+
+    fn sum(&self, bytes: &[u8], count: usize) -> f32 {
+        (self.sum)(bytes, count)
+    }
+}
