@@ -43,6 +43,7 @@ pub const ALL: &[Part] = &[
     Part::new("library: lists", library_stream::lists),
     Part::new("library: resumed", library_stream::resumed),
     Part::new("library: damaged", library_stream::damaged),
+    Part::new("library: repeats", library_stream::repeats),
     Part::new("library: states", library_stream::states),
     Part::new("library: reader", library_stream::reading),
     Part::new("library: causes", library_stream::causes),

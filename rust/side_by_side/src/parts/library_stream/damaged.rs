@@ -60,14 +60,14 @@ fn some_damage(context: &mut Context, count: usize) {
 }
 
 /// With one bit turned.
-fn flipped(context: &mut Context, stream: &Stream, place: usize) {
+pub(super) fn flipped(context: &mut Context, stream: &Stream, place: usize) {
     let mut bytes = stream.bytes.clone();
     bytes[place / 8] ^= 128 >> (place % 8);
     used_as_it_is(context, &bytes, stream.at(0));
 }
 
 /// With only its first bytes.
-fn cut(context: &mut Context, stream: &Stream, used: usize) {
+pub(super) fn cut(context: &mut Context, stream: &Stream, used: usize) {
     let whole = stream.at(0);
     used_as_it_is(context, &stream.bytes[..used], At { used, ..whole });
 }
@@ -90,7 +90,7 @@ fn with_others(context: &mut Context, stream: &Stream) {
 }
 
 /// Draws, sums and reopens what may be a stream.
-fn used_as_it_is(context: &mut Context, bytes: &[u8], at: At) {
+pub(super) fn used_as_it_is(context: &mut Context, bytes: &[u8], at: At) {
     let out = vec![STALE_VALUE; at.count];
     both::drawn(context, bytes, at.count, at.opening, &out);
     both::summed(context, bytes, at.count, at.opening, &[STALE_VALUE]);

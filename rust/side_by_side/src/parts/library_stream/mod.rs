@@ -7,6 +7,7 @@ mod damaged;
 mod lists;
 mod marked;
 mod reading;
+mod repeats;
 mod resumed;
 mod states;
 
@@ -15,6 +16,7 @@ pub use damaged::damaged;
 pub use lists::{lists, short_lists};
 pub use marked::marked;
 pub use reading::reading;
+pub use repeats::repeats;
 pub use resumed::resumed;
 pub use states::states;
 
