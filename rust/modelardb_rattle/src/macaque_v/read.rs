@@ -4,7 +4,8 @@ use super::Opening;
 use crate::{Refusal, ffi};
 
 /// Draws the values of a stream, `count` of them, into the first places of `out`. A refusal leaves
-/// `out` as it was.
+/// `out` as it was: the values wait on the stack until the whole stream is found right, which takes
+/// 5 KiB for each 1,024 of them, so up to 320 KiB.
 ///
 /// ```
 /// use modelardb_rattle::{Opening, Refusal, macaque_v};
