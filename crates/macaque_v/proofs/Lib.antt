@@ -1,6 +1,7 @@
 -- The theorems about the calls, and the laws that the proofs of `macaque_v` share.
 pub mod Promises
 pub mod Held
+pub mod Extremes
 pub mod Stepping
 pub mod Writing
 pub mod Near

@@ -1,22 +1,23 @@
--- One value more, as the writer works it out, is one step of the theory. Assumes nothing.
+-- One value more, as the writer's pen works it out, is one step of the theory. Assumes nothing.
 use mathlib.Core.Path.{_≡_, refl, sym, ap, ap₂, _∙_, subst}
 use mathlib.Core.Bool.{Bool, true, false, _&&_}
-use Prim.Native.Nat.{ℕ, zero, suc, _+_, _^_, _≤_, _<_}
-use native.Mathlib.Numerals.{add-one}
+use Prim.Native.Nat.{ℕ, zero, suc, _+_, _^_, _<_}
+use native.Mathlib.Nat.{zero-add}
 use native.Mathlib.Omega.{arith}
 use borrow.Author.Tests.{ne-eqb}
 use lib.Dec.{eqb}
 use lib.ListN.{length}
 use Rattle.bits.specs.Bits.{field}
 use Rattle.bits.proofs.Fields.{length-field}
-use Rattle.models.specs.Floats.{minBits, maxBits}
-use Rattle.stream.specs.Format.{macaque, Window, gathered, rawNext, State, isRaw, advance, bitsFor, windowFor}
+use Rattle.stream.specs.Format.{macaque, Window, gathered, rawNext, State, isRaw, bitsFor, windowFor}
 use Rattle.stream.specs.Write.{keptOne, bitsOne, next}
-use Rattle.macaque_v.specs.State.{Ends, taken, gatherEnds, modeOf, stateOf}
-use Rattle.coding.specs.Code.{windowIn, Says, Coded}
-use Rattle.macaque_v.specs.Write.{streamBy, ruleBy, writerAt, keptBy, Stepped}
+use Rattle.coding.specs.Code.{windowIn}
+use Rattle.macaque_v.specs.State.{Ends, taken, gatherEnds, modeOf}
+use Rattle.macaque_v.specs.Write.{streamBy, ruleBy, stateBy, Stepped}
 use Rattle.macaque_v.specs.declared.MacaqueV.{MacaqueV}
-use Rattle.coding.specs.declared.code.Code.{Code}
+use Rattle.macaque_v.specs.declared.write.Pen.{Pen}
+use Rattle.macaque_v.specs.declared.write.Step.{Step}
+use Rattle.macaque_v.proofs.Extremes.{EndsHeld, held-more}
 
 -- the next value is stored raw
 pub raw-is : (first : Bool) (n : ℕ) → (first && eqb n 0) ≡ rawNext (modeOf first) n
@@ -24,47 +25,67 @@ raw-is false n = refl
 raw-is true zero = refl
 raw-is true (suc n) = let no : ¬ (suc n ≡ 0) = omega arith in ne-eqb (suc n) 0 no
 
+and-true : (b : Bool) → (b && true) ≡ b
+and-true true = refl
+and-true false = refl
+
+and-false : (a b : Bool) → ((a && false) && b) ≡ (a && false)
+and-false true b = refl
+and-false false b = refl
+
+-- a loop's i-th value, behind n others
+pub raw-at : (first : Bool) (n i : ℕ) → ((first && eqb n 0) && eqb i 0) ≡ rawNext (modeOf first) (n + i)
+raw-at first n i = both n ∙ raw-is first (n + i)
+  where
+    both : (k : ℕ) → ((first && eqb k 0) && eqb i 0) ≡ (first && eqb (k + i) 0)
+    both zero = ap (λ (b : Bool). b && eqb i 0) (and-true first) ∙ ap (λ (k : ℕ). first && eqb k 0) (sym (zero-add i))
+    both (suc k) =
+        let no : ¬ (suc k ≡ 0) = omega arith in
+        let more : ¬ (suc k + i ≡ 0) = omega arith in
+        ap (λ (b : Bool). (first && b) && eqb i 0) (ne-eqb (suc k) 0 no) ∙ and-false first (eqb i 0) ∙ ap (λ (b : Bool). first && b) (sym (ne-eqb (suc k + i) 0 more))
+
 -- a raw value enters the least and the greatest as any other
 taken-is : (raw : Bool) (e : Ends) (v : ℕ) → taken e v ≡ gathered gatherEnds raw e v
 taken-is true e v = refl
 taken-is false e v = refl
 
--- the state after a value v, of a window and so many bits
-abbrev afterOne : MacaqueV → ℕ → Window → ℕ → Ends → MacaqueV
-afterOne m v win used seen = writerAt m (record { last = v; win = win; place = m .place + used; count = suc (m .length); seen = seen })
+-- the pen stands in the state s, n values behind where it began
+pub record PenAt (s : State Ends) (n : ℕ) (p : Pen) : Type 0 where
+  pub stands : s ≡ stateBy p (s .count) (s .seen)
+  pub ends : EndsHeld n (s .seen) (p .low) (p .high) (p .last)
 
-module _ (m : MacaqueV) (x : ℕ) (code : Code) (v lo hi : ℕ)
-    (kept : v ≡ keptBy m x)
-    (says : Coded (isRaw (streamBy m) (stateOf m)) (windowIn (m .«last_leading_zero_bits») (m .«last_trailing_zero_bits»)) (m .«last_value») v code)
-    (least : lo ≡ minBits (m .«min_value») v) (greatest : hi ≡ maxBits (m .«max_value») v) where
-  used : code .width ≡ length (bitsOne (streamBy m) (stateOf m) v)
-  used = sym (length-field (code .width) (code .bits)) ∙ ap length (says .digits)
+module _ (m : MacaqueV) {s : State Ends} {n : ℕ} {p : Pen} (P : PenAt s n p) (raw : Bool) (same : raw ≡ isRaw (streamBy m) s) (x : ℕ) (r : Step) (S : Stepped raw (m .«error_bound») p x r) where
+  -- the state as the pen has it
+  abbrev t : State Ends
+  t = stateBy p (s .count) (s .seen)
 
-  seen : _≡_ {A = Ends} (record { min = lo; max = hi }) (gathered gatherEnds (isRaw (streamBy m) (stateOf m)) ((stateOf m) .seen) v)
-  seen = ap₂ (λ (a b : ℕ). record { min = a; max = b }) least greatest ∙ taken-is (isRaw (streamBy m) (stateOf m)) ((stateOf m) .seen) v
+  abbrev v : ℕ
+  v = r .pen .last
 
-  counted : (k : ℕ) → k ≡ suc (m .length) → (used′ : ℕ) → afterOne m v (windowIn (code .lead) (code .trail)) used′ (record { min = lo; max = hi })
-      ≡ writerAt m (record { last = v; win = windowIn (code .lead) (code .trail); place = m .place + used′; count = k; seen = record { min = lo; max = hi } })
-  counted k e u = ap (λ (n : ℕ). writerAt m (record { last = v; win = windowIn (code .lead) (code .trail); place = m .place + u; count = n; seen = record { min = lo; max = hi } })) (sym e)
+  digits-here : field (r .width) (r .bits) ≡ bitsOne (streamBy m) t v
+  digits-here = S .code .digits ∙ ap (λ (b : Bool). bitsFor macaque b (windowIn (p .lead) (p .trail)) (p .last) v) same
 
-  stepped-at : afterOne m v (windowIn (code .lead) (code .trail)) (code .width) (record { min = lo; max = hi }) ≡ writerAt m (next (streamBy m) (stateOf m) v)
-  stepped-at =
-      ap₂ (λ (w : Window) (e : Ends). afterOne m v w (code .width) e) (says .window) seen
-      ∙ ap (λ (n : ℕ). afterOne m v (windowFor macaque (isRaw (streamBy m) (stateOf m)) ((stateOf m) .win) (m .«last_value») v) n (gathered gatherEnds (isRaw (streamBy m) (stateOf m)) ((stateOf m) .seen) v)) used
+  window-here : windowIn (r .pen .lead) (r .pen .trail) ≡ windowFor macaque (isRaw (streamBy m) t) (t .win) (p .last) v
+  window-here = S .code .window ∙ ap (λ (b : Bool). windowFor macaque b (windowIn (p .lead) (p .trail)) (p .last) v) same
 
-  pub stepped : Stepped m x
-      (record {
-        width = code .width;
-        bits = code .bits;
-        state = writerAt m (record { last = v; win = windowIn (code .lead) (code .trail); place = m .place + code .width; count = m .length + 1; seen = record { min = lo; max = hi } });
-      })
-  stepped =
+  place-here : r .pen .place ≡ p .place + length (bitsOne (streamBy m) t v)
+  place-here = S .place ∙ ap (λ (k : ℕ). p .place + k) (sym (length-field (r .width) (r .bits)) ∙ ap length digits-here)
+
+  -- what is kept, and its bits
+  kept-is : v ≡ keptOne (ruleBy m) (isRaw (streamBy m) s) (s .last) x
+  kept-is = S .kept ∙ ap₂ (λ (b : Bool) (l : ℕ). keptOne (ruleBy m) b l x) same (ap (λ (u : State Ends). u .last) (sym (P .stands)))
+
+  pub digits-are : field (r .width) (r .bits) ≡ bitsOne (streamBy m) s (keptOne (ruleBy m) (isRaw (streamBy m) s) (s .last) x)
+  digits-are = digits-here ∙ ap₂ (λ (u : State Ends) (z : ℕ). bitsOne (streamBy m) u z) (sym (P .stands)) kept-is
+
+  pub pen-next : v < 2 ^ 32 → PenAt (next (streamBy m) s (keptOne (ruleBy m) (isRaw (streamBy m) s) (s .last) x)) (n + 1) (r .pen)
+  pen-next fits =
+      let here : PenAt (next (streamBy m) t v) (n + 1) (r .pen) =
       record {
-        digits = says .digits ∙ ap (bitsOne (streamBy m) (stateOf m)) kept;
-        small = says .small;
-        state =
-            sym (counted (m .length + 1) (add-one (m .length)) (code .width)) ∙ stepped-at
-            ∙ ap (λ (z : ℕ). writerAt m (next (streamBy m) (stateOf m) z)) kept;
-        some = says .some;
-        short = says .short;
-      }
+        stands = ap₂ (λ (w : Window) (k : ℕ). record { last = v; win = w; place = k; count = suc (s .count); seen = gathered gatherEnds (isRaw (streamBy m) t) (s .seen) v }) (sym window-here) (sym place-here);
+        ends =
+            subst (λ (e : Ends). EndsHeld (n + 1) e (r .pen .low) (r .pen .high) v) (taken-is (isRaw (streamBy m) t) (s .seen) v)
+            (held-more (P .ends) v fits (r .pen .low) (r .pen .high) (S .low) (S .high));
+      } in
+      subst (λ (z : ℕ). PenAt (next (streamBy m) s z) (n + 1) (r .pen)) kept-is
+      (subst (λ (u : State Ends). PenAt (next (streamBy m) u v) (n + 1) (r .pen)) (sym (P .stands)) here)

@@ -1,14 +1,20 @@
--- Writing with a state: one value's bits and the state after it, and a list's. Assumes nothing.
+-- Writing with a state: a list's bits and the state after it; and the pen that goes from value to value. Assumes nothing.
 use mathlib.Core.Path.{_≡_}
 use mathlib.Core.Bool.{Bool, true, false}
 use mathlib.Core.List.{List}
-use Prim.Native.Nat.{ℕ, _^_, _≤_, _<_}
-use Rattle.bits.specs.Bits.{field, laidIn}
-use Rattle.stream.specs.Format.{Stream, State, isRaw}
-use Rattle.stream.specs.Write.{keptOne, bitsOne, next, written, wrote}
+use Prim.Native.Nat.{ℕ, zero, suc, _+_}
+use lib.Ieee.{binary32, ofBits}
+use Rattle.bits.specs.Bits.{laidIn}
+use Rattle.models.specs.Floats.{minF, maxF}
+use Rattle.models.specs.declared.ErrorBound.{ErrorBound}
+use Rattle.stream.specs.Format.{Stream, State}
+use Rattle.stream.specs.Write.{keptOne, written, wrote}
 use Rattle.coding.specs.Keep.{keepRule}
-use Rattle.macaque_v.specs.State.{Ends, streamIn, stateOf, writerOf}
+use Rattle.coding.specs.Code.{windowIn, Coded}
+use Rattle.coding.specs.declared.code.Code.{Code}
+use Rattle.macaque_v.specs.State.{Ends, endsKept, streamIn, stateOf, writerOf}
 use Rattle.macaque_v.specs.declared.MacaqueV.{MacaqueV}
+use Rattle.macaque_v.specs.declared.write.Pen.{Pen}
 use Rattle.macaque_v.specs.declared.write.Step.{Step}
 
 -- the stream that a writer's mode says, and its rule of what is kept
@@ -22,10 +28,6 @@ ruleBy m = keepRule (m .«error_bound»)
 abbrev pub writerAt : MacaqueV → State Ends → MacaqueV
 writerAt m s = writerOf (m .«error_bound») (m .«with_first») s
 
--- what m keeps of one input
-abbrev pub keptBy : MacaqueV → ℕ → ℕ
-keptBy m x = keptOne (ruleBy m) (isRaw (streamBy m) (stateOf m)) (m .«last_value») x
-
 -- the bits that m writes of a list of inputs, and the state after them
 abbrev pub writtenBy : MacaqueV → List ℕ → List Bool
 writtenBy m xs = written (ruleBy m) (streamBy m) (stateOf m) xs
@@ -38,10 +40,35 @@ abbrev pub laidWhere : Bool → List ℕ → ℕ → List Bool → List ℕ
 laidWhere true buf p bits = laidIn buf p bits
 laidWhere false buf p bits = buf
 
--- r is one input's bits, and the writer after it
-pub record Stepped (m : MacaqueV) (x : ℕ) (r : Step) : Type 0 where
-  pub digits : field (r .width) (r .bits) ≡ bitsOne (streamBy m) (stateOf m) (keptBy m x)
-  pub small : r .bits < 2 ^ r .width
-  pub state : r .state ≡ writerAt m (next (streamBy m) (stateOf m) (keptBy m x))
-  pub some : 0 < r .width
-  pub short : r .width ≤ 45
+-- ---- the pen: a state, but for the count, with the least and the greatest value as numbers
+
+abbrev pub penOf : MacaqueV → Pen
+penOf m =
+    record {
+      last = m .«last_value»;
+      lead = m .«last_leading_zero_bits»;
+      trail = m .«last_trailing_zero_bits»;
+      place = m .place;
+      low = ofBits binary32 (m .«min_value»);
+      high = ofBits binary32 (m .«max_value»);
+    }
+
+-- the state in which the pen stands, behind n values and with these ends
+abbrev pub stateBy : Pen → ℕ → Ends → State Ends
+stateBy p n e = record { last = p .last; win = windowIn (p .lead) (p .trail); place = p .place; count = n; seen = e }
+
+-- the writer m after n values, behind which the pen stands
+abbrev pub leftBy : MacaqueV → Pen → ℕ → MacaqueV
+leftBy m p zero = m
+leftBy m p (suc n) = writerAt m (stateBy p (m .length + suc n) (endsKept (p .low) (p .high) (p .last)))
+
+abbrev pub codeIn : Step → Code
+codeIn r = record { width = r .width; bits = r .bits; lead = r .pen .lead; trail = r .pen .trail }
+
+-- r is one input's bits, and the pen behind them
+pub record Stepped (raw : Bool) (b : ErrorBound) (p : Pen) (x : ℕ) (r : Step) : Type 0 where
+  pub kept : r .pen .last ≡ keptOne (keepRule b) raw (p .last) x
+  pub code : Coded raw (windowIn (p .lead) (p .trail)) (p .last) (r .pen .last) (codeIn r)
+  pub place : r .pen .place ≡ p .place + r .width
+  pub low : r .pen .low ≡ minF (p .low) (ofBits binary32 (r .pen .last))
+  pub high : r .pen .high ≡ maxF (p .high) (ofBits binary32 (r .pen .last))

@@ -6,6 +6,7 @@ ghost use lib.ListN.{length, take, drop, replicate};
 ghost use Rattle.stream.specs.Format.{gathered, gatherFrom};
 ghost use Rattle.macaque_v.specs.State.{modeOf};
 ghost use Rattle.macaque_v.specs.ReadRun.{Stands, NextSays, KeptNext, ReadsOn, FillSays, WalkSays, WholeSays, gatherSum, tallied, IsStretched, leftBehind};
+use crate::write;
 use coding::decode;
 use coding::decode::Decoded;
 use models::Refusal;
@@ -296,17 +297,22 @@ fn stretched(tally: Tally, values: &[u32], k: usize) -> Tally
     requires { ⌜ k ≤ length (now values) ⌝ }
     ensures { λ r. ⌜ IsStretched tally (take k (now (values .entry))) r ⌝ }
 {
-    let mut min = tally.min;
-    let mut max = tally.max;
+    if k == 0 {
+        return tally;
+    }
+    let mut low = numbers::value_of_f32(tally.min);
+    let mut high = numbers::value_of_f32(tally.max);
     let mut i: usize = 0;
     while i < k {
-        min = models::min_bits(min, values[i]);
-        max = models::max_bits(max, values[i]);
+        let x = numbers::value_of_f32(values[i]);
+        low = models::min_f32(low, x);
+        high = models::max_f32(high, x);
         i += 1;
     }
+    let last = values[k - 1];
     Tally {
         sum: tally.sum,
-        min,
-        max,
+        min: write::bits_kept(low, last),
+        max: write::bits_kept(high, last),
     }
 }
