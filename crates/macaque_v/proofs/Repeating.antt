@@ -6,7 +6,7 @@ use Prim.Native.Nat.{ℕ, zero, suc, _+_, _-_, _*_, _^_, _≤_, _<_}
 use native.Mathlib.Omega.{arith}
 use lib.Bits.{bitXor}
 use lib.ListN.{length, take, drop, getD, set, replicate, length-append, length-drop, length-replicate, length-set, replicate-append-replicate, take-append-drop}
-use lib.Seq.{take-at, take-suc-set, drop-set-lt, drop-drop, drop-cons, set-at, length-take-le, take-append-add, drop-append-add}
+use lib.Seq.{take-at, take-suc-set, drop-drop, drop-cons, set-at, length-take-le, take-append-add}
 use Rattle.bits.specs.Bits.{field, fieldAt, starts, bitsOf}
 use Rattle.stream.specs.Format.{macaque, Window, Mode, withFirst, withoutFirst, rawNext, State, advance}
 use Rattle.stream.specs.Read.{Step, got, done, push, follow, readWord, readBody, readOne, readN}
@@ -102,32 +102,20 @@ module _ (old : List ℕ) (i v : ℕ) (h : i + 28 ≤ length old) where
       ∙ ap (λ (z : List ℕ). take i old ++ take k z) (append-assoc (replicate k v) (replicate (28 - k) v) rest)
       ∙ ap (λ (z : List ℕ). take i old ++ z) (take-at (replicate k v) (replicate (28 - k) v ++ rest) k (length-replicate k v))
 
-  pub spread-back : (n : ℕ) → i + 28 ≤ n → drop n spreadOut ≡ drop n old
-  spread-back n m =
-      let q : ℕ = n - (i + 28) in
-      let e : n ≡ i + (28 + q) = omega arith in
-      let f : (i + 28) + q ≡ n = omega arith in
-      ap (λ (x : ℕ). drop x spreadOut) (e ∙ ap (λ (x : ℕ). x + (28 + q)) (sym at-i))
-      ∙ drop-append-add (take i old) (replicate 28 v ++ drop (i + 28) old) (28 + q)
-      ∙ ap (λ (x : ℕ). drop (x + q) (replicate 28 v ++ drop (i + 28) old)) (sym (length-replicate 28 v))
-      ∙ drop-append-add (replicate 28 v) (drop (i + 28) old) q
-      ∙ drop-drop q (i + 28) old ∙ ap (λ (x : ℕ). drop x old) f
-
   pub spread-long : length spreadOut ≡ length old
   spread-long =
       omega (arith, length-append (take i old) (replicate 28 v ++ drop (i + 28) old), length-append (replicate 28 v) (drop (i + 28) old), at-i, length-replicate 28 v, length-drop (i + 28) old)
 
-pub on-repeats : (first : Bool) (bytes : List ℕ) (at : Cursor) (i n : ℕ) (old new : List ℕ) → Stands bytes at → 0 < at .count → n ≤ length old → i + 28 ≤ n
-    → (k : ℕ) → RepeatsAt bytes (at .place) k → new ≡ take i old ++ (replicate 28 (at .last) ++ drop (i + 28) old) → ReadsOn first bytes at i n old new (onward at (at .last) (at .place + 2 * k) k)
-on-repeats first bytes at i n old new s some g h k R e =
+pub on-repeats : (first : Bool) (bytes : List ℕ) (at : Cursor) (i n : ℕ) (old new : List ℕ) → Stands bytes at → 0 < at .count → i + 28 ≤ length old
+    → (k : ℕ) → i + k ≤ n → RepeatsAt bytes (at .place) k → new ≡ take i old ++ (replicate 28 (at .last) ++ drop (i + 28) old) → ReadsOn first bytes at i n old new (onward at (at .last) (at .place + 2 * k) k)
+on-repeats first bytes at i n old new s some h k most R e =
     record {
       many = k;
       values = replicate k (at .last);
       reads = reads-repeats first bytes at s some k R;
-      fits = omega (arith, R .most);
-      front = ap (take (i + k)) e ∙ spread-front old i (at .last) (omega arith) k (R .most);
-      back = ap (drop n) e ∙ spread-back old i (at .last) (omega arith) n h;
-      long = ap length e ∙ spread-long old i (at .last) (omega arith);
+      fits = most;
+      front = ap (take (i + k)) e ∙ spread-front old i (at .last) h k (R .most);
+      long = ap length e ∙ spread-long old i (at .last) h;
     }
 
 -- ---- values and repeats in the last window
@@ -148,7 +136,6 @@ reached-none first bytes at i n out s h =
             reads = reads-none first bytes at s;
             fits = omega arith;
             front = ap (λ (k : ℕ). take k out) e ∙ sym (append-nil (take i out));
-            back = refl;
             long = refl;
           };
       here = e;
@@ -180,7 +167,6 @@ module _ (first : Bool) (bytes : List ℕ) {from at to : Cursor} (i n : ℕ) (ol
                   ap (λ (m : ℕ). take m (set new j v)) e ∙ take-suc-set new j v less
                   ∙ ap (λ (z : List ℕ). z ++ (v ∷ [])) (ap (λ (m : ℕ). take m new) (sym (R .here)) ∙ o .front)
                   ∙ append-assoc (take i old) (o .values) (v ∷ []);
-              back = drop-set-lt n new j v h ∙ o .back;
               long = length-set new j v ∙ o .long;
             };
         here = omega (arith, R .here);
@@ -203,7 +189,6 @@ module _ (first : Bool) (bytes : List ℕ) {from at to : Cursor} (i n : ℕ) (ol
                   ap (λ (m : ℕ). take m new′) e ∙ Q .front
                   ∙ ap (λ (z : List ℕ). z ++ Q .values) (ap (λ (m : ℕ). take m new) (sym (R .here)) ∙ o .front)
                   ∙ append-assoc (take i old) (o .values) (Q .values);
-              back = Q .back ∙ o .back;
               long = Q .long ∙ o .long;
             };
         here = omega (arith, R .here, Q .reads .counted);
@@ -228,11 +213,11 @@ module _ (first : Bool) (bytes : List ℕ) (from : Cursor) (some : 0 < from .cou
       (kept-says word (from .lead) (from .trail) small (s .held set-there) bytes place last y W set-there is)))
 
   -- repeats
-  pub reached-repeats : (k : ℕ) → AtOnce word (n - j) (n - j) k → 0 < k → (new′ : List ℕ) → new′ ≡ take j new ++ (replicate 28 last ++ drop (j + 28) new)
+  pub reached-repeats : (k : ℕ) → AtOnce word (length new - j) (n - j) k → 0 < k → (new′ : List ℕ) → new′ ≡ take j new ++ (replicate 28 last ++ drop (j + 28) new)
       → Reached first bytes from i n old new′ (onward from last (place + 2 * k) (j + k - i)) (j + k)
   reached-repeats k A more new′ is =
-      let room : 28 ≤ n - j = A .free more in
+      let room : 28 ≤ length new - j = A .free more in
       let e : from .count + (j - i) + k ≡ from .count + (j + k - i) = omega (arith, R .here) in
       subst (λ (m : ℕ). Reached first bytes from i n old new′ (record { last = last; lead = from .lead; trail = from .trail; place = place + 2 * k; count = m }) (j + k)) e
       (reached-on first bytes i n old new j R
-      (on-repeats first bytes here j n new new′ (R .on .reads .stands) (omega arith) (omega (arith, R .on .long)) (omega arith) k (W .same k (A .top)) is) (j + k) (omega arith))
+      (on-repeats first bytes here j n new new′ (R .on .reads .stands) (omega arith) (omega (arith, room)) k (omega (arith, A .wanted, R .here, R .on .fits)) (W .same k (A .top)) is) (j + k) (omega arith))

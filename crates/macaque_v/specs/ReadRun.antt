@@ -72,19 +72,18 @@ pub record AtOnce (word room left k : ℕ) : Type 0 where
   pub wanted : k ≤ left
   pub free : 0 < k → 28 ≤ room
 
--- some values more are read, and stand in the places from i on; those before i and those from n on keep what they held
+-- some values more are read, and stand in the places from i on, before n; those before i keep what they held
 pub record ReadsOn (first : Bool) (bytes : List ℕ) (at : Cursor) (i n : ℕ) (old new : List ℕ) (to : Cursor) : Type 0 where
   pub many : ℕ
   pub values : List ℕ
   pub reads : Reads first bytes at many values to
   pub fits : i + many ≤ n
   pub front : take (i + many) new ≡ take i old ++ values
-  pub back : drop n new ≡ drop n old
   pub long : length new ≡ length old
 
--- the values are in the first n places, and the others keep what they held
+-- the values are in the first n places
 abbrev pub FillSays : Bool → List ℕ → Cursor → ℕ → List ℕ → List ℕ → Run → Type 0
-FillSays first bytes from n old new (OfRun.To to) = Reads first bytes from n (take n new) to × (drop n new ≡ drop n old)
+FillSays first bytes from n old new (OfRun.To to) = Reads first bytes from n (take n new) to × (length new ≡ length old)
 FillSays first bytes from n old new (OfRun.Refused r) = StopsBy (readFrom first bytes from n) r
 
 -- ---- what is taken in

@@ -1,4 +1,4 @@
-// Reading value after value: into lent memory, or through a small array for what is taken in of the values on the way.
+// Reading value after value: into an array, or through a small one for what is taken in of the values on the way.
 ghost use mathlib.Core.Path.{_≡_};
 ghost use mathlib.Core.List.{_++_};
 ghost use Prim.Native.Nat.{_+_, _*_, _^_, _<_, _≤_};
@@ -25,7 +25,7 @@ pub enum Run {
     Refused(Refusal),
 }
 
-// ---- into lent memory
+// ---- into an array
 
 // One value more.
 fn next(bytes: &[u8], first: bool, at: Cursor) -> Run
@@ -51,7 +51,7 @@ fn next(bytes: &[u8], first: bool, at: Cursor) -> Run
     }
 }
 
-// The next n values, into the first places of `out`. A refusal leaves some of them there.
+// The next n values, into the first places of `out`. Those behind them may change too, so what is lent by a caller is never handed over here.
 pub fn fill(bytes: &[u8], first: bool, from: Cursor, n: usize, out: &mut [u32]) -> Run
     requires { ⌜ Stands (now bytes) from × (from .count + n ≤ 65536) × (n ≤ length (now out)) ⌝ }
     ensures { λ r. ⌜ FillSays first (now (bytes .entry)) from n (now (out .entry)) (now (out .exit)) r ⌝ }
@@ -95,7 +95,7 @@ fn read_on(bytes: &[u8], first: bool, from: Cursor, i: usize, n: usize, out: &mu
             place += step;
             j += 1;
         } else {
-            let k = at_once(word, n - j, n - j);
+            let k = at_once(word, out.len() - j, n - j);
             if k == 0 {
                 return further(from, last, place, j - i);
             }
@@ -121,12 +121,12 @@ fn further(from: Cursor, last: u32, place: usize, more: usize) -> Cursor
     }
 }
 
-// The repeats that stand behind a value, into the places from i on. They are taken at once, 28 at most, and only where so many places are free.
+// The repeats that stand behind a value, into the places from i on. They are taken at once, 28 at most, and only where `out` has so many places more.
 fn repeats(bytes: &[u8], first: bool, at: Cursor, i: usize, n: usize, out: &mut [u32]) -> Cursor
     requires { ⌜ Stands (now bytes) at × (0 < at .count) × (at .count + n ≤ 65536 + i) × (i ≤ n) × (n ≤ length (now out)) ⌝ }
     ensures { λ r. ⌜ ReadsOn first (now (bytes .entry)) at i n (now (out .entry)) (now (out .exit)) r ⌝ }
 {
-    let k = at_once(decode::word_ahead(bytes, at.place), n - i, n - i);
+    let k = at_once(decode::word_ahead(bytes, at.place), out.len() - i, n - i);
     if k == 0 {
         return at;
     }
@@ -193,12 +193,12 @@ pub enum Walk {
     Refused(Refusal),
 }
 
-// The next n values, and what is taken in of them.
+// The next n values, and what is taken in of them. The array has 28 places more than are asked for, so that repeats are taken at once up to the last.
 pub fn go_through(bytes: &[u8], first: bool, from: Cursor, n: usize, aim: Aim) -> Walk
     requires { ⌜ Stands (now bytes) from × (from .count + n ≤ 65536) ⌝ }
     ensures { λ r. ⌜ WalkSays first (now (bytes .entry)) from n aim r ⌝ }
 {
-    let mut values = [0u32; 1024];
+    let mut values = [0u32; 1052];
     let mut at = from;
     let mut tally = Tally {
         sum: 0.0,

@@ -29,7 +29,7 @@ stored c =
 loop-holds : tie.Need-loop-holds Inv-loop μ-loop
 loop-holds c =
     let a = c .before .before .args in
-    record { reads = reads-none (a .first) (a .bytes .now) (a .from) (c .before .before .pre .0); back = refl; fits = omega arith; long = refl }
+    record { reads = reads-none (a .first) (a .bytes .now) (a .from) (c .before .before .pre .0); fits = omega arith; long = refl }
 
 next-requires : tie.Need-next-requires Inv-loop μ-loop
 next-requires c κs = (c .before .loop .inv .reads .stands, omega (arith, c .before .loop .inv .reads .counted))
@@ -96,7 +96,7 @@ returns-2 c =
     let a = c .before .before .before .before .args in
     let l = c .before .loop in
     let e : l .i ≡ a .n = omega arith in
-    (subst (λ (k : ℕ). Reads (a .first) (a .bytes .now) (a .from) k (take k (l .out)) (l .at)) e (l .inv .reads), l .inv .back)
+    (subst (λ (k : ℕ). Reads (a .first) (a .bytes .now) (a .from) k (take k (l .out)) (l .at)) e (l .inv .reads), l .inv .long)
 
 pub fill-spec : {M : Type 1} → statement M
 fill-spec =

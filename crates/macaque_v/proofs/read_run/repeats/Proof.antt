@@ -1,4 +1,4 @@
--- `macaque_v::read_run::repeats` meets its contract: what is spread behind the repeats is room that is filled later. Assumes nothing.
+-- `macaque_v::read_run::repeats` meets its contract: what is spread behind the repeats is room that is filled later, or asked of none. Assumes nothing.
 use borrow.Author.Needs.{needs}
 use mathlib.Core.Path.{sym, subst}
 use native.Mathlib.Omega.{arith}
@@ -47,8 +47,8 @@ returns-2 c =
     let k = c .before .before .before .before .before .before .before .at-once in
     let word = c .before .before .before .before .before .before .before .before .word-ahead in
     subst (ReadsOn (a .first) (a .bytes .now) (a .at) (a .i) (a .n) (a .out .now) (c .before .before .before .before .spread .last .0)) (sym (c .further .ensures))
-    (on-repeats (a .first) (a .bytes .now) (a .at) (a .i) (a .n) (a .out .now) (c .before .before .before .before .spread .last .0) (s .pre .0) (omega arith) (omega arith)
-    (omega (arith, k .ensures .free (omega arith))) (k .result) (word .ensures .same (k .result) (k .ensures .top)) (c .before .before .before .before .spread .ensures))
+    (on-repeats (a .first) (a .bytes .now) (a .at) (a .i) (a .n) (a .out .now) (c .before .before .before .before .spread .last .0) (s .pre .0) (omega arith)
+    (omega (arith, k .ensures .free (omega arith))) (k .result) (omega (arith, k .ensures .wanted)) (word .ensures .same (k .result) (k .ensures .top)) (c .before .before .before .before .spread .ensures))
 
 pub repeats-spec : {M : Type 1} → statement M
 repeats-spec =
