@@ -1,23 +1,23 @@
 -- One value read of the first bits of a word, branch by branch: each field is a part of the word. Assumes nothing.
-use mathlib.Core.Path.{_≡_, sym, ap, ap₂, _∙_}
+use mathlib.Core.Path.{_≡_, refl, sym, ap, ap₂, _∙_, subst}
 use mathlib.Core.Logic.{_⊎_, ⊎-map}
 use mathlib.Core.Bool.{true, false}
 use mathlib.Core.List.{List}
-use Prim.Native.Nat.{ℕ, _+_, _-_, _*_, _%_, _^_, _≤_, _<_}
+use Prim.Native.Nat.{ℕ, _+_, _-_, _*_, _/_, _%_, _^_, _≤_, _<_}
+use native.Mathlib.Nat.{one-mul, div-eq-of-lt, lt-of-lt-of-le}
 use native.Mathlib.Omega.{arith}
-use lib.Bits.{bitXor}
+use lib.Bits.{bitXor, bitAnd, and-mask, xor-comm}
+use lib.Dec.{lit<}
 use lib.ListN.{length, take, drop}
-use lib.Pow.{shl-exact}
+use lib.Pow.{pow-mono, shl-exact, shr-lt, shr-shr, shr-mod, split}
 use Rattle.bits.specs.Bits.{field, fieldAt, bitsOf}
 use Rattle.stream.specs.Format.{macaque, Window, span}
 use Rattle.stream.specs.Read.{got, refused, windowRead, readRaw, readOne}
 use Rattle.stream.proofs.OneValue.{enough}
 use Rattle.stream.proofs.Branches as branch
 use Rattle.coding.specs.Code.{windowIn}
-use Rattle.coding.specs.Ahead.{bitsIn, IsPart, saysStep, KeptSays}
-use Rattle.coding.specs.declared.decode.Decoded.{Decoded}
-use Rattle.coding.specs.declared.decode.Decoded.the-variants.{Got, Refused}
-use Rattle.coding.proofs.Words.{bits-in-long, part-in}
+use Rattle.coding.specs.Ahead.{bitsIn, IsPart, IsWord}
+use Rattle.coding.proofs.Words.{bits-in-long, field-in-front, part-over, part-in}
 
 module _ (word left : ℕ) (most : left ≤ 45) (win : Window) (l : ℕ) where
   -- ---- a first value
@@ -110,8 +110,52 @@ module _ (word left : ℕ) (most : left ≤ 45) (win : Window) (l : ℕ) where
             ∙ ap₂ (λ (x z : ℕ). got (bitXor (fieldAt 13 z (bitsIn word left) * 2 ^ (32 - x - z)) l) (windowRead macaque x z) (13 + z)) ia im
             ∙ ap (λ (n : ℕ). at (n * 2 ^ (32 - a - m))) (part-in word left most y 13 m (py .is) d))
 
--- what was decoded of the bits ahead is what stands at the place
-pub kept-says : (bytes : List ℕ) (place lead trail last word : ℕ) (r : Decoded) → bitsIn word 45 ≡ take 45 (drop place (bitsOf bytes))
-    → saysStep r ≡ readOne macaque false (windowIn lead trail) last (bitsIn word 45) → KeptSays bytes place lead trail last r
-kept-says bytes place lead trail last word (Got v l t u) e f = sym (f ∙ ap (readOne macaque false (windowIn lead trail) last) e)
-kept-says bytes place lead trail last word (Refused r) e f = tt
+-- ---- a word that begins with `0`
+
+-- `1 << trail`
+pub one-up : (trail : ℕ) → trail < 32 → (1 * 2 ^ trail) % 2 ^ 32 ≡ 2 ^ trail
+one-up trail h = shl-exact {a = 1} 1 trail 32 (lit< tt) (omega arith) ∙ one-mul (2 ^ trail)
+
+mask-off : (x trail : ℕ) → trail < 32 → x - bitAnd x ((1 * 2 ^ trail) % 2 ^ 32 - 1) ≡ x / 2 ^ trail * 2 ^ trail
+mask-off x trail h =
+    ap (λ (k : ℕ). x - bitAnd x (k - 1)) (one-up trail h)
+    ∙ ap (λ (k : ℕ). x - k) (and-mask x trail)
+    ∙ go (x / 2 ^ trail * 2 ^ trail) (x % 2 ^ trail) (split x trail)
+  where
+    go : (a b : ℕ) → a + b ≡ x → x - b ≡ a
+    go a b e = omega arith
+
+module _ (word lead trail : ℕ) (small : word < 2 ^ 63) (held : lead + trail < 32) where
+  abbrev shifted : ℕ
+  shifted = word / 2 ^ (31 + lead)
+
+  pub shifted-fits : shifted < 2 ^ 32
+  shifted-fits =
+      let e : (32 - lead) + (31 + lead) ≡ 63 = omega arith in
+      lt-of-lt-of-le (shr-lt (32 - lead) (31 + lead) (subst (λ (n : ℕ). word < 2 ^ n) (sym e) small)) (pow-mono {i = 32 - lead} {j = 32} (omega arith))
+
+  -- the bits in the window, over their zeros
+  pub in-place-is : shifted - bitAnd shifted ((1 * 2 ^ trail) % 2 ^ 32 - 1) ≡ fieldAt 1 (32 - lead - trail) (field 64 word) * 2 ^ trail
+  in-place-is =
+      let w : ℕ = 32 - lead - trail in
+      let m : ℕ = 31 + lead + trail in
+      let e : w + m ≡ 63 = omega arith in
+      let f : 1 + (w + m) ≡ 64 = omega arith in
+      mask-off shifted trail (omega arith)
+      ∙ ap (λ (x : ℕ). x * 2 ^ trail)
+      (shr-shr word (31 + lead) trail
+      ∙ sym (shr-mod w m (subst (λ (n : ℕ). word < 2 ^ n) (sym e) small))
+      ∙ part-over word 1 w m f)
+
+  -- and they say the value at the place
+  pub kept-says : (bytes : List ℕ) (place last y : ℕ) → IsWord bytes place word → ¬ (lead ≡ 255) → y ≡ fieldAt 1 (32 - lead - trail) (field 64 word) * 2 ^ trail
+      → readOne macaque false (windowIn lead trail) last (take 45 (drop place (bitsOf bytes))) ≡ got (bitXor last y) (windowIn lead trail) (33 - lead - trail)
+  kept-says bytes place last y W set e =
+      let win : Window = windowIn lead trail in
+      let none : fieldAt 0 1 (field 64 word) ≡ 0 = sym (part-over word 0 1 63 refl) ∙ ap (λ (x : ℕ). x % 2) (div-eq-of-lt small) in
+      let long : length (bitsIn word 45) ≡ 45 = bits-in-long word 45 (omega arith) in
+      let used : 1 + (32 - lead - trail) ≡ 33 - lead - trail = omega arith in
+      ap (readOne macaque false win last) (sym (W .kept small))
+      ∙ branch.keep-got win last (bitsIn word 45) (omega (arith, long)) (part-in word 45 (omega arith) 0 0 1 (sym none) (omega arith)) set (omega (arith, long))
+      ∙ ap (λ (n : ℕ). got (bitXor (n * 2 ^ trail) last) win (1 + span macaque win)) (field-in-front 45 1 (32 - lead - trail) (field 64 word) (omega arith))
+      ∙ ap₂ (λ (n k : ℕ). got n win k) (ap (λ (n : ℕ). bitXor n last) (sym e) ∙ xor-comm y last) used

@@ -1,6 +1,6 @@
--- A word's repeats: as far as it goes like 1010.., it begins with them. Assumes nothing.
-use mathlib.Core.Path.{_≡_, refl, sym, ap, ap₂, _∙_}
-use mathlib.Core.Bool.{Bool, true, false}
+-- The word ahead of a place: as far as it goes like 1010.., it begins with repeats; and they stand at the place. Assumes nothing.
+use mathlib.Core.Path.{_≡_, refl, sym, ap, ap₂, _∙_, subst}
+use mathlib.Core.Bool.{Bool, true, false, false≢true}
 use mathlib.Core.List.{List, [], _∷_}
 use Prim.Native.Nat.{ℕ, zero, suc, _+_, _-_, _*_, _/_, _^_, _≤_, _<_}
 use native.Mathlib.Nat.{div-eq-of-lt, lt-of-lt-of-le}
@@ -14,8 +14,8 @@ use lib.Seq.{take-at, take-take}
 use Rattle.bits.specs.Bits.{field, fieldAt, bitsOf}
 use Rattle.bits.proofs.Counts.{xor-undo}
 use Rattle.bits.proofs.Fields.{length-field, field-split}
-use Rattle.coding.specs.Ahead.{repeated, AtTop, RepeatsAt}
-use Rattle.coding.proofs.Words.{moved}
+use Rattle.coding.specs.Ahead.{repeated, AtTop, RepeatsAt, IsWord}
+use Rattle.coding.proofs.Words.{moved, ahead-of-more}
 
 -- the first k of more
 front-repeated : (k m : ℕ) → take (2 * k) (repeated (k + m)) ≡ repeated k
@@ -53,22 +53,61 @@ at-top word k w h =
     ∙ ap (λ (n : ℕ). take (2 * k) (repeated n)) half
     ∙ front-repeated k (32 - k)
 
--- the repeats of the word of n bits from the place on, where there are more bits than they take
-pub repeats-at : (bytes : List ℕ) (place n : ℕ) → place + n ≤ 8 * length bytes → n ≤ 64 → 56 ≤ n
-    → (word k : ℕ) → word ≡ fieldAt place n (bitsOf bytes) * 2 ^ (64 - n) → AtTop word k → RepeatsAt bytes place k
-repeats-at bytes place n h most w word k e t =
-    let less : 2 * k ≤ n = omega (arith, t .most) in
+-- a word that begins with repeats begins with fewer of them too
+pub fewer-at-top : (word k j : ℕ) → AtTop word k → j ≤ k → AtTop word j
+fewer-at-top word k j t h =
+    let e : k ≡ j + (k - j) = omega arith in
     record {
       bits =
-          sym (take-take (2 * k) n (drop place (bitsOf bytes)) less)
-          ∙ ap (take (2 * k)) (sym (moved bytes place n h most))
-          ∙ take-take (2 * k) n (field 64 (fieldAt place n (bitsOf bytes) * 2 ^ (64 - n))) less
-          ∙ ap (λ (x : ℕ). take (2 * k) (field 64 x)) (sym e)
-          ∙ t .bits;
-      there = omega arith;
-      most = t .most;
+          sym (take-take (2 * j) (2 * k) (field 64 word) (omega arith))
+          ∙ ap (take (2 * j)) (t .bits ∙ ap repeated e)
+          ∙ front-repeated j (k - j);
+      most = omega (arith, t .most);
     }
 
-pub no-repeats : (bytes : List ℕ) (place : ℕ) → place ≤ 8 * length bytes → RepeatsAt bytes place 0
+pub none-at-top : (word : ℕ) → AtTop word 0
 unfolding repeated
-no-repeats bytes place h = record { bits = refl; there = omega arith; most = omega arith }
+none-at-top word = record { bits = refl; most = omega arith }
+
+-- ---- the word ahead
+
+-- of n bits from the place on, where those are more than 28 repeats take
+pub word-ahead : (bytes : List ℕ) (place n : ℕ) → place + n ≤ 8 * length bytes → n ≤ 64 → 56 ≤ n
+    → (word : ℕ) → word ≡ fieldAt place n (bitsOf bytes) * 2 ^ (64 - n) → IsWord bytes place word
+word-ahead bytes place n h most w word e =
+    record {
+      kept = λ _. (ahead-of-more bytes place n h most word e (omega arith)) .bits;
+      same = λ k t.
+          let less : 2 * k ≤ n = omega (arith, t .most) in
+          record {
+            bits =
+                sym (take-take (2 * k) n (drop place (bitsOf bytes)) less)
+                ∙ ap (take (2 * k)) (sym (moved bytes place n h most))
+                ∙ take-take (2 * k) n (field 64 (fieldAt place n (bitsOf bytes) * 2 ^ (64 - n))) less
+                ∙ ap (λ (x : ℕ). take (2 * k) (field 64 x)) (sym e)
+                ∙ t .bits;
+            there = omega arith;
+            most = t .most;
+          };
+    }
+
+second : List Bool → Bool
+second [] = false
+second (x ∷ []) = false
+second (x ∷ y ∷ l) = y
+
+-- a word that begins with `11` begins with no repeat
+no-repeat : (k : ℕ) → take (2 * k) (field 64 0xC000_0000_0000_0000) ≡ repeated k → k ≡ 0
+unfolding field repeated second
+no-repeat zero e = refl
+no-repeat (suc k) e =
+    let d : suc (suc (2 * k)) ≡ 2 * suc k = omega arith in
+    absurd (false≢true (sym (ap second (ap (λ (n : ℕ). take n (field 64 0xC000_0000_0000_0000)) d ∙ e))))
+
+pub no-word-ahead : (bytes : List ℕ) (place : ℕ) → place ≤ 8 * length bytes → IsWord bytes place 0xC000_0000_0000_0000
+unfolding repeated
+no-word-ahead bytes place h =
+    record {
+      kept = λ small. absurd (omega arith);
+      same = λ k t. subst (RepeatsAt bytes place) (sym (no-repeat k (t .bits))) (record { bits = refl; there = omega arith; most = omega arith });
+    }

@@ -37,16 +37,20 @@ field-in-front n i k b h =
     ∙ ap (λ (z : List Bool). value (take k z)) (drop-take i (n - i) b)
     ∙ ap value (take-take k (n - i) (drop i b) (omega arith))
 
+-- the `width` bits of a word behind its first `skip`, with m behind them
+pub part-over : (word skip width m : ℕ) → skip + (width + m) ≡ 64 → word / 2 ^ m % 2 ^ width ≡ fieldAt skip width (field 64 word)
+part-over word skip width m e =
+    let F : List Bool = field skip (word / 2 ^ (width + m)) in
+    sym (ap (λ (n : ℕ). fieldAt skip width (field n word)) (sym e)
+    ∙ ap (fieldAt skip width) (field-split skip (width + m) word ∙ ap (λ (z : List Bool). F ++ z) (field-split width m word))
+    ∙ fieldAt-field skip width (word / 2 ^ m) F (field m word) (length-field skip (word / 2 ^ (width + m))))
+
 -- `(word << skip) >> (64 - width)`
 pub part-is : (word skip width : ℕ) → skip + width ≤ 64 → (word * 2 ^ skip) % 2 ^ 64 / 2 ^ (64 - width) ≡ fieldAt skip width (field 64 word)
 part-is word skip width h =
     let m : ℕ = 64 - (skip + width) in
     let e : skip + (width + m) ≡ 64 = omega arith in
-    let F : List Bool = field skip (word / 2 ^ (width + m)) in
-    shl-shr-word word skip width m e
-    ∙ sym (ap (λ (n : ℕ). fieldAt skip width (field n word)) (sym e)
-    ∙ ap (fieldAt skip width) (field-split skip (width + m) word ∙ ap (λ (z : List Bool). F ++ z) (field-split width m word))
-    ∙ fieldAt-field skip width (word / 2 ^ m) F (field m word) (length-field skip (word / 2 ^ (width + m))))
+    shl-shr-word word skip width m e ∙ part-over word skip width m e
 
 module _ (word left : ℕ) (h : left ≤ 45) where
   pub bits-in-long : length (bitsIn word left) ≡ left

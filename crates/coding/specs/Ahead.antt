@@ -6,8 +6,7 @@ use Prim.Native.Nat.{ℕ, zero, suc, _+_, _*_, _^_, _≤_, _<_}
 use lib.ListN.{length, take, drop}
 use Rattle.bits.specs.Bits.{field, fieldAt, bitsOf}
 use Rattle.models.specs.Refusals.{number}
-use Rattle.stream.specs.Format.{macaque}
-use Rattle.stream.specs.Read.{Step, got, refused, readOne}
+use Rattle.stream.specs.Read.{Step, got, refused}
 use Rattle.coding.specs.Code.{windowIn}
 use Rattle.coding.specs.declared.decode.Ahead.{Ahead}
 use Rattle.coding.specs.declared.decode.Decoded.{Decoded}
@@ -48,14 +47,13 @@ pub record RepeatsAt (bytes : List ℕ) (place k : ℕ) : Type 0 where
   pub there : place + 2 * k ≤ 8 * length bytes
   pub most : k ≤ 28
 
+-- a word that begins with `0` holds 45 bits of the stream from the place on, and the repeats that a word begins with stand there
+pub record IsWord (bytes : List ℕ) (place word : ℕ) : Type 0 where
+  pub kept : word < 2 ^ 63 → bitsIn word 45 ≡ take 45 (drop place (bitsOf bytes))
+  pub same : (k : ℕ) → AtTop word k → RepeatsAt bytes place k
+
 -- ---- one value
 
 abbrev pub saysStep : Decoded → Step
 saysStep (Got value lead trail used) = got value (windowIn lead trail) used
 saysStep (Refused r) = refused (number r)
-
--- a value that is got is the one at the place
-abbrev pub KeptSays : List ℕ → ℕ → ℕ → ℕ → ℕ → Decoded → Type 0
-KeptSays bytes place lead trail last (Got value lead′ trail′ used) =
-    readOne macaque false (windowIn lead trail) last (take 45 (drop place (bitsOf bytes))) ≡ got value (windowIn lead′ trail′) used
-KeptSays bytes place lead trail last (Refused r) = Unit

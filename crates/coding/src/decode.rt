@@ -1,13 +1,13 @@
 // One value from the bits ahead of a place: raw, or by its code.
 ghost use mathlib.Core.Path.{_≡_};
 ghost use mathlib.Core.Bool.{true, false};
-ghost use Prim.Native.Nat.{_+_, _*_, _/_, _<_, _≤_};
+ghost use Prim.Native.Nat.{_+_, _-_, _*_, _/_, _^_, _<_, _≤_};
 ghost use lib.ListN.{length};
 ghost use Rattle.bits.specs.Bits.{field, fieldAt};
 ghost use Rattle.stream.specs.Format.{macaque};
 ghost use Rattle.stream.specs.Read.{readOne};
 ghost use Rattle.coding.specs.Code.{windowIn};
-ghost use Rattle.coding.specs.Ahead.{Held, bitsIn, IsPart, IsAhead, AtTop, RepeatsAt, saysStep, KeptSays};
+ghost use Rattle.coding.specs.Ahead.{Held, bitsIn, IsPart, IsAhead, IsWord, AtTop, saysStep};
 use models::Refusal;
 
 // ---- the bits ahead
@@ -61,21 +61,30 @@ fn part(word: u64, skip: usize, width: usize) -> u32
     ((word << skip) >> (64 - width)) as u32
 }
 
-// ---- repeats
+// ---- a word at a time
 
-// How many repeats stand at the place, as far as eight bytes from there on say it: 28 at most.
-pub fn repeats(bytes: &[u8], place: usize) -> usize
+// The word at a place where eight bytes stand from there on; else one that begins with `11`, as no value in the last window and no repeat does.
+pub fn word_ahead(bytes: &[u8], place: usize) -> u64
     requires { ⌜ place ≤ 8 * length (now bytes) ⌝ }
-    ensures { λ r. ⌜ RepeatsAt (now (bytes .entry)) place r ⌝ }
+    ensures { λ r. ⌜ IsWord (now (bytes .entry)) place r ⌝ }
 {
     if bytes.len() - place / 8 < 8 {
-        return 0;
+        return 0xC000_0000_0000_0000;
     }
-    at_top(bits::word_at(bytes, place))
+    bits::word_at(bytes, place)
+}
+
+// Of a word that begins with `0`: the bits in the window behind it, over `trail` zeros.
+pub fn in_place(word: u64, lead: u32, trail: u32) -> u32
+    requires { ⌜ (word < 2 ^ 63) × (lead + trail < 32) ⌝ }
+    ensures { λ r. ⌜ r ≡ fieldAt 1 (32 - lead - trail) (field 64 word) * 2 ^ trail ⌝ }
+{
+    let x = (word >> (31 + lead)) as u32;
+    x - (x & ((1u32 << trail) - 1))
 }
 
 // How many repeats a word begins with, 28 at most: each is `10`.
-fn at_top(word: u64) -> usize
+pub fn at_top(word: u64) -> usize
     ensures { λ r. ⌜ AtTop word r ⌝ }
 {
     let k = (u64::leading_zeros(word ^ 0xAAAA_AAAA_AAAA_AAAA) / 2) as usize;
@@ -160,21 +169,6 @@ fn in_window(word: u64, left: usize, lead: u32, trail: u32, last: u32) -> Decode
         trail,
         used: 1 + width,
     }
-}
-
-// The value at a place, where it is coded in the last window and eight bytes stand from there on: any other is refused here.
-pub fn kept_at(bytes: &[u8], place: usize, lead: u32, trail: u32, last: u32) -> Decoded
-    requires { ⌜ (place ≤ 8 * length (now bytes)) × Held lead trail ⌝ }
-    ensures { λ r. ⌜ KeptSays (now (bytes .entry)) place lead trail last r ⌝ }
-{
-    if bytes.len() - place / 8 < 8 {
-        return Decoded::Refused(Refusal::EndsEarly);
-    }
-    let word = bits::word_at(bytes, place);
-    if part(word, 0, 1) != 0 {
-        return Decoded::Refused(Refusal::NoWindow);
-    }
-    in_window(word, 45, lead, trail, last)
 }
 
 // `11`, a header that sets a new window, then the bits in it.

@@ -5,7 +5,7 @@ use mathlib.Core.List.{List, _++_}
 use mathlib.Core.Option.{Option, none, some}
 use Prim.Native.Nat.{ℕ, _+_, _-_, _^_, _≤_, _<_}
 use native.Mathlib.Omega.{arith}
-use lib.ListN.{length, take, drop, take-append-drop}
+use lib.ListN.{take, drop}
 use Rattle.bits.specs.Bits.{bitsOf}
 use Rattle.models.specs.Answers.{answered, refused}
 use Rattle.models.specs.Refusals.{number}
@@ -109,10 +109,9 @@ module _ (bytes : List ℕ) (o : Opening) where
 
   -- a stream that is right is read again as it was
   pub filled-again : {n : ℕ} {vs : List ℕ} {to : Cursor} → Reads (isFirst o) bytes (startOf o) n vs to → (old new : List ℕ) (r : Run)
-      → FillSays (isFirst o) bytes (startOf o) n old new r → new ≡ vs ++ drop (length vs) old
+      → FillSays (isFirst o) bytes (startOf o) n old new r → take n new ≡ vs
   filled-again {n} {vs} R old new (OfRun.To at) f =
-      let same : take n new ≡ vs = equal (sym (f .0 .values) ∙ R .values) in
-      sym (take-append-drop n new) ∙ ap₂ (λ (x y : List ℕ). x ++ y) same (f .1 ∙ ap (λ (m : ℕ). drop m old) (sym (R .long)))
+      equal (sym (f .0 .values) ∙ R .values)
     where
       equal : {us ws : List ℕ} {s t : State Unit} {b c : List Bool} → _≡_ {A = Reading Unit} (done us s b) (done ws t c) → us ≡ ws
       equal e = cc

@@ -1,4 +1,4 @@
--- Reading one value in lent bytes, some and then more, and into lent memory. Assumes nothing.
+-- Reading one value in lent bytes, some and then more, and into an array. Assumes nothing.
 use mathlib.Core.Path.{_≡_, refl, sym, ap, ap₂, _∙_, subst}
 use mathlib.Core.Logic.{_⊎_, inl, inr}
 use mathlib.Core.Bool.{Bool}
@@ -8,7 +8,7 @@ use native.Mathlib.Nat.{min-le-left, min-le-right}
 use native.Mathlib.Numerals.{add-one}
 use native.Mathlib.Omega.{arith}
 use lib.ListN.{length, take, drop, getD, set, length-append, length-take, length-drop, length-set}
-use lib.Seq.{take-suc, take-suc-set, drop-cons, drop-drop, drop-set-lt, set-at, append-snoc, length-take-le}
+use lib.Seq.{take-suc, take-suc-set, drop-cons, drop-drop, set-at, append-snoc, length-take-le}
 use Rattle.bits.specs.Bits.{bitsOf}
 use Rattle.bits.proofs.Bytes.{length-bitsOf}
 use Rattle.models.specs.Refusals.{number}
@@ -137,12 +137,11 @@ module _ (first : Bool) (bytes : List ℕ) where
           numbered = Q .numbered;
         }
 
-  -- ---- into lent memory
+  -- ---- into an array
 
-  -- i values stand in the first i places, and the places from n on keep what they held
+  -- i values of n stand in the first i places
   pub record Filled (from : Cursor) (n i : ℕ) (old new : List ℕ) (at : Cursor) : Type 0 where
     pub reads : Reads first bytes from i (take i new) at
-    pub back : drop n new ≡ drop n old
     pub fits : i ≤ n
     pub long : length new ≡ length old
 
@@ -154,7 +153,6 @@ module _ (first : Bool) (bytes : List ℕ) where
         let front : take (i + 1) (set new i v) ≡ take i new ++ (v ∷ []) = ap (λ (k : ℕ). take k (set new i v)) (add-one i) ∙ take-suc-set new i v less in
         record {
           reads = subst (λ (us : List ℕ). Reads first bytes from (i + 1) us to) (sym front) (reads-then (F .reads) Q);
-          back = drop-set-lt n new i v h ∙ F .back;
           fits = omega arith;
           long = length-set new i v ∙ F .long;
         }
@@ -167,7 +165,6 @@ module _ (first : Bool) (bytes : List ℕ) where
           reads =
               subst (λ (m : ℕ). Reads first bytes from m (take m new′) to) is
               (subst (λ (us : List ℕ). Reads first bytes from (i + k) us to) (sym (Q .front)) (reads-then (F .reads) (Q .reads)));
-          back = Q .back ∙ F .back;
           fits = omega (arith, Q .fits);
           long = Q .long ∙ F .long;
         }

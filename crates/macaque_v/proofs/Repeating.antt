@@ -1,21 +1,23 @@
--- Repeats are read at once: each is the last value again, two bits on. And a value that is spread over places. Assumes nothing.
-use mathlib.Core.Path.{_≡_, refl, sym, ap, ap₂, _∙_}
+-- Repeats are read at once: each is the last value again, two bits on. A value that is spread over places. And how far values and repeats in the last window reach. Assumes nothing.
+use mathlib.Core.Path.{_≡_, refl, sym, ap, ap₂, _∙_, subst}
 use mathlib.Core.Bool.{Bool, true, false}
 use mathlib.Core.List.{List, [], _∷_, _++_, append-assoc, append-nil}
-use Prim.Native.Nat.{ℕ, zero, suc, _+_, _-_, _*_, _≤_, _<_}
+use Prim.Native.Nat.{ℕ, zero, suc, _+_, _-_, _*_, _^_, _≤_, _<_}
 use native.Mathlib.Omega.{arith}
+use lib.Bits.{bitXor}
 use lib.ListN.{length, take, drop, getD, set, replicate, length-append, length-drop, length-replicate, length-set, replicate-append-replicate, take-append-drop}
-use lib.Seq.{take-at, take-suc-set, drop-set-lt, drop-at, drop-drop, drop-cons, set-at, length-take-le, take-append-add, drop-append-add, take-take}
-use Rattle.bits.specs.Bits.{starts, bitsOf}
+use lib.Seq.{take-at, take-suc-set, drop-drop, drop-cons, set-at, length-take-le, take-append-add}
+use Rattle.bits.specs.Bits.{field, fieldAt, starts, bitsOf}
 use Rattle.stream.specs.Format.{macaque, Window, Mode, withFirst, withoutFirst, rawNext, State, advance}
 use Rattle.stream.specs.Read.{Step, got, done, push, follow, readWord, readBody, readOne, readN}
 use Rattle.stream.specs.Cases.{plain}
 use Rattle.coding.specs.Code.{windowIn}
-use Rattle.coding.specs.Ahead.{repeated, RepeatsAt}
+use Rattle.coding.specs.Ahead.{repeated, RepeatsAt, IsWord}
+use Rattle.coding.proofs.Decoding.{kept-says}
 use Rattle.macaque_v.specs.State.{modeOf}
-use Rattle.macaque_v.specs.ReadRun.{Stands, Reads, ReadsOn}
+use Rattle.macaque_v.specs.ReadRun.{Stands, Reads, onward, AtOnce, ReadsOn}
 use Rattle.macaque_v.specs.declared.read_run.Cursor.{Cursor}
-use Rattle.macaque_v.proofs.ReadingRun.{reads-none, reads-then}
+use Rattle.macaque_v.proofs.ReadingRun.{one-read, reads-none, reads-then}
 
 -- ---- reading
 
@@ -50,12 +52,8 @@ repeats-read m l win r (suc k) p n h =
     ∙ ap (push l) (repeats-read m l win r k (p + 2) (suc n) (omega arith))
     ∙ ap₂ (λ (a b : ℕ). done (l ∷ replicate k l) (standing l win a b) r) e f
 
--- where reading stands behind k repeats
-abbrev pub behind : Cursor → ℕ → Cursor
-behind at k = record { last = at .last; lead = at .lead; trail = at .trail; place = at .place + 2 * k; count = at .count + k }
-
 pub reads-repeats : (first : Bool) (bytes : List ℕ) (at : Cursor) → Stands bytes at → 0 < at .count → (k : ℕ) → RepeatsAt bytes (at .place) k
-    → Reads first bytes at k (replicate k (at .last)) (behind at k)
+    → Reads first bytes at k (replicate k (at .last)) (onward at (at .last) (at .place + 2 * k) k)
 reads-repeats first bytes at s h k R =
     let rest : List Bool = drop (at .place) (bitsOf bytes) in
     let win : Window = windowIn (at .lead) (at .trail) in
@@ -104,35 +102,23 @@ module _ (old : List ℕ) (i v : ℕ) (h : i + 28 ≤ length old) where
       ∙ ap (λ (z : List ℕ). take i old ++ take k z) (append-assoc (replicate k v) (replicate (28 - k) v) rest)
       ∙ ap (λ (z : List ℕ). take i old ++ z) (take-at (replicate k v) (replicate (28 - k) v ++ rest) k (length-replicate k v))
 
-  pub spread-back : (n : ℕ) → i + 28 ≤ n → drop n spreadOut ≡ drop n old
-  spread-back n m =
-      let q : ℕ = n - (i + 28) in
-      let e : n ≡ i + (28 + q) = omega arith in
-      let f : (i + 28) + q ≡ n = omega arith in
-      ap (λ (x : ℕ). drop x spreadOut) (e ∙ ap (λ (x : ℕ). x + (28 + q)) (sym at-i))
-      ∙ drop-append-add (take i old) (replicate 28 v ++ drop (i + 28) old) (28 + q)
-      ∙ ap (λ (x : ℕ). drop (x + q) (replicate 28 v ++ drop (i + 28) old)) (sym (length-replicate 28 v))
-      ∙ drop-append-add (replicate 28 v) (drop (i + 28) old) q
-      ∙ drop-drop q (i + 28) old ∙ ap (λ (x : ℕ). drop x old) f
-
   pub spread-long : length spreadOut ≡ length old
   spread-long =
       omega (arith, length-append (take i old) (replicate 28 v ++ drop (i + 28) old), length-append (replicate 28 v) (drop (i + 28) old), at-i, length-replicate 28 v, length-drop (i + 28) old)
 
-pub on-repeats : (first : Bool) (bytes : List ℕ) (at : Cursor) (i n : ℕ) (old new : List ℕ) → Stands bytes at → 0 < at .count → n ≤ length old → i + 28 ≤ n
-    → (k : ℕ) → RepeatsAt bytes (at .place) k → new ≡ take i old ++ (replicate 28 (at .last) ++ drop (i + 28) old) → ReadsOn first bytes at i n old new (behind at k)
-on-repeats first bytes at i n old new s some g h k R e =
+pub on-repeats : (first : Bool) (bytes : List ℕ) (at : Cursor) (i n : ℕ) (old new : List ℕ) → Stands bytes at → 0 < at .count → i + 28 ≤ length old
+    → (k : ℕ) → i + k ≤ n → RepeatsAt bytes (at .place) k → new ≡ take i old ++ (replicate 28 (at .last) ++ drop (i + 28) old) → ReadsOn first bytes at i n old new (onward at (at .last) (at .place + 2 * k) k)
+on-repeats first bytes at i n old new s some h k most R e =
     record {
       many = k;
       values = replicate k (at .last);
       reads = reads-repeats first bytes at s some k R;
-      fits = omega (arith, R .most);
-      front = ap (take (i + k)) e ∙ spread-front old i (at .last) (omega arith) k (R .most);
-      back = ap (drop n) e ∙ spread-back old i (at .last) (omega arith) n h;
-      long = ap length e ∙ spread-long old i (at .last) (omega arith);
+      fits = most;
+      front = ap (take (i + k)) e ∙ spread-front old i (at .last) h k (R .most);
+      long = ap length e ∙ spread-long old i (at .last) h;
     }
 
--- ---- the values in the window
+-- ---- values and repeats in the last window
 
 -- j places are reached
 pub record Reached (first : Bool) (bytes : List ℕ) (from : Cursor) (i n : ℕ) (old new : List ℕ) (at : Cursor) (j : ℕ) : Type 0 where
@@ -150,11 +136,17 @@ reached-none first bytes at i n out s h =
             reads = reads-none first bytes at s;
             fits = omega arith;
             front = ap (λ (k : ℕ). take k out) e ∙ sym (append-nil (take i out));
-            back = refl;
             long = refl;
           };
       here = e;
     }
+
+pub reached-start : (first : Bool) (bytes : List ℕ) (from : Cursor) (i n : ℕ) (out : List ℕ) → Stands bytes from → i ≤ n
+    → Reached first bytes from i n out out (onward from (from .last) (from .place) (i - i)) i
+reached-start first bytes from i n out s h =
+    let e : from .count ≡ from .count + (i - i) = omega arith in
+    subst (λ (m : ℕ). Reached first bytes from i n out out (record { last = from .last; lead = from .lead; trail = from .trail; place = from .place; count = m }) i) e
+    (reached-none first bytes from i n out s h)
 
 module _ (first : Bool) (bytes : List ℕ) {from at to : Cursor} (i n : ℕ) (old new : List ℕ) (j : ℕ) (R : Reached first bytes from i n old new at j) where
   pub reached-more : j < n → n ≤ length old → Reads first bytes at 1 (to .last ∷ []) to → Reached first bytes from i n old (set new j (to .last)) to (j + 1)
@@ -175,8 +167,57 @@ module _ (first : Bool) (bytes : List ℕ) {from at to : Cursor} (i n : ℕ) (ol
                   ap (λ (m : ℕ). take m (set new j v)) e ∙ take-suc-set new j v less
                   ∙ ap (λ (z : List ℕ). z ++ (v ∷ [])) (ap (λ (m : ℕ). take m new) (sym (R .here)) ∙ o .front)
                   ∙ append-assoc (take i old) (o .values) (v ∷ []);
-              back = drop-set-lt n new j v h ∙ o .back;
               long = length-set new j v ∙ o .long;
             };
         here = omega (arith, R .here);
       }
+
+  -- more are read
+  pub reached-on : {new′ : List ℕ} → ReadsOn first bytes at j n new new′ to → (j′ : ℕ) → to .count + j ≡ at .count + j′ → Reached first bytes from i n old new′ to j′
+  reached-on {new′} Q j′ f =
+      let o : ReadsOn first bytes from i n old new at = R .on in
+      let k : ℕ = o .many in
+      let e : i + (k + Q .many) ≡ j + Q .many = omega (arith, R .here) in
+      record {
+        on =
+            record {
+              many = k + Q .many;
+              values = o .values ++ Q .values;
+              reads = reads-then first bytes (o .reads) (Q .reads);
+              fits = omega (arith, R .here, Q .fits);
+              front =
+                  ap (λ (m : ℕ). take m new′) e ∙ Q .front
+                  ∙ ap (λ (z : List ℕ). z ++ Q .values) (ap (λ (m : ℕ). take m new) (sym (R .here)) ∙ o .front)
+                  ∙ append-assoc (take i old) (o .values) (Q .values);
+              long = Q .long ∙ o .long;
+            };
+        here = omega (arith, R .here, Q .reads .counted);
+      }
+
+module _ (first : Bool) (bytes : List ℕ) (from : Cursor) (some : 0 < from .count) (i n : ℕ) (old new : List ℕ) (last place j : ℕ)
+    (R : Reached first bytes from i n old new (onward from last place (j - i)) j) (g : n ≤ length old) (word : ℕ) (W : IsWord bytes place word) where
+  abbrev here : Cursor
+  here = onward from last place (j - i)
+
+  -- a value in the window
+  pub reached-kept : j < n → word < 2 ^ 63 → ¬ (from .lead ≡ 255) → (y : ℕ) → y ≡ fieldAt 1 (32 - from .lead - from .trail) (field 64 word) * 2 ^ from .trail
+      → Reached first bytes from i n old (set new j (bitXor last y)) (onward from (bitXor last y) (place + (33 - from .lead - from .trail)) (j + 1 - i)) (j + 1)
+  reached-kept h small set-there y is =
+      let s : Stands bytes here = R .on .reads .stands in
+      let v : ℕ = bitXor last y in
+      let used : ℕ = 33 - from .lead - from .trail in
+      let e : from .count + (j - i) + 1 ≡ from .count + (j + 1 - i) = omega (arith, R .here) in
+      subst (λ (m : ℕ). Reached first bytes from i n old (set new j v) (record { last = v; lead = from .lead; trail = from .trail; place = place + used; count = m }) (j + 1)) e
+      (reached-more first bytes i n old new j R h g
+      (one-read first bytes here s false (sym (later-coded (modeOf first) (here .count) (omega arith))) v (from .lead) (from .trail) used
+      (kept-says word (from .lead) (from .trail) small (s .held set-there) bytes place last y W set-there is)))
+
+  -- repeats
+  pub reached-repeats : (k : ℕ) → AtOnce word (length new - j) (n - j) k → 0 < k → (new′ : List ℕ) → new′ ≡ take j new ++ (replicate 28 last ++ drop (j + 28) new)
+      → Reached first bytes from i n old new′ (onward from last (place + 2 * k) (j + k - i)) (j + k)
+  reached-repeats k A more new′ is =
+      let room : 28 ≤ length new - j = A .free more in
+      let e : from .count + (j - i) + k ≡ from .count + (j + k - i) = omega (arith, R .here) in
+      subst (λ (m : ℕ). Reached first bytes from i n old new′ (record { last = last; lead = from .lead; trail = from .trail; place = place + 2 * k; count = m }) (j + k)) e
+      (reached-on first bytes i n old new j R
+      (on-repeats first bytes here j n new new′ (R .on .reads .stands) (omega arith) (omega (arith, room)) k (omega (arith, A .wanted, R .here, R .on .fits)) (W .same k (A .top)) is) (j + k) (omega arith))

@@ -17,12 +17,10 @@ use Rattle.stream.specs.Read.{Reading, done, stopped, readN, leftover, ended}
 use Rattle.stream.specs.Cases.{plain}
 use Rattle.macaque_v.specs.State.{Ends, gatherEnds, modeOf}
 use Rattle.coding.specs.Code.{windowIn}
-use Rattle.coding.specs.Ahead.{Held}
+use Rattle.coding.specs.Ahead.{Held, AtTop}
 use Rattle.macaque_v.specs.declared.read_run.Cursor.{Cursor}
 use Rattle.macaque_v.specs.declared.read_run.Run.{Run}
 use Rattle.macaque_v.specs.declared.read_run.Run.the-variants as OfRun
-use Rattle.macaque_v.specs.declared.read_run.Kept.{Kept}
-use Rattle.macaque_v.specs.declared.read_run.Kept.the-variants as OfKept
 use Rattle.macaque_v.specs.declared.read_run.Aim.{Aim}
 use Rattle.macaque_v.specs.declared.read_run.Aim.the-variants as OfAim
 use Rattle.macaque_v.specs.declared.read_run.Tally.{Tally}
@@ -64,24 +62,28 @@ abbrev pub NextSays : Bool → List ℕ → Cursor → Run → Type 0
 NextSays first bytes at (OfRun.To to) = Reads first bytes at 1 (to .last ∷ []) to
 NextSays first bytes at (OfRun.Refused r) = StopsBy (readFrom first bytes at 1) r
 
--- a value more in the last window, where there is one
-abbrev pub KeptNext : Bool → List ℕ → Cursor → Kept → Type 0
-KeptNext first bytes at (OfKept.To to) = Reads first bytes at 1 (to .last ∷ []) to
-KeptNext first bytes at OfKept.No = Unit
+-- where reading stands behind so many values more in the same window
+abbrev pub onward : Cursor → ℕ → ℕ → ℕ → Cursor
+onward from last place more = record { last = last; lead = from .lead; trail = from .trail; place = place; count = from .count + more }
 
--- some values more are read, and stand in the places from i on; those before i and those from n on keep what they held
+-- k repeats of a word are taken, where there is room to spread a value
+pub record AtOnce (word room left k : ℕ) : Type 0 where
+  pub top : AtTop word k
+  pub wanted : k ≤ left
+  pub free : 0 < k → 28 ≤ room
+
+-- some values more are read, and stand in the places from i on, before n; those before i keep what they held
 pub record ReadsOn (first : Bool) (bytes : List ℕ) (at : Cursor) (i n : ℕ) (old new : List ℕ) (to : Cursor) : Type 0 where
   pub many : ℕ
   pub values : List ℕ
   pub reads : Reads first bytes at many values to
   pub fits : i + many ≤ n
   pub front : take (i + many) new ≡ take i old ++ values
-  pub back : drop n new ≡ drop n old
   pub long : length new ≡ length old
 
--- the values are in the first n places, and the others keep what they held
+-- the values are in the first n places
 abbrev pub FillSays : Bool → List ℕ → Cursor → ℕ → List ℕ → List ℕ → Run → Type 0
-FillSays first bytes from n old new (OfRun.To to) = Reads first bytes from n (take n new) to × (drop n new ≡ drop n old)
+FillSays first bytes from n old new (OfRun.To to) = Reads first bytes from n (take n new) to × (length new ≡ length old)
 FillSays first bytes from n old new (OfRun.Refused r) = StopsBy (readFrom first bytes from n) r
 
 -- ---- what is taken in

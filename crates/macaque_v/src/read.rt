@@ -159,7 +159,7 @@ fn draw_few(bytes: &[u8], count: usize, opening: Opening, out: &mut [u32]) -> Gr
     }
 }
 
-// Of many values the stream is checked first, and then read again.
+// Of many values the stream is checked first, and then read again and copied.
 fn draw_many(bytes: &[u8], count: usize, opening: Opening, out: &mut [u32]) -> GridAnswer
     requires { ⌜ (count ≤ 65536) × (count ≤ length (now out)) ⌝ }
     ensures answer { λ r. ⌜ saysGrid r ≡ drawn (valuesIn (now (bytes .entry)) count opening) ⌝ }
@@ -169,7 +169,9 @@ fn draw_many(bytes: &[u8], count: usize, opening: Opening, out: &mut [u32]) -> G
     match read_run::go_to_end(bytes, first, start(opening), count, Aim::Nothing) {
         Walk::Refused(r) => GridAnswer::Refused(r),
         Walk::To(_, _) => {
-            read_run::fill(bytes, first, start(opening), count, out);
+            let mut all = [0u32; 65536];
+            read_run::fill(bytes, first, start(opening), count, &mut all);
+            read_run::copy(&all, count, out);
             GridAnswer::Drawn
         }
     }

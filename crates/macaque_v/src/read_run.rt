@@ -1,11 +1,11 @@
-// Reading value after value: into lent memory, or through a small array for what is taken in of the values on the way.
+// Reading value after value: into an array, or through a small one for what is taken in of the values on the way.
 ghost use mathlib.Core.Path.{_≡_};
 ghost use mathlib.Core.List.{_++_};
 ghost use Prim.Native.Nat.{_+_, _*_, _^_, _<_, _≤_};
 ghost use lib.ListN.{length, take, drop, replicate};
 ghost use Rattle.stream.specs.Format.{gathered, gatherFrom};
 ghost use Rattle.macaque_v.specs.State.{modeOf};
-ghost use Rattle.macaque_v.specs.ReadRun.{Stands, NextSays, KeptNext, ReadsOn, FillSays, WalkSays, WholeSays, gatherSum, tallied, IsStretched, leftBehind};
+ghost use Rattle.macaque_v.specs.ReadRun.{Stands, NextSays, AtOnce, onward, ReadsOn, FillSays, WalkSays, WholeSays, gatherSum, tallied, IsStretched, leftBehind};
 use crate::write;
 use coding::decode;
 use coding::decode::Decoded;
@@ -26,7 +26,7 @@ pub enum Run {
     Refused(Refusal),
 }
 
-// ---- into lent memory
+// ---- into an array
 
 // One value more.
 fn next(bytes: &[u8], first: bool, at: Cursor) -> Run
@@ -52,7 +52,7 @@ fn next(bytes: &[u8], first: bool, at: Cursor) -> Run
     }
 }
 
-// The next n values, into the first places of `out`. A refusal leaves some of them there.
+// The next n values, into the first places of `out`. Those behind them may change too, so what is lent by a caller is never handed over here.
 pub fn fill(bytes: &[u8], first: bool, from: Cursor, n: usize, out: &mut [u32]) -> Run
     requires { ⌜ Stands (now bytes) from × (from .count + n ≤ 65536) × (n ≤ length (now out)) ⌝ }
     ensures { λ r. ⌜ FillSays first (now (bytes .entry)) from n (now (out .entry)) (now (out .exit)) r ⌝ }
@@ -66,82 +66,87 @@ pub fn fill(bytes: &[u8], first: bool, from: Cursor, n: usize, out: &mut [u32]) 
             }
             Run::To(to) => {
                 out[i] = to.last;
-                let kept = in_window(bytes, first, to, i + 1, n, out);
-                let j = i + 1 + (kept.count - to.count);
-                at = repeats(bytes, first, kept, j, n, out);
-                i = j + (at.count - kept.count);
+                at = read_on(bytes, first, to, i + 1, n, out);
+                i = i + 1 + (at.count - to.count);
             }
         }
     }
     Run::To(at)
 }
 
-// A value more in the last window, or none.
-enum Kept {
-    To(Cursor),
-    No,
-}
-
-fn next_kept(bytes: &[u8], first: bool, at: Cursor) -> Kept
-    requires { ⌜ Stands (now bytes) at × (0 < at .count) × (at .count < 65536) ⌝ }
-    ensures { λ r. ⌜ KeptNext first (now (bytes .entry)) at r ⌝ }
-{
-    match decode::kept_at(bytes, at.place, at.lead, at.trail, at.last) {
-        Decoded::Refused(_) => Kept::No,
-        Decoded::Got {
-            value,
-            lead,
-            trail,
-            used,
-        } => Kept::To(Cursor {
-            last: value,
-            lead,
-            trail,
-            place: at.place + used,
-            count: at.count + 1,
-        }),
-    }
-}
-
-// The values in the last window that stand behind a value, into the places from i on.
-fn in_window(bytes: &[u8], first: bool, from: Cursor, i: usize, n: usize, out: &mut [u32]) -> Cursor
+// The values in the last window and the repeats that stand behind a value, as long as they come, into the places from i on.
+fn read_on(bytes: &[u8], first: bool, from: Cursor, i: usize, n: usize, out: &mut [u32]) -> Cursor
     requires { ⌜ Stands (now bytes) from × (0 < from .count) × (from .count + n ≤ 65536 + i) × (i ≤ n) × (n ≤ length (now out)) ⌝ }
     ensures { λ r. ⌜ ReadsOn first (now (bytes .entry)) from i n (now (out .entry)) (now (out .exit)) r ⌝ }
 {
-    let mut at = from;
+    let lead = from.lead;
+    let trail = from.trail;
+    if lead == 255 {
+        return repeats(bytes, first, from, i, n, out);
+    }
+    let step = (33 - lead - trail) as usize;
+    let mut last = from.last;
+    let mut place = from.place;
     let mut j = i;
     while j < n {
-        match next_kept(bytes, first, at) {
-            Kept::No => {
-                return at;
+        let word = decode::word_ahead(bytes, place);
+        if (word >> 63) == 0 {
+            last = last ^ decode::in_place(word, lead, trail);
+            out[j] = last;
+            place += step;
+            j += 1;
+        } else {
+            let k = at_once(word, out.len() - j, n - j);
+            if k == 0 {
+                return further(from, last, place, j - i);
             }
-            Kept::To(to) => {
-                out[j] = to.last;
-                at = to;
-                j += 1;
-            }
+            spread(out, j, last);
+            place += 2 * k;
+            j += k;
         }
     }
-    at
+    further(from, last, place, j - i)
 }
 
-// The repeats that stand behind a value, into the places from i on. They are taken at once, 28 at most, and only where so many places are free.
+// Where reading stands behind so many values more in the same window.
+fn further(from: Cursor, last: u32, place: usize, more: usize) -> Cursor
+    requires { ⌜ from .count + more ≤ 65536 ⌝ }
+    ensures { λ r. ⌜ r ≡ onward from last place more ⌝ }
+{
+    Cursor {
+        last,
+        lead: from.lead,
+        trail: from.trail,
+        place,
+        count: from.count + more,
+    }
+}
+
+// The repeats that stand behind a value, into the places from i on. They are taken at once, 28 at most, and only where `out` has so many places more.
 fn repeats(bytes: &[u8], first: bool, at: Cursor, i: usize, n: usize, out: &mut [u32]) -> Cursor
-    requires { ⌜ Stands (now bytes) at × (0 < at .count) × (at .count ≤ 65536) × (i ≤ n) × (n ≤ length (now out)) ⌝ }
+    requires { ⌜ Stands (now bytes) at × (0 < at .count) × (at .count + n ≤ 65536 + i) × (i ≤ n) × (n ≤ length (now out)) ⌝ }
     ensures { λ r. ⌜ ReadsOn first (now (bytes .entry)) at i n (now (out .entry)) (now (out .exit)) r ⌝ }
 {
-    if n - i < 28 {
+    let k = at_once(decode::word_ahead(bytes, at.place), out.len() - i, n - i);
+    if k == 0 {
         return at;
     }
-    let k = decode::repeats(bytes, at.place);
     spread(out, i, at.last);
-    Cursor {
-        last: at.last,
-        lead: at.lead,
-        trail: at.trail,
-        place: at.place + 2 * k,
-        count: at.count + k,
+    further(at, at.last, at.place + 2 * k, k)
+}
+
+// How many repeats a word begins with, and no more than `left`; none where there is no room for 28 values.
+fn at_once(word: u64, room: usize, left: usize) -> usize
+    ensures { λ r. ⌜ AtOnce word room left r ⌝ }
+{
+    if room < 28 {
+        return 0;
     }
+    let k = decode::at_top(word);
+    if k < left {
+        return k;
+    }
+    left
 }
 
 // A value into 28 places.
@@ -189,12 +194,12 @@ pub enum Walk {
     Refused(Refusal),
 }
 
-// The next n values, and what is taken in of them.
+// The next n values, and what is taken in of them. The array has 28 places more than are asked for, so that repeats are taken at once up to the last.
 pub fn go_through(bytes: &[u8], first: bool, from: Cursor, n: usize, aim: Aim) -> Walk
     requires { ⌜ Stands (now bytes) from × (from .count + n ≤ 65536) ⌝ }
     ensures { λ r. ⌜ WalkSays first (now (bytes .entry)) from n aim r ⌝ }
 {
-    let mut values = [0u32; 1024];
+    let mut values = [0u32; 1052];
     let mut at = from;
     let mut tally = Tally {
         sum: 0.0,

@@ -1,9 +1,9 @@
 -- `macaque_v::read_run::fill` meets its contract: the first i values are read, and stand in the first i places. Assumes nothing.
 use borrow.Author.Needs.{needs}
 use mathlib.Core.Path.{_≡_, refl, subst}
-use Prim.Native.Nat.{ℕ, _+_, _-_, _≤_}
+use Prim.Native.Nat.{ℕ, _+_, _-_}
 use native.Mathlib.Omega.{arith}
-use lib.ListN.{length, take, drop, set, length-set}
+use lib.ListN.{take, set}
 use Rattle.macaque_v.specs.ReadRun.{Reads, NextSays}
 use Rattle.macaque_v.specs.declared.read_run.Run.{Run}
 use Rattle.macaque_v.proofs.ReadingRun.{reads-none, then-stops, Filled, filled-more, filled-on}
@@ -29,7 +29,7 @@ stored c =
 loop-holds : tie.Need-loop-holds Inv-loop μ-loop
 loop-holds c =
     let a = c .before .before .args in
-    record { reads = reads-none (a .first) (a .bytes .now) (a .from) (c .before .before .pre .0); back = refl; fits = omega arith; long = refl }
+    record { reads = reads-none (a .first) (a .bytes .now) (a .from) (c .before .before .pre .0); fits = omega arith; long = refl }
 
 next-requires : tie.Need-next-requires Inv-loop μ-loop
 next-requires c κs = (c .before .loop .inv .reads .stands, omega (arith, c .before .loop .inv .reads .counted))
@@ -56,62 +56,37 @@ mul-out c = search needs
 slice-write-out : tie.Need-slice-write-out Inv-loop μ-loop
 slice-write-out c = search needs
 
-add-in-window : tie.Need-add-in-window Inv-loop μ-loop
-add-in-window c = search needs
+add-read-on : tie.Need-add-read-on Inv-loop μ-loop
+add-read-on c = search needs
 
-in-window-requires : tie.Need-in-window-requires Inv-loop μ-loop
-in-window-requires c κs =
+read-on-requires : tie.Need-read-on-requires Inv-loop μ-loop
+read-on-requires c κs =
     let f = stored (c .before) in
     (f .reads .stands, omega (arith, f .reads .counted), omega (arith, f .reads .counted, c .before .before .before .before .before .before .before .before .before .pre .1), f .fits, omega (arith, f .long))
 
-add-j : tie.Need-add-j Inv-loop μ-loop
-add-j c = search needs
-
-sub-j : tie.Need-sub-j Inv-loop μ-loop
-sub-j c = omega (arith, c .before .before .before .before .in-window .ensures .reads .counted)
-
-add-j-2 : tie.Need-add-j-2 Inv-loop μ-loop
-add-j-2 c =
-    let w = c .before .before .before .before .in-window .ensures in
-    omega (arith, w .reads .counted, w .fits, c .before .before .before .before .before .before .before .before .before .before .before .before .before .before .pre .1)
-
-repeats-requires : tie.Need-repeats-requires Inv-loop μ-loop
-repeats-requires c κs =
-    let w = c .before .before .before .before .before .in-window .ensures in
-    let f = stored (c .before .before .before .before .before .before .before) in (
-      w .reads .stands,
-      omega (arith, w .reads .counted, f .reads .counted),
-      omega (arith, w .reads .counted, w .fits, f .reads .counted, c .before .before .before .before .before .before .before .before .before .before .before .before .before .before .before .pre .1),
-      omega (arith, w .reads .counted, w .fits),
-      omega (arith, w .long, f .long, c .before .before .before .before .before .before .before .before .before .before .before .before .before .before .before .pre .2),
-    )
+add-i : tie.Need-add-i Inv-loop μ-loop
+add-i c = search needs
 
 sub-i : tie.Need-sub-i Inv-loop μ-loop
-sub-i c = omega (arith, c .before .before .before .before .repeats .ensures .reads .counted)
+sub-i c = omega (arith, c .before .before .before .before .read-on .ensures .reads .counted)
 
-add-i : tie.Need-add-i Inv-loop μ-loop
-add-i c =
-    let w = c .before .before .before .before .before .before .before .before .before .before .in-window .ensures in
-    let r = c .before .before .before .before .repeats .ensures in
-    omega (arith, w .reads .counted, r .reads .counted, r .fits, c .before .before .before .before .before .before .before .before .before .before .before .before .before .before .before .before .before .before .before .before .pre .1)
+add-i-2 : tie.Need-add-i-2 Inv-loop μ-loop
+add-i-2 c =
+    let r = c .before .before .before .before .read-on .ensures in
+    omega (arith, r .reads .counted, r .fits, c .before .before .before .before .before .before .before .before .before .before .before .before .before .before .pre .1)
 
 loop-less : tie.Need-loop-less Inv-loop μ-loop
 loop-less c =
-    let w = c .before .before .before .before .before .before .before .before .before .before .in-window .ensures in
-    let r = c .before .before .before .before .repeats .ensures in
-    omega (arith, w .reads .counted, r .reads .counted, r .fits)
+    let r = c .before .before .before .before .read-on .ensures in
+    omega (arith, r .reads .counted, r .fits)
 
 loop-again : tie.Need-loop-again Inv-loop μ-loop
 loop-again c =
-    let a = c .before .before .before .before .before .before .before .before .before .before .before .before .before .before .before .before .before .before .before .before .args in
-    let l = c .before .before .before .before .before .before .before .before .before .before .before .before .before .before .before .before .before .loop in
-    let to = c .before .before .before .before .before .before .before .before .before .before .before .before .before .to .given .0 .0 in
-    let w = c .before .before .before .before .before .before .before .before .before .before .in-window in
-    let r = c .before .before .before .before .repeats in
-    let j = l .i + 1 + (w .result .count - to .count) in
-    filled-on (a .first) (a .bytes .now) (a .n) j (a .out .now) _
-    (filled-on (a .first) (a .bytes .now) (a .n) (l .i + 1) (a .out .now) (set (l .out) (l .i) (to .last)) (stored (c .before .before .before .before .before .before .before .before .before .before .before .before)) (w .ensures) j refl)
-    (r .ensures) (j + (r .result .count - w .result .count)) refl
+    let a = c .before .before .before .before .before .before .before .before .before .before .before .before .before .before .args in
+    let l = c .before .before .before .before .before .before .before .before .before .before .before .loop in
+    let to = c .before .before .before .before .before .before .before .to .given .0 .0 in
+    let r = c .before .before .before .before .read-on in
+    filled-on (a .first) (a .bytes .now) (a .n) (l .i + 1) (a .out .now) (set (l .out) (l .i) (to .last)) (stored (c .before .before .before .before .before .before)) (r .ensures) (l .i + 1 + (r .result .count - to .count)) refl
 
 same-length-2 : tie.Need-same-length-2 Inv-loop μ-loop
 same-length-2 c = search needs
@@ -121,7 +96,7 @@ returns-2 c =
     let a = c .before .before .before .before .args in
     let l = c .before .loop in
     let e : l .i ≡ a .n = omega arith in
-    (subst (λ (k : ℕ). Reads (a .first) (a .bytes .now) (a .from) k (take k (l .out)) (l .at)) e (l .inv .reads), l .inv .back)
+    (subst (λ (k : ℕ). Reads (a .first) (a .bytes .now) (a .from) k (take k (l .out)) (l .at)) e (l .inv .reads), l .inv .long)
 
 pub fill-spec : {M : Type 1} → statement M
 fill-spec =
@@ -137,14 +112,11 @@ fill-spec =
     enum-known-to
     mul-out
     slice-write-out
-    add-in-window
-    in-window-requires
-    add-j
-    sub-j
-    add-j-2
-    repeats-requires
-    sub-i
+    add-read-on
+    read-on-requires
     add-i
+    sub-i
+    add-i-2
     loop-less
     loop-again
     same-length-2

@@ -13,7 +13,7 @@ use Rattle.macaque_v.proofs.read_run.go_through.Statement.{statement}
 use Rattle.macaque_v.proofs.read_run.go_through.Tie as tie
 
 abbrev Inv-loop : tie.InvT-loop
-Inv-loop bytes first n aim values₀ at₀ tally₀ read₀ values at tally read = (read ≤ n) × (length values ≡ 1024) × Walked first bytes at₀ read aim at tally
+Inv-loop bytes first n aim values₀ at₀ tally₀ read₀ values at tally read = (read ≤ n) × (length values ≡ 1052) × Walked first bytes at₀ read aim at tally
 
 abbrev μ-loop : tie.MeasureT-loop
 μ-loop bytes first n aim values₀ at₀ tally₀ read₀ values at tally read = n - read

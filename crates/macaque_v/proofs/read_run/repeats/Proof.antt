@@ -1,54 +1,67 @@
--- `macaque_v::read_run::repeats` meets its contract: what is spread behind the repeats is room that is filled later. Assumes nothing.
+-- `macaque_v::read_run::repeats` meets its contract: what is spread behind the repeats is room that is filled later, or asked of none. Assumes nothing.
 use borrow.Author.Needs.{needs}
+use mathlib.Core.Path.{sym, subst}
 use native.Mathlib.Omega.{arith}
+use Rattle.macaque_v.specs.ReadRun.{ReadsOn}
 use Rattle.macaque_v.proofs.Repeating.{reached-none, on-repeats}
 use Rattle.macaque_v.proofs.read_run.repeats.Statement.{statement}
 use Rattle.macaque_v.proofs.read_run.repeats.Tie as tie
 
-sub-if1 : tie.Need-sub-if1
-sub-if1 c = search needs
+word-ahead-requires : tie.Need-word-ahead-requires
+word-ahead-requires c κs = search needs
+
+sub-at-once : tie.Need-sub-at-once
+sub-at-once c = search needs
+
+sub-at-once-2 : tie.Need-sub-at-once-2
+sub-at-once-2 c = search needs
+
+at-once-requires : tie.Need-at-once-requires
+at-once-requires c κs = search needs
 
 returns : tie.Need-returns
 returns c =
-    let s = c .before .before .before in
+    let s = c .before .before .before .before .before in
     let a = s .args in
     (reached-none (a .first) (a .bytes .now) (a .at) (a .i) (a .n) (a .out .now) (s .pre .0) (omega arith)) .on
 
-repeats-requires : tie.Need-repeats-requires
-repeats-requires c κs = search needs
-
 spread-requires : tie.Need-spread-requires
-spread-requires c κs = search needs
+spread-requires c κs = omega (arith, c .before .before .at-once .ensures .free (omega arith))
 
-mul-t8 : tie.Need-mul-t8
-mul-t8 c = search needs
+mul-further : tie.Need-mul-further
+mul-further c = search needs
 
-add-t13 : tie.Need-add-t13
-add-t13 c = search needs
+add-further : tie.Need-add-further
+add-further c = search needs
 
-add-t14 : tie.Need-add-t14
-add-t14 c = search needs
+further-requires : tie.Need-further-requires
+further-requires c κs = search needs
 
 same-length : tie.Need-same-length
 same-length c = search needs
 
 returns-2 : tie.Need-returns-2
 returns-2 c =
-    let s = c .before .before .before .before .before .before .before .before .before .before in
+    let s = c .before .before .before .before .before .before .before .before .before .before .before in
     let a = s .args in
-    on-repeats (a .first) (a .bytes .now) (a .at) (a .i) (a .n) (a .out .now) (c .before .before .before .before .spread .last .0) (s .pre .0) (omega arith) (omega arith) (omega arith)
-    (c .before .before .before .before .before .before .repeats .result) (c .before .before .before .before .before .before .repeats .ensures) (c .before .before .before .before .spread .ensures)
+    let k = c .before .before .before .before .before .before .before .at-once in
+    let word = c .before .before .before .before .before .before .before .before .word-ahead in
+    subst (ReadsOn (a .first) (a .bytes .now) (a .at) (a .i) (a .n) (a .out .now) (c .before .before .before .before .spread .last .0)) (sym (c .further .ensures))
+    (on-repeats (a .first) (a .bytes .now) (a .at) (a .i) (a .n) (a .out .now) (c .before .before .before .before .spread .last .0) (s .pre .0) (omega arith)
+    (omega (arith, k .ensures .free (omega arith))) (k .result) (omega (arith, k .ensures .wanted)) (word .ensures .same (k .result) (k .ensures .top)) (c .before .before .before .before .spread .ensures))
 
 pub repeats-spec : {M : Type 1} → statement M
 repeats-spec =
     tie.close
     (tie.spec
-    sub-if1
+    word-ahead-requires
+    sub-at-once
+    sub-at-once-2
+    at-once-requires
     returns
-    repeats-requires
     spread-requires
-    mul-t8
-    add-t13
-    add-t14
+    mul-further
+    add-further
+    further-requires
     same-length
     returns-2)
