@@ -5,24 +5,21 @@ use mathlib.Core.List.{List, _++_}
 use mathlib.Core.Option.{Option, none, some}
 use Prim.Native.Nat.{ℕ, _+_, _-_, _^_, _≤_, _<_}
 use native.Mathlib.Omega.{arith}
-use lib.ListN.{take, drop}
+use lib.ListN.{drop}
 use Rattle.bits.specs.Bits.{bitsOf}
 use Rattle.models.specs.Answers.{answered, refused}
 use Rattle.models.specs.Refusals.{number}
 use Rattle.models.specs.declared.Refusal.{Refusal}
 use Rattle.stream.specs.Format.{Gather, gatherFrom, Stream, State}
-use Rattle.stream.specs.Read as stream
 use Rattle.stream.specs.Read.{Reading, done, stopped, readN, leftover, judged, ended, readAll, Reopened, reopened, stateOf, checked, reopen}
 use Rattle.stream.specs.Cases.{plain}
 use Rattle.stream.proofs.Reading.{prepend, thenRead, read-then}
 use Rattle.stream.proofs.Gathered.{SeenIn, seen-read, instead, holding, Alike, read-any}
 use Rattle.macaque_v.specs.State.{Ends, gatherEnds, modeOf, streamIn, isFirst, opened}
-use Rattle.macaque_v.specs.ReadRun.{stateAt, Stands, readFrom, Reads, StopsBy, FillSays, leftBehind}
-use Rattle.macaque_v.specs.Read.{valuesRead, valuesIn, startOf, reopening, stateWith, Unopened}
+use Rattle.macaque_v.specs.ReadRun.{stateAt, Stands, readFrom, Reads, StopsBy, leftBehind}
+use Rattle.macaque_v.specs.Read.{valuesRead, valuesIn, valuesFrom, startOf, reopening, stateWith, Unopened}
 use Rattle.macaque_v.specs.declared.Opening.{Opening}
 use Rattle.macaque_v.specs.declared.read_run.Cursor.{Cursor}
-use Rattle.macaque_v.specs.declared.read_run.Run.{Run}
-use Rattle.macaque_v.specs.declared.read_run.Run.the-variants as OfRun
 use Rattle.macaque_v.proofs.ReadingRun.{reads-none, reads-then, then-stops}
 use Rattle.macaque_v.proofs.ReadingEnd.{ends-right, ends-early}
 
@@ -80,6 +77,17 @@ module _ {A B : Type 0} (S : Stream A) (G : Gather B) where
           is ∙ ap₂ (λ (z : List ℕ) (w : State B). done z w c) (sym (k .0)) (sym (k .1)) ∙ ap₂ (λ (z : B) (w : List Bool). done vs (holding S G z t) w) same (sym (k .2))
       go (stopped f) is k seen = absurd k
 
+-- ---- some values, and then more
+
+pub ended-prepend : (us : List ℕ) (q : Reading Unit) → ended (prepend us q) ≡ prepend us (ended q)
+unfolding ended
+ended-prepend us (done vs s b) = go (leftover (s .place) b)
+  where
+    go : (p : Option ℕ) → judged (us ++ vs) s b p ≡ prepend us (judged vs s b p)
+    go none = refl
+    go (some p) = refl
+ended-prepend us (stopped f) = refl
+
 -- ---- from the start
 
 pub start-stands : (bytes : List ℕ) (o : Opening) → (startOf o) .last < 2 ^ 32 → Stands bytes (startOf o)
@@ -98,7 +106,7 @@ module _ (bytes : List ℕ) (o : Opening) where
 
   -- ---- the values
 
-  pub same-values : (n : ℕ) → valuesIn bytes n o ≡ valuesRead (ended (readFrom (isFirst o) bytes (startOf o) n))
+  pub same-values : (n : ℕ) → valuesIn bytes n o ≡ valuesFrom (isFirst o) bytes (startOf o) n
   same-values n = sym (alike-values (plain (modeOf (isFirst o))) gatherEnds (ended (readFrom (isFirst o) bytes (startOf o) n)) _ (all-alike n))
 
   pub values-right : {n : ℕ} {vs : List ℕ} {to : Cursor} → Reads (isFirst o) bytes (startOf o) n vs to → leftBehind bytes (to .place) ≡ false → valuesIn bytes n o ≡ answered vs
@@ -106,22 +114,6 @@ module _ (bytes : List ℕ) (o : Opening) where
 
   pub values-wrong : (n : ℕ) (r : Refusal) → StopsBy (ended (readFrom (isFirst o) bytes (startOf o) n)) r → valuesIn bytes n o ≡ refused (number r)
   values-wrong n r s = same-values n ∙ ap valuesRead (s .stops) ∙ ap refused (s .numbered)
-
-  -- a stream that is right is read again as it was
-  pub filled-again : {n : ℕ} {vs : List ℕ} {to : Cursor} → Reads (isFirst o) bytes (startOf o) n vs to → (old new : List ℕ) (r : Run)
-      → FillSays (isFirst o) bytes (startOf o) n old new r → take n new ≡ vs
-  filled-again {n} {vs} R old new (OfRun.To at) f =
-      equal (sym (f .0 .values) ∙ R .values)
-    where
-      equal : {us ws : List ℕ} {s t : State Unit} {b c : List Bool} → _≡_ {A = Reading Unit} (done us s b) (done ws t c) → us ≡ ws
-      equal e = cc
-  filled-again {n} {vs} R old new (OfRun.Refused r) f = absurd (never (clash (sym (R .values) ∙ f .stops)))
-    where
-      clash : {ws : List ℕ} {t : State Unit} {c : List Bool} {g : stream.StreamRefusal} → _≡_ {A = Reading Unit} (done ws t c) (stopped g) → _≡_ {A = ℕ} 0 1
-      clash e = cc
-
-      never : _≡_ {A = ℕ} 0 1 → ⊥
-      never e = omega arith
 
   -- ---- the state after k of n values
 
@@ -145,15 +137,6 @@ module _ (bytes : List ℕ) (o : Opening) where
     early-unopened h s = stops-unopened (ends-early (then-stops (isFirst o) bytes (reads-none (isFirst o) bytes (startOf o) h) k s n (omega arith)))
 
     module _ {us : List ℕ} {at : Cursor} (R : Reads (isFirst o) bytes (startOf o) k us at) where
-      ended-prepend : (q : Reading Unit) → ended (prepend us q) ≡ prepend us (ended q)
-      unfolding ended
-      ended-prepend (done vs s b) = go (leftover (s .place) b)
-        where
-          go : (p : Option ℕ) → judged (us ++ vs) s b p ≡ prepend us (judged vs s b p)
-          go none = refl
-          go (some p) = refl
-      ended-prepend (stopped f) = refl
-
       -- it stops behind them
       pub late-unopened : {r : Refusal} → StopsBy (ended (readFrom (isFirst o) bytes at (n - k))) r → Unopened (reopening bytes n k o) r
       late-unopened {r} s =
@@ -164,7 +147,7 @@ module _ (bytes : List ℕ) (o : Opening) where
             stops =
                 ap (λ (m : ℕ). ended (readFrom (isFirst o) bytes (startOf o) m)) (sym whole)
                 ∙ ap ended (read-then S k (n - k) (stateAt (startOf o)) (bitsOf bytes) ∙ ap (thenRead S (n - k)) (R .values))
-                ∙ ended-prepend (readFrom (isFirst o) bytes at (n - k))
+                ∙ ended-prepend us (readFrom (isFirst o) bytes at (n - k))
                 ∙ ap (prepend us) (s .stops);
             numbered = s .numbered;
           })

@@ -2,7 +2,7 @@
 use mathlib.Core.Path.{_≡_, refl, sym, ap, ap₂, _∙_, subst}
 use mathlib.Core.Logic.{_⊎_, inl, inr}
 use mathlib.Core.Bool.{Bool}
-use mathlib.Core.List.{List, [], _∷_, _++_}
+use mathlib.Core.List.{List, [], _∷_, _++_, append-assoc}
 use Prim.Native.Nat.{ℕ, suc, _+_, _-_, _*_, _≤_, _<_}
 use native.Mathlib.Nat.{min-le-left, min-le-right}
 use native.Mathlib.Numerals.{add-one}
@@ -169,13 +169,20 @@ module _ (first : Bool) (bytes : List ℕ) where
           long = Q .long ∙ F .long;
         }
 
--- one value more is copied
-pub copied-more : (values old : List ℕ) (i : ℕ) → i < length values → i < length old
-    → set (take i values ++ drop i old) i (getD values i 0) ≡ take (i + 1) values ++ drop (i + 1) old
-copied-more values old i h g =
-    let v : ℕ = getD values i 0 in
-    ap (λ (z : List ℕ). set (take i values ++ z) i v) (drop-cons old i 0 g)
-    ∙ set-at (take i values) (getD old i 0) (drop (suc i) old) v i (length-take-le i values (omega arith))
-    ∙ sym (append-snoc (take i values) v (drop (suc i) old))
-    ∙ ap (λ (z : List ℕ). z ++ drop (suc i) old) (sym (take-suc values i 0 h))
-    ∙ ap (λ (n : ℕ). take n values ++ drop n old) (sym (add-one i))
+-- one value more is copied to the places from i on
+pub copied-more : (values old : List ℕ) (i j : ℕ) → j < length values → i + j < length old
+    → set (take i old ++ (take j values ++ drop (i + j) old)) (i + j) (getD values j 0) ≡ take i old ++ (take (j + 1) values ++ drop (i + (j + 1)) old)
+copied-more values old i j h g =
+    let v : ℕ = getD values j 0 in
+    let p : List ℕ = take i old ++ take j values in
+    let long : length p ≡ i + j = length-append (take i old) (take j values) ∙ ap₂ (λ (a b : ℕ). a + b) (length-take-le i old (omega arith)) (length-take-le j values (omega arith)) in
+    let next : suc (i + j) ≡ i + (j + 1) = omega arith in
+    let rest : List ℕ = drop (i + (j + 1)) old in
+    ap (λ (z : List ℕ). set z (i + j) v) (sym (append-assoc (take i old) (take j values) (drop (i + j) old)))
+    ∙ ap (λ (z : List ℕ). set (p ++ z) (i + j) v) (drop-cons old (i + j) 0 g)
+    ∙ set-at p (getD old (i + j) 0) (drop (suc (i + j)) old) v (i + j) long
+    ∙ ap (λ (n : ℕ). p ++ (v ∷ drop n old)) next
+    ∙ append-assoc (take i old) (take j values) (v ∷ rest)
+    ∙ ap (λ (z : List ℕ). take i old ++ z)
+    (sym (append-snoc (take j values) v rest)
+    ∙ ap (λ (z : List ℕ). z ++ rest) (sym (take-suc values j 0 h) ∙ ap (λ (n : ℕ). take n values) (sym (add-one j))))

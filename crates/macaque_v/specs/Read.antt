@@ -3,7 +3,7 @@
 use mathlib.Core.Path.{_≡_, refl, ap}
 use mathlib.Core.Bool.{Bool, not, _||_}
 use mathlib.Core.List.{List, [], _∷_, _++_}
-use Prim.Native.Nat.{ℕ, _*_, _≤_}
+use Prim.Native.Nat.{ℕ, _+_, _*_, _≤_}
 use lib.Dec.{ltb}
 use lib.Ieee.{binary32, toBits}
 use lib.ListN.{length, take, drop}
@@ -17,10 +17,10 @@ use Rattle.models.specs.declared.ErrorBound.{ErrorBound}
 use Rattle.models.specs.declared.Refusal.{Refusal}
 use Rattle.stream.specs.Format.{openedOn, gatherFrom, State}
 use Rattle.stream.specs.Read as stream
-use Rattle.stream.specs.Read.{Reading, done, stopped, readAll, Reopened, reopened, unopened, reopen, bufferAfter}
+use Rattle.stream.specs.Read.{Reading, done, stopped, ended, readAll, Reopened, reopened, unopened, reopen, bufferAfter}
 use Rattle.macaque_v.specs.State.{Ends, modeOf, streamIn, writerOf, isFirst, openingValue, opened}
 use Rattle.coding.specs.Code.{windowIn}
-use Rattle.macaque_v.specs.ReadRun.{gatherSum, endsIn}
+use Rattle.macaque_v.specs.ReadRun.{readFrom, gatherSum, endsIn}
 use Rattle.macaque_v.specs.declared.MacaqueV.{MacaqueV}
 use Rattle.macaque_v.specs.declared.Opening.{Opening}
 use Rattle.macaque_v.specs.declared.read_run.Cursor.{Cursor}
@@ -34,6 +34,10 @@ use Rattle.macaque_v.specs.declared.read.OpenAnswer.the-variants as OfOp
 abbrev pub valuesRead : {A : Type 0} → Reading A → Said (List ℕ)
 valuesRead (done vs s rest) = answered vs
 valuesRead (stopped f) = refused (f .no)
+
+-- the n values from where reading stands, at the end of a stream
+abbrev pub valuesFrom : Bool → List ℕ → Cursor → ℕ → Said (List ℕ)
+valuesFrom first bytes at n = valuesRead (ended (readFrom first bytes at n))
 
 -- "Reading takes exactly the stream's bytes and a count"
 abbrev pub valuesIn : List ℕ → ℕ → Opening → Said (List ℕ)
@@ -56,6 +60,11 @@ drawn (refused n) = refused n
 abbrev pub drawnIn : List ℕ → Said (List ℕ) → List ℕ
 drawnIn out (answered vs) = vs ++ drop (length vs) out
 drawnIn out (refused n) = out
+
+-- the same from place i on
+abbrev pub drawnAt : ℕ → List ℕ → Said (List ℕ) → List ℕ
+drawnAt i out (answered vs) = take i out ++ (vs ++ drop (i + length vs) out)
+drawnAt i out (refused n) = out
 
 unfoldable pub gridAnswer : List ℕ → ℕ → Opening → ℕ → Said Done
 gridAnswer bytes count o room = judge refused (gridCauses count room) (drawn (valuesIn bytes count o))

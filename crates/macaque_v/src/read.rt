@@ -1,13 +1,14 @@
 // The reading calls: a stream's values, their sum, and a writer that goes on behind the first k of them.
 // A stream is checked whole before lent memory is touched.
 ghost use mathlib.Core.Path.{_≡_};
-ghost use Prim.Native.Nat.{_^_, _≤_, _<_};
+ghost use Prim.Native.Nat.{_+_, _^_, _≤_, _<_};
 ghost use lib.ListN.{length, take};
 ghost use Rattle.models.specs.Answers.{verdict};
 ghost use Rattle.models.specs.Calls.{saysVerdict, saysGrid, saysValue};
 ghost use Rattle.stream.specs.Read.{bufferAfter};
 ghost use Rattle.macaque_v.specs.State.{isFirst};
-ghost use Rattle.macaque_v.specs.Read.{valuesIn, startOf, gridCauses, drawn, drawnIn, gridAnswer, gridMemory, sumAnswer};
+ghost use Rattle.macaque_v.specs.ReadRun.{Stands};
+ghost use Rattle.macaque_v.specs.Read.{startOf, gridCauses, valuesFrom, drawn, drawnAt, gridAnswer, gridMemory, sumAnswer};
 ghost use Rattle.macaque_v.specs.Read.{reopenCauses, reopening, resumed, StateSays, reopenAnswer, reopenMemory, saysOpen};
 use crate::MacaqueV;
 use crate::Opening;
@@ -37,12 +38,7 @@ pub fn grid(bytes: &[u8], count: usize, opening: Opening, out: &mut [u32]) -> Gr
 {
     match judge_grid(count, out.len()) {
         Verdict::Refused(r) => GridAnswer::Refused(r),
-        Verdict::Passed => {
-            if count <= 1024 {
-                return draw_few(bytes, count, opening, out);
-            }
-            draw_many(bytes, count, opening, out)
-        }
+        Verdict::Passed => draw(bytes, is_first(opening), start(opening), count, 0, out),
     }
 }
 
@@ -140,38 +136,29 @@ pub fn start(opening: Opening) -> Cursor
 
 // ---- drawing
 
-// Few values are read into a small array, and copied once the stream is found right.
-fn draw_few(bytes: &[u8], count: usize, opening: Opening, out: &mut [u32]) -> GridAnswer
-    requires { ⌜ (count ≤ 1024) × (count ≤ length (now out)) ⌝ }
-    ensures answer { λ r. ⌜ saysGrid r ≡ drawn (valuesIn (now (bytes .entry)) count opening) ⌝ }
-    ensures values { λ r. ⌜ now (out .exit) ≡ drawnIn (now (out .entry)) (valuesIn (now (bytes .entry)) count opening) ⌝ }
+// The next n values, to the places of `out` from i on, a block at a time: what stands behind a block is read and found right before the block
+// is copied. The array has 28 places more than a block takes.
+fn draw(bytes: &[u8], first: bool, at: Cursor, n: usize, i: usize, out: &mut [u32]) -> GridAnswer
+    requires { ⌜ Stands (now bytes) at × (at .count + n ≤ 65536) × (i + n ≤ length (now out)) ⌝ }
+    ensures answer { λ r. ⌜ saysGrid r ≡ drawn (valuesFrom first (now (bytes .entry)) at n) ⌝ }
+    ensures values { λ r. ⌜ now (out .exit) ≡ drawnAt i (now (out .entry)) (valuesFrom first (now (bytes .entry)) at n) ⌝ }
 {
-    let mut values = [0u32; 1024];
-    match read_run::fill(bytes, is_first(opening), start(opening), count, &mut values) {
+    let mut values = [0u32; 1052];
+    let k = read_run::least(1024, n);
+    match read_run::fill(bytes, first, at, k, &mut values) {
         Run::Refused(r) => GridAnswer::Refused(r),
-        Run::To(end) => {
-            if read_run::left_behind(bytes, end.place) {
+        Run::To(to) => {
+            if k < n {
+                match draw(bytes, first, to, n - k, i + k, out) {
+                    GridAnswer::Refused(r) => {
+                        return GridAnswer::Refused(r);
+                    }
+                    GridAnswer::Drawn => {}
+                }
+            } else if read_run::left_behind(bytes, to.place) {
                 return GridAnswer::Refused(Refusal::Leftover);
             }
-            read_run::copy(&values, count, out);
-            GridAnswer::Drawn
-        }
-    }
-}
-
-// Of many values the stream is checked first, and then read again and copied.
-fn draw_many(bytes: &[u8], count: usize, opening: Opening, out: &mut [u32]) -> GridAnswer
-    requires { ⌜ (count ≤ 65536) × (count ≤ length (now out)) ⌝ }
-    ensures answer { λ r. ⌜ saysGrid r ≡ drawn (valuesIn (now (bytes .entry)) count opening) ⌝ }
-    ensures values { λ r. ⌜ now (out .exit) ≡ drawnIn (now (out .entry)) (valuesIn (now (bytes .entry)) count opening) ⌝ }
-{
-    let first = is_first(opening);
-    match read_run::go_to_end(bytes, first, start(opening), count, Aim::Nothing) {
-        Walk::Refused(r) => GridAnswer::Refused(r),
-        Walk::To(_, _) => {
-            let mut all = [0u32; 65536];
-            read_run::fill(bytes, first, start(opening), count, &mut all);
-            read_run::copy(&all, count, out);
+            read_run::copy(&values, k, i, out);
             GridAnswer::Drawn
         }
     }

@@ -1,7 +1,7 @@
 // Reading value after value: into an array, or through a small one for what is taken in of the values on the way.
 ghost use mathlib.Core.Path.{_≡_};
 ghost use mathlib.Core.List.{_++_};
-ghost use Prim.Native.Nat.{_+_, _*_, _^_, _<_, _≤_};
+ghost use Prim.Native.Nat.{_+_, _-_, _*_, _^_, _<_, _≤_};
 ghost use lib.ListN.{length, take, drop, replicate};
 ghost use Rattle.stream.specs.Format.{gathered, gatherFrom};
 ghost use Rattle.macaque_v.specs.State.{modeOf};
@@ -161,15 +161,15 @@ fn spread(out: &mut [u32], i: usize, value: u32)
     }
 }
 
-// The first n values of `values` into the first places of `out`.
-pub fn copy(values: &[u32], n: usize, out: &mut [u32])
-    requires { ⌜ (n ≤ length (now values)) × (n ≤ length (now out)) ⌝ }
-    ensures { λ _. ⌜ now (out .exit) ≡ take n (now (values .entry)) ++ drop n (now (out .entry)) ⌝ }
+// The first n values of `values`, to the places of `out` from i on.
+pub fn copy(values: &[u32], n: usize, i: usize, out: &mut [u32])
+    requires { ⌜ (n ≤ length (now values)) × (i + n ≤ length (now out)) ⌝ }
+    ensures { λ _. ⌜ now (out .exit) ≡ take i (now (out .entry)) ++ (take n (now (values .entry)) ++ drop (i + n) (now (out .entry))) ⌝ }
 {
-    let mut i: usize = 0;
-    while i < n {
-        out[i] = values[i];
-        i += 1;
+    let mut j: usize = 0;
+    while j < n {
+        out[i + j] = values[j];
+        j += 1;
     }
 }
 
@@ -251,9 +251,9 @@ pub fn left_behind(bytes: &[u8], place: usize) -> bool
     bits::get(bytes, place, 8 * whole - place) != 0
 }
 
-fn least(a: usize, b: usize) -> usize
-    requires { ⌜ (0 < a) × (0 < b) ⌝ }
-    ensures { λ r. ⌜ (0 < r) × (r ≤ a) × (r ≤ b) ⌝ }
+// The smaller of the two.
+pub fn least(a: usize, b: usize) -> usize
+    ensures { λ r. ⌜ r ≡ a - (a - b) ⌝ }
 {
     if a < b { a } else { b }
 }

@@ -1,13 +1,17 @@
 -- `macaque_v::read::grid` meets its contract: refused by the first cause that holds, else by the stream, else drawn. Assumes nothing.
 use borrow.Author.Needs.{needs}
-use mathlib.Core.Path.{_∙_}
+use mathlib.Core.Path.{sym, ap, ap₂, _∙_}
+use mathlib.Core.Bool.{Bool}
 use Prim.Native.Nat.{ℕ, _≤_}
 use native.Mathlib.Omega.{arith}
 use borrow.Author.Tests.{ltb-false}
 use lib.ListN.{length}
 use Rattle.models.specs.Answers.{refused}
 use Rattle.models.proofs.Judged.{none-holds, when-passed, when-refused}
-use Rattle.macaque_v.specs.Read.{gridCauses, gridAnswer, gridMemory}
+use Rattle.macaque_v.specs.Read.{valuesIn, valuesFrom, gridCauses, drawn, drawnAt, gridAnswer, gridMemory}
+use Rattle.macaque_v.specs.declared.read_run.Cursor.{Cursor}
+use Rattle.macaque_v.proofs.ReadingAll.{starts, same-values}
+use Rattle.macaque_v.proofs.Drawing.{drawn-from-start}
 use Rattle.macaque_v.proofs.read.grid.Statement.{statement}
 use Rattle.macaque_v.proofs.read.grid.Tie as tie
 
@@ -28,46 +32,46 @@ enum-known-r c = search needs
 enum-told : tie.Need-enum-told
 enum-told c = search needs
 
-draw-few-requires : tie.Need-draw-few-requires
-draw-few-requires c κs = (omega arith, room (c .before .before) .1)
+is-first-requires : tie.Need-is-first-requires
+is-first-requires c κs = search needs
 
-same-length : tie.Need-same-length
-same-length c = search needs
+start-requires : tie.Need-start-requires
+start-requires c κs = search needs
+
+draw-requires : tie.Need-draw-requires
+draw-requires c κs =
+    let a = c .before .before .before .before .before .before .before .before .args in
+    let s = starts (a .bytes .now) (a .opening) (c .before .start .result) (c .before .start .ensures) in
+    let h = room (c .before .before .before) in
+    (s .0, omega (arith, s .1, h .0), omega (arith, h .1))
 
 returns : tie.Need-returns
 unfolding gridAnswer gridMemory
 returns c =
-    let a = c .before .before .before .before .before .before .before .before .before .before .args in
-    let causes = gridCauses (a .count) (length (a .out .now)) in
-    let ok = c .before .before .before .before .before .enum-told .given .1 in
-    let says = c .before .before .before .before .before .before .before .judge-grid .ensures in (
-      c .before .before .draw-few .ensures .0 ∙ when-passed causes _ says refused _ ok,
-      c .before .before .draw-few .ensures .1 ∙ when-passed causes _ says (λ (n : ℕ). a .out .now) _ ok,
-    )
-
-draw-many-requires : tie.Need-draw-many-requires
-draw-many-requires c κs = room (c .before .before)
-
-returns-2 : tie.Need-returns-2
-unfolding gridAnswer gridMemory
-returns-2 c =
     let a = c .before .before .before .before .before .before .args in
     let causes = gridCauses (a .count) (length (a .out .now)) in
     let says = c .before .before .before .judge-grid .ensures in
     (when-refused causes _ says refused _ _ (c .before .r .given .1), when-refused causes _ says (λ (n : ℕ). a .out .now) _ _ (c .before .r .given .1))
 
-same-length-2 : tie.Need-same-length-2
-same-length-2 c = search needs
+same-length : tie.Need-same-length
+same-length c = search needs
 
-returns-3 : tie.Need-returns-3
+returns-2 : tie.Need-returns-2
 unfolding gridAnswer gridMemory
-returns-3 c =
-    let a = c .before .before .before .before .before .before .before .before .before .before .args in
+returns-2 c =
+    let a = c .before .before .before .before .before .before .before .before .before .before .before .args in
+    let d = c .before .before .draw in
     let causes = gridCauses (a .count) (length (a .out .now)) in
-    let ok = c .before .before .before .before .before .enum-told .given .1 in
-    let says = c .before .before .before .before .before .before .before .judge-grid .ensures in (
-      c .before .before .draw-many .ensures .0 ∙ when-passed causes _ says refused _ ok,
-      c .before .before .draw-many .ensures .1 ∙ when-passed causes _ says (λ (n : ℕ). a .out .now) _ ok,
+    let ok = c .before .before .before .before .before .before .enum-told .given .1 in
+    let says = c .before .before .before .before .before .before .before .before .judge-grid .ensures in
+    let values = ap₂ (λ (first : Bool) (at : Cursor). valuesFrom first (a .bytes .now) at (a .count))
+    (c .before .before .before .before .before .is-first .ensures) (c .before .before .before .before .start .ensures .0)
+    ∙ sym (same-values (a .bytes .now) (a .opening) (a .count)) in (
+      d .ensures .0 ∙ ap drawn values ∙ when-passed causes _ says refused _ ok,
+      d .ensures .1
+          ∙ ap (drawnAt 0 (a .out .now)) values
+          ∙ drawn-from-start (a .out .now) (valuesIn (a .bytes .now) (a .count) (a .opening))
+          ∙ when-passed causes _ says (λ (n : ℕ). a .out .now) _ ok,
     )
 
 pub grid-spec : {M : Type 1} → statement M
@@ -77,10 +81,9 @@ grid-spec =
     judge-grid-requires
     enum-known-r
     enum-told
-    draw-few-requires
-    same-length
+    is-first-requires
+    start-requires
+    draw-requires
     returns
-    draw-many-requires
-    returns-2
-    same-length-2
-    returns-3)
+    same-length
+    returns-2)

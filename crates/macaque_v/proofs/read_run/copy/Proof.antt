@@ -1,22 +1,25 @@
--- `macaque_v::read_run::copy` meets its contract: the first i values are copied. Assumes nothing.
+-- `macaque_v::read_run::copy` meets its contract: the first j values are copied. Assumes nothing.
 use borrow.Author.Needs.{needs}
-use mathlib.Core.Path.{_≡_, refl, ap, _∙_}
+use mathlib.Core.Path.{_≡_, refl, sym, ap, _∙_}
 use mathlib.Core.List.{List, _++_}
-use Prim.Native.Nat.{ℕ, _-_, _≤_}
+use Prim.Native.Nat.{ℕ, _+_, _-_, _≤_}
 use native.Mathlib.Omega.{arith}
-use lib.ListN.{length, take, drop, getD, set, length-set}
+use lib.ListN.{length, take, drop, getD, set, length-set, take-append-drop}
 use Rattle.macaque_v.proofs.ReadingRun.{copied-more}
 use Rattle.macaque_v.proofs.read_run.copy.Statement.{statement}
 use Rattle.macaque_v.proofs.read_run.copy.Tie as tie
 
 abbrev Inv-loop : tie.InvT-loop
-Inv-loop values n out₀ i₀ out i = (i ≤ n) × (length out ≡ length out₀) × (out ≡ take i values ++ drop i out₀)
+Inv-loop values n i out₀ j₀ out j = (j ≤ n) × (length out ≡ length out₀) × (out ≡ take i out₀ ++ (take j values ++ drop (i + j) out₀))
 
 abbrev μ-loop : tie.MeasureT-loop
-μ-loop values n out₀ i₀ out i = n - i
+μ-loop values n i out₀ j₀ out j = n - j
 
 loop-holds : tie.Need-loop-holds Inv-loop μ-loop
-loop-holds c = (omega arith, refl, refl)
+loop-holds c =
+    let a = c .args in
+    let e : a .i ≡ a .i + 0 = omega arith in
+    (omega arith, refl, sym (take-append-drop (a .i) (a .out .now)) ∙ ap (λ (n : ℕ). take (a .i) (a .out .now) ++ drop n (a .out .now)) e)
 
 mul-out : tie.Need-mul-out Inv-loop μ-loop
 mul-out c = search needs
@@ -24,14 +27,17 @@ mul-out c = search needs
 shared-slice-read-out : tie.Need-shared-slice-read-out Inv-loop μ-loop
 shared-slice-read-out c = search needs
 
+add-out : tie.Need-add-out Inv-loop μ-loop
+add-out c = search needs
+
 mul-out-2 : tie.Need-mul-out-2 Inv-loop μ-loop
 mul-out-2 c = search needs
 
 slice-write-out : tie.Need-slice-write-out Inv-loop μ-loop
 slice-write-out c = search needs
 
-add-i : tie.Need-add-i Inv-loop μ-loop
-add-i c = search needs
+add-j : tie.Need-add-j Inv-loop μ-loop
+add-j c = search needs
 
 loop-less : tie.Need-loop-less Inv-loop μ-loop
 loop-less c = search needs
@@ -42,7 +48,7 @@ loop-again c =
     let l = c .before .before .loop in (
       omega arith,
       simp length-set (l .inv .1),
-      ap (λ (z : List ℕ). set z (l .i) (getD (a .values .now) (l .i) 0)) (l .inv .2) ∙ copied-more (a .values .now) (a .out .now) (l .i) (omega arith) (omega arith),
+      ap (λ (z : List ℕ). set z (a .i + l .j) (getD (a .values .now) (l .j) 0)) (l .inv .2) ∙ copied-more (a .values .now) (a .out .now) (a .i) (l .j) (omega arith) (omega arith),
     )
 
 same-length : tie.Need-same-length Inv-loop μ-loop
@@ -51,8 +57,9 @@ same-length c = search needs
 returns : tie.Need-returns Inv-loop μ-loop
 returns c =
     let a = c .before .before .args in
-    let e : c .before .loop .i ≡ a .n = omega arith in
-    c .before .loop .inv .2 ∙ ap (λ (n : ℕ). take n (a .values .now) ++ drop n (a .out .now)) e
+    let l = c .before .loop in
+    let e : l .j ≡ a .n = omega arith in
+    l .inv .2 ∙ ap (λ (n : ℕ). take (a .i) (a .out .now) ++ (take n (a .values .now) ++ drop (a .i + n) (a .out .now))) e
 
 pub copy-spec : {M : Type 1} → statement M
 copy-spec =
@@ -63,9 +70,10 @@ copy-spec =
     loop-holds
     mul-out
     shared-slice-read-out
+    add-out
     mul-out-2
     slice-write-out
-    add-i
+    add-j
     loop-less
     loop-again
     same-length
