@@ -3,19 +3,21 @@ use mathlib.Core.Path.{_≡_, refl, sym, ap, ap₂, _∙_, subst}
 use mathlib.Core.Bool.{Bool, true, false, false≢true}
 use mathlib.Core.List.{List, [], _∷_}
 use Prim.Native.Nat.{ℕ, zero, suc, _+_, _-_, _*_, _/_, _^_, _≤_, _<_}
-use native.Mathlib.Nat.{div-eq-of-lt, lt-of-lt-of-le}
+use native.Mathlib.Nat.{div-eq-of-lt, lt-of-lt-of-le, le-trans, le-of-eq, min-le-right}
 use native.Mathlib.Omega.{arith}
 use lib.Bits.{bitXor, xor-zero-l, xor-shr, xor-lt}
 use lib.Count.{leadingZeros, leading-length}
 use lib.Dec.{lit<}
-use lib.ListN.{length, take, drop}
+use lib.ListN.{length, take, drop, length-take, length-drop}
 use lib.Pow.{pow-mono}
 use lib.Seq.{take-at, take-take}
 use Rattle.bits.specs.Bits.{field, fieldAt, bitsOf}
+use Rattle.bits.proofs.Bytes.{length-bitsOf}
 use Rattle.bits.proofs.Counts.{xor-undo}
 use Rattle.bits.proofs.Fields.{length-field, field-split}
-use Rattle.coding.specs.Ahead.{repeated, AtTop, RepeatsAt, IsWord}
-use Rattle.coding.proofs.Words.{moved, ahead-of-more}
+use Rattle.coding.specs.Ahead.{repeated, AtTop, RepeatsAt, IsAhead, IsWord}
+use Rattle.coding.specs.declared.decode.Ahead.{Ahead}
+use Rattle.coding.proofs.Words.{bits-in-long, moved, ahead-of-more}
 
 -- the first k of more
 front-repeated : (k m : ℕ) → take (2 * k) (repeated (k + m)) ≡ repeated k
@@ -89,6 +91,22 @@ word-ahead bytes place n h most w word e =
             there = omega arith;
             most = t .most;
           };
+    }
+
+-- the repeats that the bits ahead begin with stand at the place
+pub repeats-ahead : (bytes : List ℕ) (place : ℕ) (r : Ahead) → place ≤ 8 * length bytes → IsAhead bytes place r → (k : ℕ) → AtTop (r .word) k → 2 * k ≤ r .left → RepeatsAt bytes place k
+repeats-ahead bytes place r h A k t less =
+    let rest : List Bool = drop place (bitsOf bytes) in
+    let long : r .left ≤ length rest =
+    le-trans (le-of-eq (sym (bits-in-long (r .word) (r .left) (A .most)) ∙ ap length (A .bits) ∙ length-take 45 rest)) (min-le-right 45 (length rest)) in
+    record {
+      bits =
+          sym (take-take (2 * k) 45 rest (omega (arith, A .most)))
+          ∙ ap (take (2 * k)) (sym (A .bits))
+          ∙ take-take (2 * k) (r .left) (field 64 (r .word)) less
+          ∙ t .bits;
+      there = omega (arith, long, length-drop place (bitsOf bytes), length-bitsOf bytes);
+      most = t .most;
     }
 
 second : List Bool → Bool

@@ -65,13 +65,33 @@ pub fn fill(bytes: &[u8], first: bool, from: Cursor, n: usize, out: &mut [u32]) 
                 return Run::Refused(r);
             }
             Run::To(to) => {
+                let same = to.place == at.place + 2;
                 out[i] = to.last;
-                at = read_on(bytes, first, to, i + 1, n, out);
+                at = go_on(bytes, first, same, to, i + 1, n, out);
                 i = i + 1 + (at.count - to.count);
             }
         }
     }
     Run::To(at)
+}
+
+// Behind a repeat look for more of them, up to the last bits of the stream; behind another value, for values in its window too.
+fn go_on(
+    bytes: &[u8],
+    first: bool,
+    same: bool,
+    from: Cursor,
+    i: usize,
+    n: usize,
+    out: &mut [u32],
+) -> Cursor
+    requires { ⌜ Stands (now bytes) from × (0 < from .count) × (from .count + n ≤ 65536 + i) × (i ≤ n) × (n ≤ length (now out)) ⌝ }
+    ensures { λ r. ⌜ ReadsOn first (now (bytes .entry)) from i n (now (out .entry)) (now (out .exit)) r ⌝ }
+{
+    if same {
+        return repeats(bytes, first, from, i, n, out);
+    }
+    read_on(bytes, first, from, i, n, out)
 }
 
 // The values in the last window and the repeats that stand behind a value, as long as they come, into the places from i on.
@@ -122,12 +142,13 @@ fn further(from: Cursor, last: u32, place: usize, more: usize) -> Cursor
     }
 }
 
-// The repeats that stand behind a value, into the places from i on. They are taken at once, 28 at most, and only where `out` has so many places more.
+// The repeats that stand behind a value, into the places from i on: as many as the bits ahead hold, and only where `out` has 28 places more.
 fn repeats(bytes: &[u8], first: bool, at: Cursor, i: usize, n: usize, out: &mut [u32]) -> Cursor
     requires { ⌜ Stands (now bytes) at × (0 < at .count) × (at .count + n ≤ 65536 + i) × (i ≤ n) × (n ≤ length (now out)) ⌝ }
     ensures { λ r. ⌜ ReadsOn first (now (bytes .entry)) at i n (now (out .entry)) (now (out .exit)) r ⌝ }
 {
-    let k = at_once(decode::word_ahead(bytes, at.place), out.len() - i, n - i);
+    let ahead = decode::look(bytes, at.place);
+    let k = at_once(ahead.word, out.len() - i, least(ahead.left / 2, n - i));
     if k == 0 {
         return at;
     }

@@ -50,43 +50,46 @@ returns c =
 enum-known-to : tie.Need-enum-known-to Inv-loop μ-loop
 enum-known-to c = search needs
 
+add-same : tie.Need-add-same Inv-loop μ-loop
+add-same c = omega (arith, c .before .before .before .before .before .before .loop .inv .reads .stands .near, c .before .before .before .before .before .before .loop .inv .reads .counted)
+
 mul-out : tie.Need-mul-out Inv-loop μ-loop
 mul-out c = search needs
 
 slice-write-out : tie.Need-slice-write-out Inv-loop μ-loop
 slice-write-out c = search needs
 
-add-read-on : tie.Need-add-read-on Inv-loop μ-loop
-add-read-on c = search needs
+add-go-on : tie.Need-add-go-on Inv-loop μ-loop
+add-go-on c = search needs
 
-read-on-requires : tie.Need-read-on-requires Inv-loop μ-loop
-read-on-requires c κs =
-    let f = stored (c .before) in
-    (f .reads .stands, omega (arith, f .reads .counted), omega (arith, f .reads .counted, c .before .before .before .before .before .before .before .before .before .pre .1), f .fits, omega (arith, f .long))
+go-on-requires : tie.Need-go-on-requires Inv-loop μ-loop
+go-on-requires c κs =
+    let f = stored (c .before .before .before) in
+    (f .reads .stands, omega (arith, f .reads .counted), omega (arith, f .reads .counted, c .before .before .before .before .before .before .before .before .before .before .before .pre .1), f .fits, omega (arith, f .long))
 
 add-i : tie.Need-add-i Inv-loop μ-loop
 add-i c = search needs
 
 sub-i : tie.Need-sub-i Inv-loop μ-loop
-sub-i c = omega (arith, c .before .before .before .before .read-on .ensures .reads .counted)
+sub-i c = omega (arith, c .before .before .before .before .go-on .ensures .reads .counted)
 
 add-i-2 : tie.Need-add-i-2 Inv-loop μ-loop
 add-i-2 c =
-    let r = c .before .before .before .before .read-on .ensures in
-    omega (arith, r .reads .counted, r .fits, c .before .before .before .before .before .before .before .before .before .before .before .before .before .before .pre .1)
+    let r = c .before .before .before .before .go-on .ensures in
+    omega (arith, r .reads .counted, r .fits, c .before .before .before .before .before .before .before .before .before .before .before .before .before .before .before .before .pre .1)
 
 loop-less : tie.Need-loop-less Inv-loop μ-loop
 loop-less c =
-    let r = c .before .before .before .before .read-on .ensures in
+    let r = c .before .before .before .before .go-on .ensures in
     omega (arith, r .reads .counted, r .fits)
 
 loop-again : tie.Need-loop-again Inv-loop μ-loop
 loop-again c =
-    let a = c .before .before .before .before .before .before .before .before .before .before .before .before .before .before .args in
-    let l = c .before .before .before .before .before .before .before .before .before .before .before .loop in
-    let to = c .before .before .before .before .before .before .before .to .given .0 .0 in
-    let r = c .before .before .before .before .read-on in
-    filled-on (a .first) (a .bytes .now) (a .n) (l .i + 1) (a .out .now) (set (l .out) (l .i) (to .last)) (stored (c .before .before .before .before .before .before)) (r .ensures) (l .i + 1 + (r .result .count - to .count)) refl
+    let a = c .before .before .before .before .before .before .before .before .before .before .before .before .before .before .before .before .args in
+    let l = c .before .before .before .before .before .before .before .before .before .before .before .before .before .loop in
+    let to = c .before .before .before .before .before .before .before .before .before .to .given .0 .0 in
+    let r = c .before .before .before .before .go-on in
+    filled-on (a .first) (a .bytes .now) (a .n) (l .i + 1) (a .out .now) (set (l .out) (l .i) (to .last)) (stored (c .before .before .before .before .before .before .before .before)) (r .ensures) (l .i + 1 + (r .result .count - to .count)) refl
 
 same-length-2 : tie.Need-same-length-2 Inv-loop μ-loop
 same-length-2 c = search needs
@@ -110,10 +113,11 @@ fill-spec =
     same-length
     returns
     enum-known-to
+    add-same
     mul-out
     slice-write-out
-    add-read-on
-    read-on-requires
+    add-go-on
+    go-on-requires
     add-i
     sub-i
     add-i-2

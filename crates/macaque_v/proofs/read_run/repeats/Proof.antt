@@ -2,26 +2,30 @@
 use borrow.Author.Needs.{needs}
 use mathlib.Core.Path.{sym, subst}
 use native.Mathlib.Omega.{arith}
+use Rattle.coding.proofs.Repeats.{repeats-ahead}
 use Rattle.macaque_v.specs.ReadRun.{ReadsOn}
 use Rattle.macaque_v.proofs.Repeating.{reached-none, on-repeats}
 use Rattle.macaque_v.proofs.read_run.repeats.Statement.{statement}
 use Rattle.macaque_v.proofs.read_run.repeats.Tie as tie
 
-word-ahead-requires : tie.Need-word-ahead-requires
-word-ahead-requires c κs = search needs
+look-requires : tie.Need-look-requires
+look-requires c κs = search needs
 
 sub-at-once : tie.Need-sub-at-once
 sub-at-once c = search needs
 
-sub-at-once-2 : tie.Need-sub-at-once-2
-sub-at-once-2 c = search needs
+sub-least : tie.Need-sub-least
+sub-least c = search needs
+
+least-requires : tie.Need-least-requires
+least-requires c κs = search needs
 
 at-once-requires : tie.Need-at-once-requires
 at-once-requires c κs = search needs
 
 returns : tie.Need-returns
 returns c =
-    let s = c .before .before .before .before .before in
+    let s = c .before .before .before .before .before .before .before in
     let a = s .args in
     (reached-none (a .first) (a .bytes .now) (a .at) (a .i) (a .n) (a .out .now) (s .pre .0) (omega arith)) .on
 
@@ -42,21 +46,23 @@ same-length c = search needs
 
 returns-2 : tie.Need-returns-2
 returns-2 c =
-    let s = c .before .before .before .before .before .before .before .before .before .before .before in
+    let s = c .before .before .before .before .before .before .before .before .before .before .before .before .before in
     let a = s .args in
     let k = c .before .before .before .before .before .before .before .at-once in
-    let word = c .before .before .before .before .before .before .before .before .word-ahead in
+    let few = c .before .before .before .before .before .before .before .before .least in
+    let ahead = c .before .before .before .before .before .before .before .before .before .before .look in
     subst (ReadsOn (a .first) (a .bytes .now) (a .at) (a .i) (a .n) (a .out .now) (c .before .before .before .before .spread .last .0)) (sym (c .further .ensures))
     (on-repeats (a .first) (a .bytes .now) (a .at) (a .i) (a .n) (a .out .now) (c .before .before .before .before .spread .last .0) (s .pre .0) (omega arith)
-    (omega (arith, k .ensures .free (omega arith))) (k .result) (omega (arith, k .ensures .wanted)) (word .ensures .same (k .result) (k .ensures .top)) (c .before .before .before .before .spread .ensures))
+    (omega (arith, k .ensures .free (omega arith))) (k .result) (omega (arith, k .ensures .wanted, few .ensures)) (repeats-ahead (a .bytes .now) (a .at .place) (ahead .result) (s .pre .0 .within) (ahead .ensures) (k .result) (k .ensures .top) (omega (arith, k .ensures .wanted, few .ensures))) (c .before .before .before .before .spread .ensures))
 
 pub repeats-spec : {M : Type 1} → statement M
 repeats-spec =
     tie.close
     (tie.spec
-    word-ahead-requires
+    look-requires
     sub-at-once
-    sub-at-once-2
+    sub-least
+    least-requires
     at-once-requires
     returns
     spread-requires
