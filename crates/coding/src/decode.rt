@@ -33,7 +33,7 @@ pub fn look(bytes: &[u8], place: usize) -> Ahead
 }
 
 // The same where the stream has fewer than eight bytes from the place on.
-fn look_at_end(bytes: &[u8], place: usize) -> Ahead
+pub fn look_at_end(bytes: &[u8], place: usize) -> Ahead
     requires { ⌜ (place ≤ 8 * length (now bytes)) × (length (now bytes) < place / 8 + 8) ⌝ }
     ensures { λ r. ⌜ IsAhead (now (bytes .entry)) place r ⌝ }
 {

@@ -1,9 +1,10 @@
 // Reading value after value: into an array, or through a small one for what is taken in of the values on the way.
 ghost use mathlib.Core.Path.{_≡_};
 ghost use mathlib.Core.List.{_++_};
-ghost use Prim.Native.Nat.{_+_, _-_, _*_, _^_, _<_, _≤_};
+ghost use Prim.Native.Nat.{_+_, _-_, _*_, _/_, _^_, _<_, _≤_};
 ghost use lib.ListN.{length, take, drop, replicate};
 ghost use Rattle.stream.specs.Format.{gathered, gatherFrom};
+ghost use Rattle.coding.specs.Ahead.{RepeatsAt};
 ghost use Rattle.macaque_v.specs.State.{modeOf};
 ghost use Rattle.macaque_v.specs.ReadRun.{Stands, NextSays, AtOnce, onward, ReadsOn, FillSays, WalkSays, WholeSays, gatherSum, tallied, IsStretched, leftBehind};
 use crate::write;
@@ -75,7 +76,7 @@ pub fn fill(bytes: &[u8], first: bool, from: Cursor, n: usize, out: &mut [u32]) 
     Run::To(at)
 }
 
-// Behind a repeat look for more of them, up to the last bits of the stream; behind another value, for values in its window too.
+// Values in the last window and repeats, as long as they come; behind a repeat in the last bytes of the stream, repeats alone.
 fn go_on(
     bytes: &[u8],
     first: bool,
@@ -88,8 +89,8 @@ fn go_on(
     requires { ⌜ Stands (now bytes) from × (0 < from .count) × (from .count + n ≤ 65536 + i) × (i ≤ n) × (n ≤ length (now out)) ⌝ }
     ensures { λ r. ⌜ ReadsOn first (now (bytes .entry)) from i n (now (out .entry)) (now (out .exit)) r ⌝ }
 {
-    if same {
-        return repeats(bytes, first, from, i, n, out);
+    if same & (bytes.len() - from.place / 8 < 8) {
+        return last_repeats(bytes, first, from, i, n, out);
     }
     read_on(bytes, first, from, i, n, out)
 }
@@ -142,13 +143,45 @@ fn further(from: Cursor, last: u32, place: usize, more: usize) -> Cursor
     }
 }
 
-// The repeats that stand behind a value, into the places from i on: as many as the bits ahead hold, and only where `out` has 28 places more.
+// The repeats that stand behind a value, into the places from i on.
 fn repeats(bytes: &[u8], first: bool, at: Cursor, i: usize, n: usize, out: &mut [u32]) -> Cursor
     requires { ⌜ Stands (now bytes) at × (0 < at .count) × (at .count + n ≤ 65536 + i) × (i ≤ n) × (n ≤ length (now out)) ⌝ }
     ensures { λ r. ⌜ ReadsOn first (now (bytes .entry)) at i n (now (out .entry)) (now (out .exit)) r ⌝ }
 {
-    let ahead = decode::look(bytes, at.place);
+    let k = at_once(decode::word_ahead(bytes, at.place), out.len() - i, n - i);
+    take_repeats(bytes, first, at, k, i, n, out)
+}
+
+// The same where the stream has fewer than eight bytes from the place on.
+fn last_repeats(
+    bytes: &[u8],
+    first: bool,
+    at: Cursor,
+    i: usize,
+    n: usize,
+    out: &mut [u32],
+) -> Cursor
+    requires { ⌜ Stands (now bytes) at × (0 < at .count) × (at .count + n ≤ 65536 + i) × (i ≤ n) × (n ≤ length (now out)) × (length (now bytes) < at .place / 8 + 8) ⌝ }
+    ensures { λ r. ⌜ ReadsOn first (now (bytes .entry)) at i n (now (out .entry)) (now (out .exit)) r ⌝ }
+{
+    let ahead = decode::look_at_end(bytes, at.place);
     let k = at_once(ahead.word, out.len() - i, least(ahead.left / 2, n - i));
+    take_repeats(bytes, first, at, k, i, n, out)
+}
+
+// The k repeats that stand at the place, into the places from i on; what is laid behind them is filled later, or asked of none.
+fn take_repeats(
+    bytes: &[u8],
+    first: bool,
+    at: Cursor,
+    k: usize,
+    i: usize,
+    n: usize,
+    out: &mut [u32],
+) -> Cursor
+    requires { ⌜ Stands (now bytes) at × (0 < at .count) × (at .count + n ≤ 65536 + i) × (i + k ≤ n) × RepeatsAt (now bytes) (at .place) k × (0 < k → i + 28 ≤ length (now out)) ⌝ }
+    ensures { λ r. ⌜ ReadsOn first (now (bytes .entry)) at i n (now (out .entry)) (now (out .exit)) r ⌝ }
+{
     if k == 0 {
         return at;
     }

@@ -1,0 +1,54 @@
+-- `macaque_v::read_run::last_repeats` meets its contract: the repeats that the last bits begin with stand there. Assumes nothing.
+use borrow.Author.Needs.{needs}
+use native.Mathlib.Omega.{arith}
+use Rattle.coding.proofs.Repeats.{repeats-ahead}
+use Rattle.macaque_v.proofs.read_run.last_repeats.Statement.{statement}
+use Rattle.macaque_v.proofs.read_run.last_repeats.Tie as tie
+
+look-at-end-requires : tie.Need-look-at-end-requires
+look-at-end-requires c κs = search needs
+
+sub-at-once : tie.Need-sub-at-once
+sub-at-once c = search needs
+
+sub-least : tie.Need-sub-least
+sub-least c = search needs
+
+least-requires : tie.Need-least-requires
+least-requires c κs = search needs
+
+at-once-requires : tie.Need-at-once-requires
+at-once-requires c κs = search needs
+
+take-repeats-requires : tie.Need-take-repeats-requires
+take-repeats-requires c κs =
+    let s = c .before .before .before .before .before .before .before in
+    let k = c .before .at-once in
+    let few = c .before .before .least in
+    let ahead = c .before .before .before .before .look-at-end in (
+      s .pre .0,
+      omega arith,
+      omega arith,
+      omega (arith, k .ensures .wanted, few .ensures),
+      repeats-ahead (s .args .bytes .now) (s .args .at .place) (ahead .result) (s .pre .0 .within) (ahead .ensures) (k .result) (k .ensures .top) (omega (arith, k .ensures .wanted, few .ensures)),
+      λ some. omega (arith, k .ensures .free some),
+    )
+
+same-length : tie.Need-same-length
+same-length c = search needs
+
+returns : tie.Need-returns
+returns c = search needs
+
+pub last-repeats-spec : {M : Type 1} → statement M
+last-repeats-spec =
+    tie.close
+    (tie.spec
+    look-at-end-requires
+    sub-at-once
+    sub-least
+    least-requires
+    at-once-requires
+    take-repeats-requires
+    same-length
+    returns)
