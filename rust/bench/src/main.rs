@@ -103,12 +103,12 @@ impl Bench {
             "Nanoseconds a value, streams of 1,000 values, and ours as a part of the Rust's\n"
         );
         head("| job | bound | ours | filled | ratio | goal | published | ratio | goal |");
+        let lists = BOUNDS.map(|(name, bound)| (name, Lists::new(rooms, bound)));
         let mut good = true;
-        for (index, (bound, error_bound)) in BOUNDS.into_iter().enumerate() {
-            let lists = Lists::new(rooms, error_bound);
-            for (name, job, goals) in JOBS {
-                if self.is_wanted(name) {
-                    good &= self.row(name, bound, job, goals[index], &lists);
+        for (job, kind, goals) in JOBS {
+            for ((bound, lists), goal) in lists.iter().zip(goals) {
+                if self.is_wanted(job) {
+                    good &= self.row(job, bound, kind, goal, lists);
                 }
             }
         }
@@ -159,32 +159,37 @@ impl Bench {
     fn long_streams(&self, rooms: &[Vec<f32>], nights: &[Vec<f32>]) -> bool {
         println!("Nanoseconds a value, streams of 65,536 values beside those of 1,000\n");
         head("| job | bound | 65,536 | 1,000 | ratio | goal |");
+        let mut pairs = BOUNDS.map(|(name, bound)| {
+            let pair = [nights, rooms].map(|rooms| Lists::new(rooms, bound));
+            (name, pair)
+        });
         let mut good = true;
-        for (bound, error_bound) in BOUNDS {
-            let (mut short, mut long) = (
-                Lists::new(rooms, error_bound),
-                Lists::new(nights, error_bound),
-            );
-            for (name, job, _) in JOBS {
-                if self.is_wanted(name) {
-                    good &= self.agree_when_long(name, bound, job, &long);
-                    let [short, long] =
-                        [&short, &long].map(|lists| lists.times(&[&Ours], job, self.rounds)[0]);
-                    good &= self.long_row(name, bound, long, short);
+        for (job, kind, _) in JOBS {
+            for (bound, [long, short]) in &pairs {
+                if self.is_wanted(job) {
+                    good &= self.agree_when_long(job, bound, kind, long);
+                    let times = [long, short].map(|lists| lists.times(&[&Ours], kind, self.rounds));
+                    good &= self.long_row(job, bound, times[0][0], times[1][0]);
                 }
             }
+        }
+        for (bound, [long, short]) in &mut pairs {
             if self.is_wanted("reopened") {
-                if !(short.reopens() && long.reopens()) {
-                    println!("reopened, {bound}: another writer than the one that wrote");
-                    good = false;
-                }
-                let [short, long] =
-                    [&mut short, &mut long].map(|lists| lists.reopening(self.rounds));
-                good &= self.long_row("reopened", bound, long, short);
+                good &= self.reopened(bound, long, short);
             }
         }
         println!();
         good
+    }
+
+    /// Reopening at the end, which gives the writer that wrote the stream.
+    fn reopened(&self, bound: &str, long: &mut Lists, short: &mut Lists) -> bool {
+        let same = long.reopens() && short.reopens();
+        if !same {
+            println!("reopened, {bound}: another writer than the one that wrote");
+        }
+        let (long, short) = (long.reopening(self.rounds), short.reopening(self.rounds));
+        self.long_row("reopened", bound, long, short) && same
     }
 
     fn long_row(&self, name: &str, bound: &str, long: f64, short: f64) -> bool {
@@ -207,12 +212,14 @@ impl Bench {
     fn short_calls(&self, rooms: &[Vec<f32>]) {
         println!("Nanoseconds a call, short calls through the Rust face\n");
         head("| call | bound | ours | filled | published |");
-        for (bound, error_bound) in BOUNDS {
-            if self.is_wanted("written") {
+        if self.is_wanted("written") {
+            for (bound, error_bound) in BOUNDS {
                 let ours = short::one_value_written(rooms, error_bound, self.rounds);
                 println!("| one value written to a state | {bound} | {ours:.0} | – | – |");
             }
-            if self.is_wanted("read") {
+        }
+        if self.is_wanted("read") {
+            for (bound, error_bound) in BOUNDS {
                 print!("| a stream of {} read | {bound} |", short::SHORT);
                 let builds = AT_HAND.iter().map(|calls| &calls.direct as &dyn Side);
                 for side in std::iter::once(&Ours as &dyn Side).chain(builds) {
