@@ -12,9 +12,10 @@ use Rattle.bits.proofs.Fields.{length-field}
 use Rattle.stream.specs.Format.{macaque, Window, gathered, rawNext, State, isRaw, bitsFor, windowFor}
 use Rattle.stream.specs.Write.{keptOne, bitsOne, next}
 use Rattle.coding.specs.Code.{windowIn}
-use Rattle.macaque_v.specs.State.{Ends, taken, gatherEnds, modeOf}
+use Rattle.macaque_v.specs.State.{Ends, taken, gatherEnds, modeOf, stateOf}
 use Rattle.macaque_v.specs.Write.{streamBy, ruleBy, stateBy, Stepped}
 use Rattle.macaque_v.specs.declared.MacaqueV.{MacaqueV}
+use Rattle.macaque_v.specs.declared.span.Span.{Span}
 use Rattle.macaque_v.specs.declared.write.Pen.{Pen}
 use Rattle.macaque_v.specs.declared.write.Step.{Step}
 use Rattle.macaque_v.proofs.Extremes.{EndsHeld, held-more}
@@ -49,12 +50,12 @@ taken-is : (raw : Bool) (e : Ends) (v : ℕ) → taken e v ≡ gathered gatherEn
 taken-is true e v = refl
 taken-is false e v = refl
 
--- the pen stands in the state s, n values behind where it began
-pub record PenAt (s : State Ends) (n : ℕ) (p : Pen) : Type 0 where
+-- the pen stands in the state s, n values behind the writer m
+pub record PenAt (m : MacaqueV) (s : State Ends) (n : ℕ) (p : Pen) : Type 0 where
   pub stands : s ≡ stateBy p (s .count) (s .seen)
-  pub ends : EndsHeld n (s .seen) (p .low) (p .high) (p .last)
+  pub ends : EndsHeld ((stateOf m) .seen) n (s .seen) (p .span) (p .last)
 
-module _ (m : MacaqueV) {s : State Ends} {n : ℕ} {p : Pen} (P : PenAt s n p) (raw : Bool) (same : raw ≡ isRaw (streamBy m) s) (x : ℕ) (r : Step) (S : Stepped raw (m .«error_bound») p x r) where
+module _ (m : MacaqueV) {s : State Ends} {n : ℕ} {p : Pen} (P : PenAt m s n p) (raw : Bool) (same : raw ≡ isRaw (streamBy m) s) (x : ℕ) (r : Step) (S : Stepped raw (m .«error_bound») p x r) where
   -- the state as the pen has it
   abbrev t : State Ends
   t = stateBy p (s .count) (s .seen)
@@ -78,14 +79,14 @@ module _ (m : MacaqueV) {s : State Ends} {n : ℕ} {p : Pen} (P : PenAt s n p) (
   pub digits-are : field (r .width) (r .bits) ≡ bitsOne (streamBy m) s (keptOne (ruleBy m) (isRaw (streamBy m) s) (s .last) x)
   digits-are = digits-here ∙ ap₂ (λ (u : State Ends) (z : ℕ). bitsOne (streamBy m) u z) (sym (P .stands)) kept-is
 
-  pub pen-next : v < 2 ^ 32 → PenAt (next (streamBy m) s (keptOne (ruleBy m) (isRaw (streamBy m) s) (s .last) x)) (n + 1) (r .pen)
+  pub pen-next : v < 2 ^ 32 → PenAt m (next (streamBy m) s (keptOne (ruleBy m) (isRaw (streamBy m) s) (s .last) x)) (n + 1) (r .pen)
   pen-next fits =
-      let here : PenAt (next (streamBy m) t v) (n + 1) (r .pen) =
+      let here : PenAt m (next (streamBy m) t v) (n + 1) (r .pen) =
       record {
         stands = ap₂ (λ (w : Window) (k : ℕ). record { last = v; win = w; place = k; count = suc (s .count); seen = gathered gatherEnds (isRaw (streamBy m) t) (s .seen) v }) (sym window-here) (sym place-here);
         ends =
-            subst (λ (e : Ends). EndsHeld (n + 1) e (r .pen .low) (r .pen .high) v) (taken-is (isRaw (streamBy m) t) (s .seen) v)
-            (held-more (P .ends) v fits (r .pen .low) (r .pen .high) (S .low) (S .high));
+            subst (λ (e : Ends). EndsHeld ((stateOf m) .seen) (n + 1) e (r .pen .span) v) (taken-is (isRaw (streamBy m) t) (s .seen) v)
+            (subst (λ (z : Span). EndsHeld ((stateOf m) .seen) (n + 1) (taken (s .seen) v) z v) (sym (S .span)) (held-more (P .ends) v fits));
       } in
-      subst (λ (z : ℕ). PenAt (next (streamBy m) s z) (n + 1) (r .pen)) kept-is
-      (subst (λ (u : State Ends). PenAt (next (streamBy m) u v) (n + 1) (r .pen)) (sym (P .stands)) here)
+      subst (λ (z : ℕ). PenAt m (next (streamBy m) s z) (n + 1) (r .pen)) kept-is
+      (subst (λ (u : State Ends). PenAt m (next (streamBy m) u v) (n + 1) (r .pen)) (sym (P .stands)) here)

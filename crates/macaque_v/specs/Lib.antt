@@ -1,5 +1,6 @@
 -- What the contracts of `macaque_v` cite.
 pub mod State
+pub mod Span
 pub mod Write
 pub mod Calls
 pub mod Made

@@ -1,8 +1,7 @@
 -- The writer's state, as that of the theory of streams. "Minimum and maximum start fresh and take in each kept value from the left, the raw first one
 -- too, and never an input that was not kept." Assumes nothing.
-use mathlib.Core.Bool.{Bool, true, false, cond}
+use mathlib.Core.Bool.{Bool, true, false}
 use Prim.Native.Nat.{ℕ}
-use lib.Ieee.{Float, binary32, isNan, toBits}
 use Rattle.models.specs.Floats.{minBits, maxBits, freshBits}
 use Rattle.models.specs.declared.ErrorBound.{ErrorBound}
 use Rattle.stream.specs.Format.{Window, Gather, Mode, withFirst, withoutFirst, Stream, macaqueOf, State, fresh}
@@ -21,13 +20,6 @@ taken e v = record { min = minBits (e .min) v; max = maxBits (e .max) v }
 
 abbrev pub gatherEnds : Gather Ends
 gatherEnds = record { none = record { min = freshBits; max = freshBits }; byFirst = taken; byNext = taken }
-
--- the patterns of the two, held as numbers: a NaN stands for the last value
-abbrev pub bitsKept : Float → ℕ → ℕ
-bitsKept x last = cond (isNan x) last (toBits binary32 x)
-
-abbrev pub endsKept : Float → Float → ℕ → Ends
-endsKept low high last = record { min = bitsKept low last; max = bitsKept high last }
 
 -- ---- the stream of a mode, and the state in it
 

@@ -3,16 +3,15 @@ use mathlib.Core.Path.{_≡_}
 use mathlib.Core.Bool.{Bool, true, false}
 use mathlib.Core.List.{List}
 use Prim.Native.Nat.{ℕ, zero, suc, _+_}
-use lib.Ieee.{binary32, ofBits}
 use Rattle.bits.specs.Bits.{laidIn}
-use Rattle.models.specs.Floats.{minF, maxF}
 use Rattle.models.specs.declared.ErrorBound.{ErrorBound}
 use Rattle.stream.specs.Format.{Stream, State}
 use Rattle.stream.specs.Write.{keptOne, written, wrote}
 use Rattle.coding.specs.Keep.{keepRule}
 use Rattle.coding.specs.Code.{windowIn, Coded}
 use Rattle.coding.specs.declared.code.Code.{Code}
-use Rattle.macaque_v.specs.State.{Ends, endsKept, streamIn, stateOf, writerOf}
+use Rattle.macaque_v.specs.State.{Ends, streamIn, stateOf, writerOf}
+use Rattle.macaque_v.specs.Span.{spanFrom, spanWith, endsSaid}
 use Rattle.macaque_v.specs.declared.MacaqueV.{MacaqueV}
 use Rattle.macaque_v.specs.declared.write.Pen.{Pen}
 use Rattle.macaque_v.specs.declared.write.Step.{Step}
@@ -40,7 +39,7 @@ abbrev pub laidWhere : Bool → List ℕ → ℕ → List Bool → List ℕ
 laidWhere true buf p bits = laidIn buf p bits
 laidWhere false buf p bits = buf
 
--- ---- the pen: a state, but for the count, with the least and the greatest value as numbers
+-- ---- the pen: a state, but for the count, with the least and the greatest value as they are held
 
 abbrev pub penOf : MacaqueV → Pen
 penOf m =
@@ -49,8 +48,7 @@ penOf m =
       lead = m .«last_leading_zero_bits»;
       trail = m .«last_trailing_zero_bits»;
       place = m .place;
-      low = ofBits binary32 (m .«min_value»);
-      high = ofBits binary32 (m .«max_value»);
+      span = spanFrom (m .«min_value») (m .«max_value»);
     }
 
 -- the state in which the pen stands, behind n values and with these ends
@@ -60,7 +58,7 @@ stateBy p n e = record { last = p .last; win = windowIn (p .lead) (p .trail); pl
 -- the writer m after n values, behind which the pen stands
 abbrev pub leftBy : MacaqueV → Pen → ℕ → MacaqueV
 leftBy m p zero = m
-leftBy m p (suc n) = writerAt m (stateBy p (m .length + suc n) (endsKept (p .low) (p .high) (p .last)))
+leftBy m p (suc n) = writerAt m (stateBy p (m .length + suc n) (endsSaid (p .span) ((stateOf m) .seen) (p .last)))
 
 abbrev pub codeIn : Step → Code
 codeIn r = record { width = r .width; bits = r .bits; lead = r .pen .lead; trail = r .pen .trail }
@@ -70,5 +68,4 @@ pub record Stepped (raw : Bool) (b : ErrorBound) (p : Pen) (x : ℕ) (r : Step) 
   pub kept : r .pen .last ≡ keptOne (keepRule b) raw (p .last) x
   pub code : Coded raw (windowIn (p .lead) (p .trail)) (p .last) (r .pen .last) (codeIn r)
   pub place : r .pen .place ≡ p .place + r .width
-  pub low : r .pen .low ≡ minF (p .low) (ofBits binary32 (r .pen .last))
-  pub high : r .pen .high ≡ maxF (p .high) (ofBits binary32 (r .pen .last))
+  pub span : r .pen .span ≡ spanWith (p .span) (r .pen .last)

@@ -2,6 +2,7 @@
 
 pub mod read;
 pub mod read_run;
+pub mod span;
 pub mod write;
 
 use models::ErrorBound;

@@ -7,7 +7,7 @@ ghost use Rattle.stream.specs.Format.{gathered, gatherFrom};
 ghost use Rattle.coding.specs.Ahead.{RepeatsAt};
 ghost use Rattle.macaque_v.specs.State.{modeOf};
 ghost use Rattle.macaque_v.specs.ReadRun.{Stands, NextSays, AtOnce, onward, ReadsOn, FillSays, WalkSays, WholeSays, gatherSum, tallied, IsStretched, leftBehind};
-use crate::write;
+use crate::span;
 use coding::decode;
 use coding::decode::Decoded;
 use models::Refusal;
@@ -359,19 +359,16 @@ fn stretched(tally: Tally, values: &[u32], k: usize) -> Tally
     if k == 0 {
         return tally;
     }
-    let mut low = numbers::value_of_f32(tally.min);
-    let mut high = numbers::value_of_f32(tally.max);
+    let mut ends = span::begun(tally.min, tally.max);
     let mut i: usize = 0;
     while i < k {
-        let x = numbers::value_of_f32(values[i]);
-        low = models::min_f32(low, x);
-        high = models::max_f32(high, x);
+        ends = span::taken(ends, values[i]);
         i += 1;
     }
     let last = values[k - 1];
     Tally {
         sum: tally.sum,
-        min: write::bits_kept(low, last),
-        max: write::bits_kept(high, last),
+        min: span::least(ends, tally.min, last),
+        max: span::greatest(ends, tally.max, last),
     }
 }

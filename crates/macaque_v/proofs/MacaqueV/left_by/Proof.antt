@@ -2,35 +2,35 @@
 use borrow.Author.Needs.{needs}
 use mathlib.Core.Path.{_≡_, refl, ap₂, _∙_}
 use Prim.Native.Nat.{ℕ, zero, suc, _+_}
-use Rattle.macaque_v.specs.State.{endsKept}
+use Rattle.macaque_v.specs.State.{stateOf}
+use Rattle.macaque_v.specs.Span.{endsSaid}
 use Rattle.macaque_v.specs.Write.{writerAt, stateBy, leftBy}
 use Rattle.macaque_v.specs.declared.MacaqueV.{MacaqueV}
 use Rattle.macaque_v.specs.declared.write.Pen.{Pen}
 use Rattle.macaque_v.proofs.MacaqueV.left_by.Statement.{statement}
 use Rattle.macaque_v.proofs.MacaqueV.left_by.Tie as tie
 
-left-some : (m : MacaqueV) (p : Pen) (n : ℕ) → ¬ (n ≡ 0) → writerAt m (stateBy p (m .length + n) (endsKept (p .low) (p .high) (p .last))) ≡ leftBy m p n
+left-some : (m : MacaqueV) (p : Pen) (n : ℕ) → ¬ (n ≡ 0) → writerAt m (stateBy p (m .length + n) (endsSaid (p .span) ((stateOf m) .seen) (p .last))) ≡ leftBy m p n
 left-some m p zero h = absurd (h refl)
 left-some m p (suc n) h = refl
 
 returns : tie.Need-returns
 returns c = search needs
 
-bits-kept-requires : tie.Need-bits-kept-requires
-bits-kept-requires c κs = search needs
+least-requires : tie.Need-least-requires
+least-requires c κs = search needs
 
-bits-kept-requires-2 : tie.Need-bits-kept-requires-2
-bits-kept-requires-2 c κs = search needs
+greatest-requires : tie.Need-greatest-requires
+greatest-requires c κs = search needs
 
-add-t8 : tie.Need-add-t8
-add-t8 c = search needs
+add-t9 : tie.Need-add-t9
+add-t9 c = search needs
 
 returns-2 : tie.Need-returns-2
 returns-2 c =
-    let a = c .before .before .before .before .args in
-    ap₂ (λ (x y : ℕ). writerAt (a .self) (stateBy (a .pen) (a .self .length + a .n) (record { min = x; max = y }))) (c .before .before .bits-kept .ensures) (c .before .bits-kept2 .ensures)
-    ∙ left-some (a .self) (a .pen) (a .n) (c .before .before .before .if1 .left)
+    let a = c .before .before .before .before .before .args in
+    ap₂ (λ (x y : ℕ). writerAt (a .self) (stateBy (a .pen) (a .self .length + a .n) (record { min = x; max = y }))) (c .before .before .least .ensures) (c .before .greatest .ensures)
+    ∙ left-some (a .self) (a .pen) (a .n) (c .before .before .before .before .if1 .left)
 
 pub left-by-spec : {M : Type 1} → statement M
-left-by-spec =
-    tie.close (tie.spec returns bits-kept-requires bits-kept-requires-2 add-t8 returns-2)
+left-by-spec = tie.close (tie.spec returns least-requires greatest-requires add-t9 returns-2)
