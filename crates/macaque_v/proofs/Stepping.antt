@@ -35,7 +35,7 @@ and-false true b = refl
 and-false false b = refl
 
 -- a loop's i-th value, behind n others
-pub raw-at : (first : Bool) (n i : ℕ) → ((first && eqb n 0) && eqb i 0) ≡ rawNext (modeOf first) (n + i)
+raw-at : (first : Bool) (n i : ℕ) → ((first && eqb n 0) && eqb i 0) ≡ rawNext (modeOf first) (n + i)
 raw-at first n i = both n ∙ raw-is first (n + i)
   where
     both : (k : ℕ) → ((first && eqb k 0) && eqb i 0) ≡ (first && eqb (k + i) 0)
@@ -44,6 +44,15 @@ raw-at first n i = both n ∙ raw-is first (n + i)
         let no : ¬ (suc k ≡ 0) = omega arith in
         let more : ¬ (suc k + i ≡ 0) = omega arith in
         ap (λ (b : Bool). (first && b) && eqb i 0) (ne-eqb (suc k) 0 no) ∙ and-false first (eqb i 0) ∙ ap (λ (b : Bool). first && b) (sym (ne-eqb (suc k + i) 0 more))
+
+-- the first of n values, or none of them
+pub raw-first : (first : Bool) (len n : ℕ) → (first && eqb len 0) ≡ true → (i : ℕ) → i < n → eqb i 0 ≡ rawNext (modeOf first) (len + i)
+raw-first first len n e i h = ap (λ (b : Bool). b && eqb i 0) (sym e) ∙ raw-at first len i
+
+pub raw-none : (first : Bool) (len n : ℕ) → (first && eqb len 0) ≡ false → (i : ℕ) → i < n → eqb i n ≡ rawNext (modeOf first) (len + i)
+raw-none first len n e i h =
+    let no : ¬ (i ≡ n) = omega arith in
+    ne-eqb i n no ∙ ap (λ (b : Bool). b && eqb i 0) (sym e) ∙ raw-at first len i
 
 -- a raw value enters the least and the greatest as any other
 taken-is : (raw : Bool) (e : Ends) (v : ℕ) → taken e v ≡ gathered gatherEnds raw e v

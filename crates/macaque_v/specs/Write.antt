@@ -2,15 +2,16 @@
 use mathlib.Core.Path.{_≡_}
 use mathlib.Core.Bool.{Bool, true, false}
 use mathlib.Core.List.{List}
-use Prim.Native.Nat.{ℕ, zero, suc, _+_}
+use Prim.Native.Nat.{ℕ, zero, suc, _+_, _<_}
+use lib.Dec.{eqb}
 use Rattle.bits.specs.Bits.{laidIn}
 use Rattle.models.specs.declared.ErrorBound.{ErrorBound}
-use Rattle.stream.specs.Format.{Stream, State}
+use Rattle.stream.specs.Format.{Stream, State, rawNext}
 use Rattle.stream.specs.Write.{keptOne, written, wrote}
 use Rattle.coding.specs.Keep.{keepRule}
 use Rattle.coding.specs.Code.{windowIn, Coded}
 use Rattle.coding.specs.declared.code.Code.{Code}
-use Rattle.macaque_v.specs.State.{Ends, streamIn, stateOf, writerOf}
+use Rattle.macaque_v.specs.State.{Ends, modeOf, streamIn, stateOf, writerOf}
 use Rattle.macaque_v.specs.Span.{spanFrom, spanWith, endsSaid}
 use Rattle.macaque_v.specs.declared.MacaqueV.{MacaqueV}
 use Rattle.macaque_v.specs.declared.write.Pen.{Pen}
@@ -38,6 +39,10 @@ wroteBy m xs = wrote (ruleBy m) (streamBy m) (stateOf m) xs
 abbrev pub laidWhere : Bool → List ℕ → ℕ → List Bool → List ℕ
 laidWhere true buf p bits = laidIn buf p bits
 laidWhere false buf p bits = buf
+
+-- of n values the one at r, if any, is stored raw
+abbrev pub RawAt : MacaqueV → ℕ → ℕ → Type 0
+RawAt m n r = (i : ℕ) → i < n → eqb i r ≡ rawNext (modeOf (m .«with_first»)) (m .length + i)
 
 -- ---- the pen: a state, but for the count, with the least and the greatest value as they are held
 
