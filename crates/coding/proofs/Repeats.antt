@@ -73,7 +73,7 @@ none-at-top word = record { bits = refl; most = omega arith }
 
 -- ---- the word ahead
 
--- of n bits from the place on, where those are more than 28 repeats take
+-- of n bits from the place on, where those are no fewer than 28 repeats take
 pub word-ahead : (bytes : List ℕ) (place n : ℕ) → place + n ≤ 8 * length bytes → n ≤ 64 → 56 ≤ n
     → (word : ℕ) → word ≡ fieldAt place n (bitsOf bytes) * 2 ^ (64 - n) → IsWord bytes place word
 word-ahead bytes place n h most w word e =

@@ -181,13 +181,13 @@ pub record EndsHeld (b : Ends) (n : ℕ) (e : Ends) (s : Span) (last : ℕ) : Ty
   greatest : Extreme turned (b .max) n (e .max) (s .turned) (s .some) last
 
 -- before any of the n
-pub held-none : (b : Ends) (last : ℕ) → b .min < 2 ^ 32 → b .max < 2 ^ 32 → EndsHeld b 0 b (spanFrom (b .min) (b .max)) last
-held-none b last s t = record { least = none-yet (ofBits binary32) (b .min) last s; greatest = none-yet turned (b .max) last t }
+pub span-none : (b : Ends) (last : ℕ) → b .min < 2 ^ 32 → b .max < 2 ^ 32 → EndsHeld b 0 b (spanFrom (b .min) (b .max)) last
+span-none b last s t = record { least = none-yet (ofBits binary32) (b .min) last s; greatest = none-yet turned (b .max) last t }
 
 module _ {b : Ends} {n last : ℕ} {e : Ends} {s : Span} (H : EndsHeld b n e s last) where
-  pub held-more : (v : ℕ) → v < 2 ^ 32 → EndsHeld b (n + 1) (taken e v) (spanWith s v) v
+  pub span-more : (v : ℕ) → v < 2 ^ 32 → EndsHeld b (n + 1) (taken e v) (spanWith s v) v
   unfolding isNumber minBits
-  held-more v fits =
+  span-more v fits =
       record {
         least = one-more (H .least) v fits;
         greatest =
@@ -196,9 +196,9 @@ module _ {b : Ends} {n last : ℕ} {e : Ends} {s : Span} (H : EndsHeld b n e s l
             (one-more (H .greatest) v fits));
       }
 
-  pub held-bits : 0 < n → endsSaid s b last ≡ e
+  pub span-bits : 0 < n → endsSaid s b last ≡ e
   unfolding saidBits isNumber
-  held-bits some =
+  span-bits some =
       let low = bits-are (H .least) some (toBits binary32) (written-back (e .min) (H .least .small)) in
       let high =
       bits-are (H .greatest) some (λ (x : Float). toBits binary32 (neg x))

@@ -18,7 +18,7 @@ use Rattle.macaque_v.specs.declared.MacaqueV.{MacaqueV}
 use Rattle.macaque_v.specs.declared.span.Span.{Span}
 use Rattle.macaque_v.specs.declared.write.Pen.{Pen}
 use Rattle.macaque_v.specs.declared.write.Step.{Step}
-use Rattle.macaque_v.proofs.Extremes.{EndsHeld, held-more}
+use Rattle.macaque_v.proofs.Extremes.{EndsHeld, span-more}
 
 -- the next value is stored raw
 pub raw-is : (first : Bool) (n : ℕ) → (first && eqb n 0) ≡ rawNext (modeOf first) n
@@ -95,7 +95,7 @@ module _ (m : MacaqueV) {s : State Ends} {n : ℕ} {p : Pen} (P : PenAt m s n p)
         stands = ap₂ (λ (w : Window) (k : ℕ). record { last = v; win = w; place = k; count = suc (s .count); seen = gathered gatherEnds (isRaw (streamBy m) t) (s .seen) v }) (sym window-here) (sym place-here);
         ends =
             subst (λ (e : Ends). EndsHeld ((stateOf m) .seen) (n + 1) e (r .pen .span) v) (taken-is (isRaw (streamBy m) t) (s .seen) v)
-            (subst (λ (z : Span). EndsHeld ((stateOf m) .seen) (n + 1) (taken (s .seen) v) z v) (sym (S .span)) (held-more (P .ends) v fits));
+            (subst (λ (z : Span). EndsHeld ((stateOf m) .seen) (n + 1) (taken (s .seen) v) z v) (sym (S .span)) (span-more (P .ends) v fits));
       } in
       subst (λ (z : ℕ). PenAt m (next (streamBy m) s z) (n + 1) (r .pen)) kept-is
       (subst (λ (u : State Ends). PenAt m (next (streamBy m) u v) (n + 1) (r .pen)) (sym (P .stands)) here)

@@ -144,7 +144,7 @@ fn draw(bytes: &[u8], first: bool, at: Cursor, n: usize, i: usize, out: &mut [u3
     ensures values { λ r. ⌜ now (out .exit) ≡ drawnAt i (now (out .entry)) (valuesFrom first (now (bytes .entry)) at n) ⌝ }
 {
     let mut values = [0u32; 1052];
-    let k = read_run::least(1024, n);
+    let k = read_run::smaller(1024, n);
     match read_run::fill(bytes, first, at, k, &mut values) {
         Run::Refused(r) => GridAnswer::Refused(r),
         Run::To(to) => {

@@ -53,7 +53,7 @@ fn next(bytes: &[u8], first: bool, at: Cursor) -> Run
     }
 }
 
-// The next n values, into the first places of `out`. Those behind them may change too, so what is lent by a caller is never handed over here.
+// The next n values, into the first places of `out`. Those behind them may change too: callers hand over arrays of their own.
 pub fn fill(bytes: &[u8], first: bool, from: Cursor, n: usize, out: &mut [u32]) -> Run
     requires { ⌜ Stands (now bytes) from × (from .count + n ≤ 65536) × (n ≤ length (now out)) ⌝ }
     ensures { λ r. ⌜ FillSays first (now (bytes .entry)) from n (now (out .entry)) (now (out .exit)) r ⌝ }
@@ -76,7 +76,7 @@ pub fn fill(bytes: &[u8], first: bool, from: Cursor, n: usize, out: &mut [u32]) 
     Run::To(at)
 }
 
-// Values in the last window and repeats, as long as they come; behind a repeat in the last bytes of the stream, repeats alone.
+// Values in the last window and repeats, as long as they come; in the last bytes of the stream, behind a value of two bits (`same`), repeats alone.
 fn go_on(
     bytes: &[u8],
     first: bool,
@@ -143,7 +143,7 @@ fn further(from: Cursor, last: u32, place: usize, more: usize) -> Cursor
     }
 }
 
-// The repeats that stand behind a value, into the places from i on.
+// The repeats that stand behind a value, 28 at most and where `out` has room for so many, into the places from i on.
 fn repeats(bytes: &[u8], first: bool, at: Cursor, i: usize, n: usize, out: &mut [u32]) -> Cursor
     requires { ⌜ Stands (now bytes) at × (0 < at .count) × (at .count + n ≤ 65536 + i) × (i ≤ n) × (n ≤ length (now out)) ⌝ }
     ensures { λ r. ⌜ ReadsOn first (now (bytes .entry)) at i n (now (out .entry)) (now (out .exit)) r ⌝ }
@@ -165,11 +165,11 @@ fn last_repeats(
     ensures { λ r. ⌜ ReadsOn first (now (bytes .entry)) at i n (now (out .entry)) (now (out .exit)) r ⌝ }
 {
     let ahead = decode::look_at_end(bytes, at.place);
-    let k = at_once(ahead.word, out.len() - i, least(ahead.left / 2, n - i));
+    let k = at_once(ahead.word, out.len() - i, smaller(ahead.left / 2, n - i));
     take_repeats(bytes, first, at, k, i, n, out)
 }
 
-// The k repeats that stand at the place, into the places from i on; what is laid behind them is filled later, or asked of none.
+// The k repeats that stand at the place, into the places from i on; what is spread behind them is filled later, or lies behind what was asked for.
 fn take_repeats(
     bytes: &[u8],
     first: bool,
@@ -262,7 +262,7 @@ pub fn go_through(bytes: &[u8], first: bool, from: Cursor, n: usize, aim: Aim) -
     };
     let mut read: usize = 0;
     while read < n {
-        let k = least(1024, n - read);
+        let k = smaller(1024, n - read);
         match fill(bytes, first, at, k, &mut values) {
             Run::Refused(r) => {
                 return Walk::Refused(r);
@@ -306,7 +306,7 @@ pub fn left_behind(bytes: &[u8], place: usize) -> bool
 }
 
 // The smaller of the two.
-pub fn least(a: usize, b: usize) -> usize
+pub fn smaller(a: usize, b: usize) -> usize
     ensures { λ r. ⌜ r ≡ a - (a - b) ⌝ }
 {
     if a < b { a } else { b }

@@ -1,5 +1,5 @@
 // The least and the greatest of some values, held as numbers while many are taken in: the greatest with its sign turned,
-// so that both are found by the same test. Before any number came they are infinite, and no number is above that.
+// so that both are found by the same test. Where no number is there yet they are infinite, and no number is above that.
 ghost use mathlib.Core.Path.{_≡_};
 ghost use Rattle.macaque_v.specs.Span.{orInfinite, lesserOf, isNumber, spanFrom, spanWith, saidBits, leastIn, greatestIn};
 

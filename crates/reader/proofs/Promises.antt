@@ -33,7 +33,7 @@ use Rattle.macaque_v.specs.declared.read_run.Cursor.{Cursor}
 use Rattle.macaque_v.proofs.ReadingRun.{moved, one-read}
 use Rattle.macaque_v.proofs.ReadingAll.{start-stands, same-values}
 use Rattle.reader.specs.Calls.{openedAt, mayUse, Taken, behind, taken, nextRead, nextAnswer, endAnswer}
-use Rattle.reader.specs.Run.{Run, also, andThen, nexts, ifEnded, andEnd, readBy}
+use Rattle.reader.specs.Run.{Run, also, andThen, nexts, ifEnded, andEnd, readBy, lastOf}
 use Rattle.reader.specs.declared.position.Position.{Position}
 
 -- where reading from the start leads: it may be read on from there, and the rule for a state is kept
@@ -170,6 +170,10 @@ module _ (bytes : List ℕ) where
     -- opened, read n times and ended: the values that reading takes of a count of n, or its refusal, 5 to 8
     pub n-nexts-and-the-end : readBy bytes n o ≡ valuesIn bytes n o
     n-nexts-and-the-end = nexts-read n (openedAt o) (start-goes o h) (omega arith) ∙ sym (same-values bytes o n)
+
+    -- the last of them, as `last_value` answers it
+    pub last-of-the-nexts : lastOf 0 (readBy bytes n o) ≡ lastOf 0 (valuesIn bytes n o)
+    last-of-the-nexts = ap (lastOf 0) n-nexts-and-the-end
 
     -- what `grid` answers and draws, where there is room
     pub as-the-grid : (out : List ℕ) → n ≤ length out → (gridAnswer bytes n o (length out) ≡ drawn (readBy bytes n o)) × (gridMemory bytes n o out ≡ drawnIn out (readBy bytes n o))

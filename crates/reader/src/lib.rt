@@ -1,5 +1,5 @@
 // A reader that keeps hold of the lent stream and its place: it is opened, read value by value, and
-// ended. The borrow checker covers no function over a struct that holds a reference, so the calls here
+// ended. The borrow checker covers no function over a struct that holds a reference, so the reader's calls
 // are thin, and proved by hand: each takes the reader apart and leaves the work to `position`, on the
 // slice and the place.
 ghost use mathlib.Core.Path.{_≡_};

@@ -1,5 +1,4 @@
--- `coding::decode::at_top` meets its contract: the leading zeros of the word beside 1010.. are two for each repeat. Assumes nothing.
-use borrow.Author.Needs.{needs}
+-- `coding::decode::at_top` meets its contract: the leading zeros of the exclusive or with 1010.. are two for each repeat. Assumes nothing.
 use Prim.Native.Nat.{_/_}
 use native.Mathlib.Omega.{arith}
 use lib.Bits.{bitXor}

@@ -20,7 +20,7 @@ use Rattle.macaque_v.proofs.read.draw.Kinds as draw-kinds
 use Rattle.macaque_v.proofs.read.+draw.Lts-draw as draw-lts
 use Rattle.macaque_v.proofs.read_run.copy.Reads as copy-reads
 use Rattle.macaque_v.proofs.read_run.fill.Reads as fill-reads
-use Rattle.macaque_v.proofs.read_run.least.Reads as least-reads
+use Rattle.macaque_v.proofs.read_run.smaller.Reads as smaller-reads
 use Rattle.macaque_v.proofs.read_run.left_behind.Reads as left-behind-reads
 use Rattle.macaque_v.proofs.read.+draw.{statement}
 use Rattle.macaque_v.proofs.read.+draw.Tie.{close}
@@ -37,8 +37,8 @@ draw-below t = and 2 draw-kinds.ps (falls 2 draw-kinds.ps _<_ μ-draw t) draw.Pr
 
 abbrev calls : ℕ → draw-lts.Claims
 calls t = (
-  least-reads.Asked,
-  least-reads.Learnt,
+  smaller-reads.Asked,
+  smaller-reads.Learnt,
   fill-reads.Asked,
   fill-reads.Learnt,
   draw-below t,
@@ -51,22 +51,22 @@ calls t = (
 
 -- the block is read
 filled : (t : ℕ) (c : draw-lts.After-to (calls t) (draw-at t) draw.Post)
-    → Reads (c .before .before .before .before .before .before .before .before .args .first) (c .before .before .before .before .before .before .before .before .args .bytes .now) (c .before .before .before .before .before .before .before .before .args .at) (c .before .before .before .before .before .least .result)
-    (take (c .before .before .before .before .before .least .result) (c .before .before .before .fill .last .1 .1 .1 .1 .0)) (c .to .given .0 .0)
+    → Reads (c .before .before .before .before .before .before .before .before .args .first) (c .before .before .before .before .before .before .before .before .args .bytes .now) (c .before .before .before .before .before .before .before .before .args .at) (c .before .before .before .before .before .smaller .result)
+    (take (c .before .before .before .before .before .smaller .result) (c .before .before .before .fill .last .1 .1 .1 .1 .0)) (c .to .given .0 .0)
 filled t c =
     let a = c .before .before .before .before .before .before .before .before .args in
     let f = c .before .before .before .fill in
-    let k = c .before .before .before .before .before .least .result in
+    let k = c .before .before .before .before .before .smaller .result in
     subst (λ (q : Run). FillSays (a .first) (a .bytes .now) (a .at) k (replicate 1052 0) (f .last .1 .1 .1 .1 .0) q) (c .to .given .1) (f .ensures) .0
 
 -- nothing stands behind the block, or the rest was drawn
 right : (t : ℕ) (c : draw-lts.Joined1 (calls t) (draw-at t) draw.Post)
-    → Right (take (c .before .before .before .before .before .before .before .least .result) (c .before .before .before .before .before .fill .last .1 .1 .1 .1 .0))
+    → Right (take (c .before .before .before .before .before .before .before .smaller .result) (c .before .before .before .before .before .fill .last .1 .1 .1 .1 .0))
     (valuesFrom (c .before .before .before .before .before .before .before .before .before .before .args .first) (c .before .before .before .before .before .before .before .before .before .before .args .bytes .now) (c .before .before .before .before .before .before .before .before .before .before .args .at) (c .before .before .before .before .before .before .before .before .before .before .args .n))
-    (c .before .before .before .before .before .before .before .before .before .before .args .i + c .before .before .before .before .before .before .before .least .result) (c .before .before .before .before .before .before .before .before .before .before .args .out .now) (c .if1 .out)
+    (c .before .before .before .before .before .before .before .before .before .before .args .i + c .before .before .before .before .before .before .before .smaller .result) (c .before .before .before .before .before .before .before .before .before .before .args .out .now) (c .if1 .out)
 right t c =
     let a = c .before .before .before .before .before .before .before .before .before .before .args in
-    let k = c .before .before .before .before .before .before .before .least .result in
+    let k = c .before .before .before .before .before .before .before .smaller .result in
     let us = take k (c .before .before .before .before .before .fill .last .1 .1 .1 .1 .0) in
     let R = filled t (c .before .before) in
     let to = c .before .before .to .given .0 .0 in
@@ -82,8 +82,8 @@ right t c =
     (ap (valuesFrom (a .first) (a .bytes .now) (a .at)) (sym e) ∙ from-right (a .first) (a .bytes .now) (a .at) R (sym (w .1 .ensures) ∙ w .2 .left)) (w .3))
     (c .if1 .came)
 
-draw-least-requires : (t : ℕ) → draw-lts.Need-least-requires (calls t) (draw-at t) draw.Post
-draw-least-requires t c κs = search needs
+draw-smaller-requires : (t : ℕ) → draw-lts.Need-smaller-requires (calls t) (draw-at t) draw.Post
+draw-smaller-requires t c κs = search needs
 
 draw-slice-aggregate-fill : (t : ℕ) → draw-lts.Need-slice-aggregate-fill (calls t) (draw-at t) draw.Post
 draw-slice-aggregate-fill t c = search needs
@@ -117,7 +117,7 @@ draw-same-length t c = search needs
 draw-returns : (t : ℕ) → draw-lts.Need-returns (calls t) (draw-at t) draw.Post
 draw-returns t c =
     let a = c .before .before .before .before .before .before .before .before .before .before .before .before .before .before .before .before .before .args in
-    let k = c .before .before .before .before .before .before .before .before .before .before .before .before .before .before .least .result in
+    let k = c .before .before .before .before .before .before .before .before .before .before .before .before .before .before .smaller .result in
     let us = take k (c .before .before .before .before .before .before .before .before .before .before .before .before .fill .last .1 .1 .1 .1 .0) in
     let d = c .before .before .before .before .before .draw in
     let to = c .before .before .before .before .before .before .before .before .before .to .given .0 .0 in
@@ -140,9 +140,9 @@ draw-left-behind-requires t c κs =
 draw-returns-2 : (t : ℕ) → draw-lts.Need-returns-2 (calls t) (draw-at t) draw.Post
 draw-returns-2 t c =
     let a = c .before .before .before .before .before .before .before .before .before .before .before .before .args in
-    let e : c .before .before .before .before .before .before .before .before .before .least .result ≡ a .n = omega arith in
+    let e : c .before .before .before .before .before .before .before .before .before .smaller .result ≡ a .n = omega arith in
     let stops = ends-wrong (filled t (c .before .before .before .before)) (sym (c .before .left-behind .ensures) ∙ c .if2 .taken) in
-    let wrong = ap (valuesFrom (a .first) (a .bytes .now) (a .at)) (sym e) ∙ from-wrong (a .first) (a .bytes .now) (a .at) (c .before .before .before .before .before .before .before .before .before .least .result) Leftover stops in
+    let wrong = ap (valuesFrom (a .first) (a .bytes .now) (a .at)) (sym e) ∙ from-wrong (a .first) (a .bytes .now) (a .at) (c .before .before .before .before .before .before .before .before .before .smaller .result) Leftover stops in
     (sym (ap drawn wrong), sym (ap (drawnAt (a .i) (a .out .now)) wrong))
 
 draw-slice-aggregate-copy : (t : ℕ) → draw-lts.Need-slice-aggregate-copy (calls t) (draw-at t) draw.Post
@@ -156,7 +156,7 @@ draw-returns-3 : (t : ℕ) → draw-lts.Need-returns-3 (calls t) (draw-at t) dra
 draw-returns-3 t c =
     let a = c .before .before .before .before .before .before .before .before .before .args in
     let f = c .before .before .before .before .fill in
-    let k = c .before .before .before .before .before .before .least .result in
+    let k = c .before .before .before .before .before .before .smaller .result in
     let says = subst (λ (q : Run). FillSays (a .first) (a .bytes .now) (a .at) k (replicate 1052 0) (f .last .1 .1 .1 .1 .0) q) (c .before .r .given .1) (f .ensures) in
     let wrong = from-early (a .first) (a .bytes .now) (a .at) (a .n) k (c .before .r .given .0 .0) (c .before .before .before .before .before .before .before .before .before .pre .1 .0) (omega arith) says in
     (sym (ap drawn wrong), sym (ap (drawnAt (a .i) (a .out .now)) wrong))
@@ -168,11 +168,11 @@ draw-same-length-2 t c =
 draw-returns-4 : (t : ℕ) → draw-lts.Need-returns-4 (calls t) (draw-at t) draw.Post
 draw-returns-4 t c =
     let a = c .before .before .before .before .before .before .before .before .before .before .before .before .before .before .before .args in
-    let k = c .before .before .before .before .before .before .before .before .before .before .before .before .least .result in
+    let k = c .before .before .before .before .before .before .before .before .before .before .before .before .smaller .result in
     let us = take k (c .before .before .before .before .before .before .before .before .before .before .fill .last .1 .1 .1 .1 .0) in
     let q = right t (c .before .before .before .before .before) in (
       sym (ap drawn (q .are)),
-      c .before .before .copy .ensures ∙ right-copied us (a .i) k (a .out .now) q (filled t (c .before .before .before .before .before .before .before) .long) (omega (arith, c .before .before .before .before .before .before .before .before .before .before .before .before .before .before .before .pre .1 .2, c .before .before .before .before .before .before .before .before .before .before .before .before .least .ensures)),
+      c .before .before .copy .ensures ∙ right-copied us (a .i) k (a .out .now) q (filled t (c .before .before .before .before .before .before .before) .long) (omega (arith, c .before .before .before .before .before .before .before .before .before .before .before .before .before .before .before .pre .1 .2, c .before .before .before .before .before .before .before .before .before .before .before .before .smaller .ensures)),
     )
 
 pub +draw-spec : {M : Type 1} → statement M
@@ -183,7 +183,7 @@ pub +draw-spec : {M : Type 1} → statement M
     (calls t)
     (draw-at t)
     draw.Post
-    (draw-least-requires t)
+    (draw-smaller-requires t)
     (draw-slice-aggregate-fill t)
     (draw-fill-requires t)
     (draw-enum-known-r t)

@@ -24,11 +24,11 @@ loop-holds c =
     let a = c .before .args in
     (omega arith, refl, walked-none (a .first) (a .bytes .now) (a .from) (a .aim) (c .before .pre .0))
 
-sub-least : tie.Need-sub-least Inv-loop μ-loop
-sub-least c = search needs
+sub-smaller : tie.Need-sub-smaller Inv-loop μ-loop
+sub-smaller c = search needs
 
-least-requires : tie.Need-least-requires Inv-loop μ-loop
-least-requires c κs = search needs
+smaller-requires : tie.Need-smaller-requires Inv-loop μ-loop
+smaller-requires c κs = search needs
 
 slice-aggregate-fill : tie.Need-slice-aggregate-fill Inv-loop μ-loop
 slice-aggregate-fill c = search needs
@@ -46,7 +46,7 @@ returns c =
     let a = c .before .before .before .before .before .before .before .before .before .before .args in
     let l = c .before .before .before .before .before .before .before .before .loop in
     let f = c .before .before .before .before .fill in
-    let k = c .before .before .before .before .before .before .least .result in
+    let k = c .before .before .before .before .before .before .smaller .result in
     then-stops (a .first) (a .bytes .now) (l .inv .2 .reads) k
     (subst (λ (q : Run). FillSays (a .first) (a .bytes .now) (l .at) k (l .values) (f .last .1 .1 .1 .1 .0) q) (c .before .r .given .1) (f .ensures)) (a .n) (omega arith)
 
@@ -70,7 +70,7 @@ loop-again c =
     let a = c .before .before .before .before .before .before .before .before .before .before .before .before .args in
     let l = c .before .before .before .before .before .before .before .before .before .before .loop in
     let f = c .before .before .before .before .before .before .fill in
-    let k = c .before .before .before .before .before .before .before .before .least .result in
+    let k = c .before .before .before .before .before .before .before .before .smaller .result in
     let new = f .last .1 .1 .1 .1 .0 in
     let says = subst (λ (q : Run). FillSays (a .first) (a .bytes .now) (l .at) k (l .values) new q) (c .before .before .before .to .given .1) (f .ensures) in (
       omega arith,
@@ -92,8 +92,8 @@ go-through-spec =
     Inv-loop
     μ-loop
     loop-holds
-    sub-least
-    least-requires
+    sub-smaller
+    smaller-requires
     slice-aggregate-fill
     fill-requires
     enum-known-r

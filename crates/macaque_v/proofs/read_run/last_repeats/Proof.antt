@@ -11,11 +11,11 @@ look-at-end-requires c κs = search needs
 sub-at-once : tie.Need-sub-at-once
 sub-at-once c = search needs
 
-sub-least : tie.Need-sub-least
-sub-least c = search needs
+sub-smaller : tie.Need-sub-smaller
+sub-smaller c = search needs
 
-least-requires : tie.Need-least-requires
-least-requires c κs = search needs
+smaller-requires : tie.Need-smaller-requires
+smaller-requires c κs = search needs
 
 at-once-requires : tie.Need-at-once-requires
 at-once-requires c κs = search needs
@@ -24,7 +24,7 @@ take-repeats-requires : tie.Need-take-repeats-requires
 take-repeats-requires c κs =
     let s = c .before .before .before .before .before .before .before in
     let k = c .before .at-once in
-    let few = c .before .before .least in
+    let few = c .before .before .smaller in
     let ahead = c .before .before .before .before .look-at-end in (
       s .pre .0,
       omega arith,
@@ -46,8 +46,8 @@ last-repeats-spec =
     (tie.spec
     look-at-end-requires
     sub-at-once
-    sub-least
-    least-requires
+    sub-smaller
+    smaller-requires
     at-once-requires
     take-repeats-requires
     same-length

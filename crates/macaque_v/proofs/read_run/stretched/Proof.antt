@@ -8,7 +8,7 @@ use Rattle.stream.specs.Format.{Mode, gatherFrom}
 use Rattle.macaque_v.specs.State.{Ends, taken, gatherEnds}
 use Rattle.macaque_v.specs.ReadRun.{endsIn, withEnds}
 use Rattle.macaque_v.specs.declared.span.Span.{Span}
-use Rattle.macaque_v.proofs.Extremes.{EndsHeld, held-none, held-more, held-bits}
+use Rattle.macaque_v.proofs.Extremes.{EndsHeld, span-none, span-more, span-bits}
 use Rattle.macaque_v.proofs.ReadingTally.{ends-more}
 use Rattle.macaque_v.proofs.read_run.stretched.Statement.{statement}
 use Rattle.macaque_v.proofs.read_run.stretched.Tie as tie
@@ -38,7 +38,7 @@ loop-holds c =
       omega arith,
       λ mode n.
           subst (λ (s : Span). EndsHeld (endsIn (a .tally)) 0 (endsIn (a .tally)) s first) (sym (c .begun .ensures))
-          (held-none (endsIn (a .tally)) first (omega arith) (omega arith)),
+          (span-none (endsIn (a .tally)) first (omega arith) (omega arith)),
     )
 
 mul-taken : tie.Need-mul-taken Inv-loop μ-loop
@@ -69,7 +69,7 @@ loop-again c =
           subst (λ (z : Ends). EndsHeld b (l .i + 1) z (c .taken .result) (getD (a .values .now) (l .i + 1 - 1) 0)) (sym (ends-more mode n b (a .values .now) (l .i) (omega arith)))
           (subst (λ (j : ℕ). EndsHeld b (l .i + 1) (taken e v) (c .taken .result) (getD (a .values .now) j 0)) here
           (subst (λ (s : Span). EndsHeld b (l .i + 1) (taken e v) s v) (sym (c .taken .ensures))
-          (held-more (l .inv .1 mode n) v (c .before .before .before .before .before .before .shared-slice-known .given (l .i) .fits)))),
+          (span-more (l .inv .1 mode n) v (c .before .before .before .before .before .before .shared-slice-known .given (l .i) .fits)))),
     )
 
 sub-last : tie.Need-sub-last Inv-loop μ-loop
@@ -97,7 +97,7 @@ returns-2 c =
     let held : EndsHeld (endsIn (a .tally)) (a .k) (gatherFrom gatherEnds mode n (endsIn (a .tally)) (take (a .k) (a .values .now))) (l .ends) (getD (a .values .now) (a .k - 1) 0) =
     subst (λ (j : ℕ). EndsHeld (endsIn (a .tally)) j (gatherFrom gatherEnds mode n (endsIn (a .tally)) (take j (a .values .now))) (l .ends) (getD (a .values .now) (j - 1) 0)) all (l .inv .1 mode n) in
     ap₂ (λ (x y : ℕ). withEnds (a .tally) (record { min = x; max = y })) (c .before .least .ensures) (c .greatest .ensures)
-    ∙ ap (withEnds (a .tally)) (held-bits held some)
+    ∙ ap (withEnds (a .tally)) (span-bits held some)
 
 pub stretched-spec : {M : Type 1} → statement M
 stretched-spec =

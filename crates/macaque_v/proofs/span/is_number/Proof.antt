@@ -4,7 +4,7 @@ use mathlib.Core.Bool.{Bool, true, false, not}
 use Prim.Native.Nat.{ℕ, _%_, _^_}
 use lib.Dec.{leb, ltb}
 use lib.Bits.{bitAnd, and-mask}
-use lib.Ieee.{binary32, isNan, ofBits}
+use lib.Ieee.{binary32}
 use lib.Ieee.Bits.{nanBits-is, nanBits-above}
 use borrow.Author.Tests.{ltb-true, ltb-false, le-leb, lt-leb}
 use Rattle.macaque_v.specs.Span.{isNumber}
