@@ -78,7 +78,7 @@ uint32_t modelardb_macaque_v_reopen(uint8_t *buffer, size_t buffer_length, size_
                                     size_t state_length);
 
 /* out[0] to out[count - 1]: the values of the stream. Refusals: 3 (mode, or count above 65,536); 4; then 5 to
- * 8. It takes 5 KiB of stack for each 1,024 values, so up to 320 KiB. */
+ * 8. It takes 5 KiB of stack for each 1,024 values, so up to 320 KiB; a reader takes less than 16 in all. */
 uint32_t modelardb_macaque_v_grid(const uint8_t *bytes, size_t bytes_length, size_t count, uint32_t mode,
                                   uint32_t opening, uint32_t *out, size_t out_length);
 

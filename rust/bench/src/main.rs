@@ -1,5 +1,5 @@
 //! Times the proved library and the Rust's text on the same streams, and prints tables in the form of
-//! docs/SPEED.md. Usage: `bench [ROUNDS] [JOB]`, where JOB is how the names of the jobs wanted begin, or
+//! docs/SPEED.md. Usage: `bench [ROUNDS [JOB]]`, where JOB is how the names of the jobs wanted begin, or
 //! `bench --quick`, a short run that holds each ratio to a loose limit.
 
 mod jobs;
@@ -13,7 +13,7 @@ use oracle::rust::{AT_HAND, Calls};
 use sides::{MOST_VALUES, Ours, Side};
 use std::process::ExitCode;
 
-const USAGE: &str = "usage: bench [ROUNDS] [JOB], a whole number above 0 and how a job's name begins (written, read, \
+const USAGE: &str = "usage: bench [ROUNDS [JOB]], a whole number above 0 and how a job's name begins (written, read, \
     summed, reopened); or bench --quick";
 
 const BOUNDS: [(&str, ErrorBound); 3] = [
@@ -103,6 +103,9 @@ impl Bench {
 
     /// The jobs beside both builds of the Rust.
     fn beside_the_rust(&self, rooms: &[Vec<f32>]) -> bool {
+        if !JOBS.iter().any(|job| self.is_wanted(job.0)) {
+            return true;
+        }
         println!(
             "Nanoseconds a value, streams of 1,000 values, and ours as a part of the Rust's\n"
         );
@@ -181,7 +184,7 @@ impl Bench {
     fn ratio(&self, ours: f64, other: f64, goal: f64) -> bool {
         let ratio = ours / other;
         let good = self.keeps(ratio, goal);
-        let mark = if good { "" } else { " is too much" };
+        let mark = if good { "" } else { " is above the limit" };
         print!(" {other:.2} | {ratio:.2}{mark} | {goal:.2} |");
         good
     }
@@ -253,6 +256,9 @@ impl Bench {
 
     /// What the call itself costs.
     fn short_calls(&self, rooms: &[Vec<f32>]) {
+        if !["written", "read"].iter().any(|job| self.is_wanted(job)) {
+            return;
+        }
         println!("Nanoseconds a call, short calls through the Rust face\n");
         head("| call | bound | ours |", " filled | published |");
         if self.is_wanted("written") {

@@ -17,6 +17,13 @@ fn stream(count: usize) -> Result<Vec<u8>, Refusal> {
     Ok(buffer)
 }
 
+/// What a call answers in a thread of so much stack.
+fn in_a_thread<T: Send + 'static>(stack: usize, call: impl FnOnce() -> T + Send + 'static) -> T {
+    let small = thread::Builder::new().stack_size(stack);
+    let answer = small.spawn(call).expect("a thread").join();
+    answer.expect("the thread ends")
+}
+
 #[test]
 fn a_grid_takes_5_kib_for_each_1024_values() {
     for blocks in [1, 2, 16, 64] {
@@ -26,8 +33,29 @@ fn a_grid_takes_5_kib_for_each_1024_values() {
         let read = move || {
             macaque_v::grid(&bytes, count, Opening::First, &mut out).map(|()| out[count - 1])
         };
-        let small = thread::Builder::new().stack_size(5 * 1024 * blocks + BESIDES);
-        let last = small.spawn(read).expect("a thread").join();
-        assert_eq!(last.expect("the thread ends"), Ok((count - 1) as f32));
+        let last = in_a_thread(5 * 1024 * blocks + BESIDES, read);
+        assert_eq!(last, Ok((count - 1) as f32));
     }
+}
+
+#[test]
+fn writing_summing_and_reopening_take_less_than_16_kib() {
+    let count = MacaqueV::MOST_VALUES;
+    let last = in_a_thread(16 << 10, move || {
+        let mut bytes = stream(count)?;
+        macaque_v::sum(&bytes, count, Opening::First)?;
+        let used = bytes.len();
+        MacaqueV::reopen(
+            &mut bytes,
+            used,
+            count,
+            count,
+            Opening::First,
+            ErrorBound::Lossless,
+        )?;
+        let mut reader = macaque_v::Reader::open(&bytes, Opening::First);
+        reader.next_value()?;
+        macaque_v::last_value(&bytes, count, Opening::First)
+    });
+    assert_eq!(last, Ok((count - 1) as f32));
 }
