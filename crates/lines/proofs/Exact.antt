@@ -10,7 +10,7 @@ use lib.Ieee as Ieee
 use lib.Ieee.{binary64}
 use mir.Syntax.{w64}
 use mir.Val.{SFits}
-use Rattle.models.proofs.Laws.{and-left}
+use Rattle.models.proofs.Tests.{and-left}
 use Rattle.lines.specs.Times.{timeAllowed}
 
 limit-pos : (n : ℕ) → timeAllowed (pos n) ≡ true → n ≤ 4503599627370496

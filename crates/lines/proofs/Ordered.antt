@@ -12,9 +12,9 @@ use lib.Signed.{ltZ}
 use lib.ListN.{length, getD, drop, set, length-map}
 use lib.Seq.{sets, sets-eq, drop-cons, drop-length}
 use lib.Ieee.{Float}
-use Rattle.models.proofs.Laws.{and-left, and-right}
+use Rattle.models.proofs.Tests.{and-left, and-right}
 use Rattle.lines.specs.Times.{timeAllowed, inOrder, after}
-use Rattle.lines.specs.Values.{inTime, drawn, drawnAt, sumFrom}
+use Rattle.lines.specs.Values.{inTime, sumFrom, lineDrawn, lineDrawnAt}
 use Rattle.lines.specs.Line.{_+f_, valueAt}
 use Rattle.lines.specs.declared.Point.{Point}
 use Rattle.lines.specs.declared.Line.{Line}
@@ -70,11 +70,11 @@ sets-here f out ts i d h = rw (add-one i, drop-cons ts i d)
 pub sets-done : {A B : Type 0} (f : A → B) (out : List B) (ts : List A) (i : ℕ) → i ≡ length ts → sets out i (map f (drop i ts)) ≡ out
 sets-done f out ts i e = rw (drop-end ts i e)
 
-pub sets-drawn : (line : Line) (ts : List ℤ) (out : List ℕ) → length ts ≤ length out → sets out 0 (map (drawnAt line) ts) ≡ drawn line ts out
-unfolding drawn
+pub sets-drawn : (line : Line) (ts : List ℤ) (out : List ℕ) → length ts ≤ length out → sets out 0 (map (lineDrawnAt line) ts) ≡ lineDrawn line ts out
+unfolding lineDrawn
 sets-drawn line ts out h =
-    let m = length-map ts (drawnAt line) in
-    sets-eq (map (drawnAt line) ts) out 0 (omega (arith, m)) ∙ rw (zero-add (length (map (drawnAt line) ts)), m)
+    let m = length-map ts (lineDrawnAt line) in
+    sets-eq (map (lineDrawnAt line) ts) out 0 (omega (arith, m)) ∙ rw (zero-add (length (map (lineDrawnAt line) ts)), m)
 
 -- ---- a sum
 

@@ -54,8 +54,8 @@ abbrev pub spanF : ℤ → ℤ → Float
 spanF start end = Ieee.ofInt binary64 (end -ℤ start)
 
 -- ---- lines
-abbrev pub level : Float → Line
-level value = record { slope = value; intercept = value }
+abbrev pub levelLine : Float → Line
+levelLine value = record { slope = value; intercept = value }
 
 abbrev pub sloped : Float → Point → Line
 sloped slope p = record { slope = slope; intercept = p .value -f slope *f timeF (p .time) }

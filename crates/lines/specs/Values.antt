@@ -37,8 +37,8 @@ sumFrom sum line [] = sum
 sumFrom sum line (t ∷ ts) = sumFrom (sum +f valueAt line t) line ts
 
 -- ---- the grid: the values at the listed times in front, then what the output held
-abbrev pub drawnAt : Line → ℤ → ℕ
-drawnAt line t = answeredAs (valueAt line t)
+abbrev pub lineDrawnAt : Line → ℤ → ℕ
+lineDrawnAt line t = answeredAs (valueAt line t)
 
-unfoldable pub drawn : Line → List ℤ → List ℕ → List ℕ
-drawn line ts out = map (drawnAt line) ts ++ drop (length ts) out
+unfoldable pub lineDrawn : Line → List ℤ → List ℕ → List ℕ
+lineDrawn line ts out = map (lineDrawnAt line) ts ++ drop (length ts) out

@@ -7,10 +7,11 @@ ghost use mathlib.Core.Path.{_≡_};
 ghost use mathlib.Core.Bool.{true};
 ghost use Prim.Native.Nat.{_≤_};
 ghost use lib.ListN.{length};
+ghost use Rattle.models.specs.Limits.{mostValues};
 ghost use Rattle.models.specs.Floats.{zeroF};
 ghost use Rattle.lines.specs.Times.{timeAllowed, inOrder};
 ghost use Rattle.lines.specs.Line.{pointOf, raised, lowered, added, spanF, lineThrough, termsOf, valueAt, answeredAs, bothFinite};
-ghost use Rattle.lines.specs.Values.{inTime, noLine, averageSum, sumFrom, drawn};
+ghost use Rattle.lines.specs.Values.{inTime, noLine, averageSum, sumFrom, lineDrawn};
 
 pub struct Point {
     pub time: i64,
@@ -134,9 +135,7 @@ pub fn value_at(line: Line, t: i64) -> f64
 pub fn in_time(a: Point, b: Point) -> bool
     ensures { λ r. ⌜ r ≡ inTime a b ⌝ }
 {
-    let a_ok = (times::LEAST <= a.time) & (a.time <= times::MOST);
-    let b_ok = (times::LEAST <= b.time) & (b.time <= times::MOST);
-    a_ok & (b_ok & (a.time < b.time))
+    times::allowed(a.time) & (times::allowed(b.time) & (a.time < b.time))
 }
 
 pub fn both_finite(a: f64, b: f64) -> bool
@@ -154,7 +153,7 @@ pub fn no_line(a: Point, b: Point) -> bool
 
 // The bits of the sum of `count` values of the line, by the average of its ends.
 pub fn average_sum(a: Point, b: Point, count: usize) -> u32
-    requires { ⌜ inTime a b ≡ true ⌝ ∗ ⌜ count ≤ 65536 ⌝ }
+    requires { ⌜ inTime a b ≡ true ⌝ ∗ ⌜ count ≤ mostValues ⌝ }
     ensures { λ r. ⌜ r ≡ averageSum a b count ⌝ }
 {
     let l = line_through(a, b);
@@ -182,7 +181,7 @@ pub fn total(line: Line, ts: &[i64]) -> f64
 // Writes the bits of the line's value at each time to the front of `out`.
 pub fn draw(line: Line, ts: &[i64], out: &mut [u32])
     requires { ⌜ inOrder (now ts) ≡ true ⌝ ∗ ⌜ length (now ts) ≤ length (now out) ⌝ }
-    ensures { λ _. ⌜ now (out .exit) ≡ drawn line (now (ts .entry)) (now (out .entry)) ⌝ }
+    ensures { λ _. ⌜ now (out .exit) ≡ lineDrawn line (now (ts .entry)) (now (out .entry)) ⌝ }
 {
     let mut i: usize = 0;
     while i < ts.len() {

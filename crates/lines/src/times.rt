@@ -4,9 +4,9 @@ ghost use mathlib.Core.Path.{_≡_};
 ghost use lib.Signed.{ltZ};
 ghost use Rattle.lines.specs.Times.{timeAllowed, inOrder};
 
-pub const LEAST: i64 = -4503599627370496;
+const LEAST: i64 = -4503599627370496;
 
-pub const MOST: i64 = 4503599627370496;
+const MOST: i64 = 4503599627370496;
 
 // Whether the time keeps the limits.
 pub fn allowed(t: i64) -> bool

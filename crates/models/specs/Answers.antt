@@ -1,17 +1,34 @@
--- What a call answers, in the paper's terms: its values, or the number of the cause that refuses it. And when a contract allows one result only.
+-- What a call answers, in the paper's terms: its values, or the fault that refuses it. And when a contract allows one result only.
 use mathlib.Core.Path.{_≡_, sym, ap, _∙_}
 use mathlib.Core.Bool.{Bool, true, false, cond}
 use mathlib.Core.List.{List, [], _∷_}
 use Prim.Native.Nat.{ℕ}
 
+-- what a refusal says: the number of its cause
+pub record Fault : Type 0 where
+  pub number : ℕ
+
+abbrev pub fault : ℕ → Fault
+fault n = record { number = n }
+
+abbrev pub faultNumber : Fault → ℕ
+faultNumber f = f .number
+
 pub data Said (A : Type 0) : Type 0 where
   answered : A → Said A
-  refused : ℕ → Said A
+  refused : Fault → Said A
 
 -- the same of a call that is handed a state, which a refusal hands back
 pub data SaidOn (S A : Type 0) : Type 0 where
   answeredOn : A → SaidOn S A
-  refusedOn : ℕ → S → SaidOn S A
+  refusedOn : Fault → S → SaidOn S A
+
+-- a refusal on a state, which is handed back; and one that leaves a thing as it was
+abbrev pub refusing : {S A : Type 0} → S → Fault → SaidOn S A
+refusing s f = refusedOn f s
+
+abbrev pub keeping : {X : Type 0} → X → Fault → X
+keeping x f = x
 
 -- what a step answers: whether the value fits, and the state that it hands back
 pub record Stepped (S : Type 0) : Type 0 where
@@ -28,12 +45,12 @@ failing s = record { fits = false; state = s }
 -- the state that a step hands back, also where it is refused
 abbrev pub stateAfter : {S : Type 0} → SaidOn S (Stepped S) → S
 stateAfter (answeredOn t) = t .state
-stateAfter (refusedOn n s) = s
+stateAfter (refusedOn f s) = s
 
 -- an answer without the state that a refusal hands back
 abbrev pub stateless : {S A : Type 0} → SaidOn S A → Said A
 stateless (answeredOn a) = answered a
-stateless (refusedOn n s) = refused n
+stateless (refusedOn f s) = refused f
 
 -- ---- the causes for which a call is refused, in 01's order: of those that hold the first is given
 
@@ -41,16 +58,16 @@ infix 68 _when_
 pub data Cause : Type 0 where
   _when_ : ℕ → Bool → Cause
 
--- `refuse n` for the first cause that holds, of number n, and `x` where none does
-unfoldable pub judge : {X : Type 0} → (ℕ → X) → List Cause → X → X
+-- `refuse` of the fault of the first cause that holds, and `x` where none does
+unfoldable pub judge : {X : Type 0} → (Fault → X) → List Cause → X → X
 judge refuse [] x = x
-judge refuse (n when holds ∷ causes) x = cond holds (refuse n) (judge refuse causes x)
+judge refuse (n when holds ∷ causes) x = cond holds (refuse (fault n)) (judge refuse causes x)
 
 abbrev pub judged : {A : Type 0} → List Cause → A → Said A
 judged causes a = judge refused causes (answered a)
 
 abbrev pub judgedOn : {S A : Type 0} → S → List Cause → A → SaidOn S A
-judgedOn {S} {A} s causes a = judge {X = SaidOn S A} (λ (n : ℕ). refusedOn n s) causes (answeredOn a)
+judgedOn s causes a = judge (refusing s) causes (answeredOn a)
 
 -- whether a call is refused, and by what: a call that answers no value says only this
 abbrev pub Done : Type 0
@@ -59,9 +76,14 @@ Done = Unit {0}
 abbrev pub verdict : List Cause → Said Done
 verdict causes = judged causes tt
 
+-- every cause of a list fails
+abbrev pub NoneHolds : List Cause → Type 0
+NoneHolds [] = Done
+NoneHolds (n when holds ∷ causes) = (holds ≡ false) × NoneHolds causes
+
 -- lent memory: untouched by a refused call
 abbrev pub judgedMemory : {A : Type 0} → List A → List Cause → List A → List A
-judgedMemory {A} before causes after = judge {X = List A} (λ (n : ℕ). before) causes after
+judgedMemory before causes after = judge (keeping before) causes after
 
 -- ---- one result: where `says` takes no two results to the same answer, the contract `says r ≡ answer` allows one
 
@@ -74,3 +96,6 @@ one-result says injective answer r t p q = injective r t (p ∙ sym q)
 -- it is so where the result can be told from what is said
 pub told-apart : {R S : Type 0} (says : R → S) (back : S → R) → ((r : R) → back (says r) ≡ r) → Injective says
 told-apart says back undone r t e = sym (undone r) ∙ ap back e ∙ undone t
+
+pub fault-injective : Injective fault
+fault-injective n k e = ap faultNumber e

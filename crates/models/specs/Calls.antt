@@ -5,7 +5,7 @@ use mathlib.Core.List.{[], _∷_}
 use Prim.Native.Nat.{ℕ}
 use lib.Ieee.{Float, binary32, ofBits}
 use Rattle.models.specs.Answers.{Said, Done, answered, refused, _when_, judged, Injective, told-apart}
-use Rattle.models.specs.Refusals.{number, numbered-number, unsaid}
+use Rattle.models.specs.Refusals.{numbered-number, unsaid, faultOf}
 use Rattle.models.specs.Bound.{boundAllowed, within, deviation}
 use Rattle.models.specs.declared.ErrorBound.{ErrorBound}
 use Rattle.models.specs.declared.Verdict.{Verdict}
@@ -22,7 +22,7 @@ use Rattle.models.specs.declared.DeviationAnswer.the-variants as OfDevia
 -- ---- a verdict on causes of refusal
 abbrev pub saysVerdict : Verdict → Said Done
 saysVerdict OfVerdict.Passed = answered tt
-saysVerdict (OfVerdict.Refused r) = refused (number r)
+saysVerdict (OfVerdict.Refused r) = refused (faultOf r)
 
 verdict-told : (r : Verdict) → unsaid (λ (u : Done). OfVerdict.Passed) OfVerdict.Refused (saysVerdict r) ≡ r
 verdict-told OfVerdict.Passed = refl
@@ -34,7 +34,7 @@ saysVerdict-injective = told-apart saysVerdict (unsaid (λ (u : Done). OfVerdict
 -- ---- a value, by its pattern
 abbrev pub saysValue : ValueAnswer → Said ℕ
 saysValue (OfValue.Answered bits) = answered bits
-saysValue (OfValue.Refused r) = refused (number r)
+saysValue (OfValue.Refused r) = refused (faultOf r)
 
 value-told : (r : ValueAnswer) → unsaid OfValue.Answered OfValue.Refused (saysValue r) ≡ r
 value-told (OfValue.Answered bits) = refl
@@ -46,7 +46,7 @@ saysValue-injective = told-apart saysValue (unsaid OfValue.Answered OfValue.Refu
 -- ---- a grid, whose values are in the lent output
 abbrev pub saysGrid : GridAnswer → Said Done
 saysGrid OfGrid.Drawn = answered tt
-saysGrid (OfGrid.Refused r) = refused (number r)
+saysGrid (OfGrid.Refused r) = refused (faultOf r)
 
 grid-told : (r : GridAnswer) → unsaid (λ (u : Done). OfGrid.Drawn) OfGrid.Refused (saysGrid r) ≡ r
 grid-told OfGrid.Drawn = refl
@@ -58,7 +58,7 @@ saysGrid-injective = told-apart saysGrid (unsaid (λ (u : Done). OfGrid.Drawn) O
 -- ---- is_value_within_error_bound, of two patterns
 abbrev pub saysWithin : WithinAnswer → Said Bool
 saysWithin (OfWithin.Answered is) = answered is
-saysWithin (OfWithin.Refused r) = refused (number r)
+saysWithin (OfWithin.Refused r) = refused (faultOf r)
 
 unfoldable pub withinAnswer : ErrorBound → ℕ → ℕ → Said Bool
 withinAnswer b real approximate =
@@ -74,7 +74,7 @@ saysWithin-injective = told-apart saysWithin (unsaid OfWithin.Answered OfWithin.
 -- ---- maximum_allowed_deviation, of an f64
 abbrev pub saysDeviation : DeviationAnswer → Said Float
 saysDeviation (OfDeviation.Answered d) = answered d
-saysDeviation (OfDeviation.Refused r) = refused (number r)
+saysDeviation (OfDeviation.Refused r) = refused (faultOf r)
 
 unfoldable pub deviationAnswer : ErrorBound → Float → Said Float
 deviationAnswer b value = judged (1 when not (boundAllowed b) ∷ []) (deviation b value)

@@ -13,19 +13,14 @@ abbrev pub hundred : Float
 hundred = fin false 25 (pos 2)
 
 -- ---- a pattern as models' parameters, sums and grid values are answered: a NaN's is 7FC00000
-unfoldable pub plain : ℕ → ℕ
-plain bits = toBits binary32 (ofBits binary32 bits)
+unfoldable pub plainBits : ℕ → ℕ
+plainBits bits = toBits binary32 (ofBits binary32 bits)
 
 -- ---- sizes
 unfoldable pub absF : Float → Float
 absF nan = nan
 absF (inf s) = inf false
 absF (fin s m e) = fin false m e
-
--- |x| as the greater of x and -x, where -0 stays. A bound's rules speak of `absF`; this is what one comparison of the code gives, and the tests of
--- `near` cannot tell the two apart (`size-at-most`, `percent-at-most` of proofs/Laws).
-unfoldable pub magnitude : Float → Float
-magnitude x = cond (Ieee.lt x (Ieee.neg x)) (Ieee.neg x) x
 
 -- ---- tests
 unfoldable pub isFinite : Float → Bool

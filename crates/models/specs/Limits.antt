@@ -11,8 +11,11 @@ abbrev pub mostValues : ℕ
 mostValues = 65536
 
 -- the size of the metadata: 1 to 65,535
+abbrev pub mostMetadata : ℕ
+mostMetadata = 65535
+
 abbrev pub metadataAllowed : ℕ → Bool
-metadataAllowed m = leb 1 m && leb m 65535
+metadataAllowed m = leb 1 m && leb m mostMetadata
 
 -- bytes for each value, in f32: both numbers are exact there, and the quotient is rounded
 unfoldable pub cost : ℕ → ℕ → Float

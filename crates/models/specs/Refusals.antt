@@ -4,7 +4,7 @@ use mathlib.Core.Bool.{cond}
 use mathlib.Core.List.{List, [], _∷_}
 use Prim.Native.Nat.{ℕ, _-_}
 use lib.ListN.{getD}
-use Rattle.models.specs.Answers.{Said, answered, refused, SaidOn, answeredOn, refusedOn, Stepped, Injective, told-apart}
+use Rattle.models.specs.Answers.{Fault, fault, Said, answered, refused, SaidOn, answeredOn, refusedOn, Stepped, Injective, told-apart}
 use Rattle.models.specs.declared.Refusal.{Refusal}
 use Rattle.models.specs.declared.Refusal.the-variants.{BoundNotAllowed, StateNotAllowed, OverLimit, OutputTooShort, EndsEarly, NoWindow, WindowNotAllowed, Leftover, FormNotAllowed, TimesNotAllowed, NoModel, CountsDisagree}
 
@@ -21,6 +21,10 @@ number FormNotAllowed = 9
 number TimesNotAllowed = 10
 number NoModel = 11
 number CountsDisagree = 12
+
+-- the fault that a refusal's answer says
+abbrev pub faultOf : Refusal → Fault
+faultOf r = fault (number r)
 
 -- the cause that has a number
 abbrev causes : List Refusal
@@ -63,13 +67,13 @@ number-injective = told-apart number numbered numbered-number
 -- ---- back from what is said: `answer` and `refuse` make the result of the values, or of the cause that has the number
 abbrev pub unsaid : {A R : Type 0} → (A → R) → (Refusal → R) → Said A → R
 unsaid answer refuse (answered a) = answer a
-unsaid answer refuse (refused n) = refuse (numbered n)
+unsaid answer refuse (refused f) = refuse (numbered (f .number))
 
 abbrev pub unsaidOn : {S A R : Type 0} → (A → R) → (Refusal → S → R) → SaidOn S A → R
 unsaidOn answer refuse (answeredOn a) = answer a
-unsaidOn answer refuse (refusedOn n s) = refuse (numbered n) s
+unsaidOn answer refuse (refusedOn f s) = refuse (numbered (f .number)) s
 
 -- back from what is said of a step
 abbrev pub unsaidStep : {S R : Type 0} → (S → R) → (S → R) → (Refusal → S → R) → SaidOn S (Stepped S) → R
 unsaidStep fits fails refuse (answeredOn t) = cond (t .fits) (fits (t .state)) (fails (t .state))
-unsaidStep fits fails refuse (refusedOn n s) = refuse (numbered n) s
+unsaidStep fits fails refuse (refusedOn f s) = refuse (numbered (f .number)) s

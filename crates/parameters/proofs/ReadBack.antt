@@ -1,7 +1,7 @@
 -- Parameters read back bit for bit, each NaN as 7FC00000, against the finished minimum and maximum; and which form is written. Assumes nothing.
-use mathlib.Core.Path.{_≡_, refl, sym, ap, _∙_}
-use mathlib.Core.Bool.{Bool, true, false, false≢true, _&&_}
-use mathlib.Core.List.{List, _++_}
+use mathlib.Core.Path.{_≡_, refl, ap, _∙_}
+use mathlib.Core.Bool.{true, false, false≢true}
+use mathlib.Core.List.{List}
 use Prim.Native.Nat.{ℕ, _<_, _≤_, _^_}
 use borrow.Author.Tests.{eqb-true, eq-eqb, le-ltb}
 use lib.Dec.{eqb}
@@ -10,21 +10,21 @@ use lib.Ieee.Bits.{ofBits-toBits, toBits-lt, ofBits-fits}
 use lib.ListN.{length, take, drop}
 use lib.Seq.{take-at}
 use Rattle.models.specs.Answers.{Said, answered, refused, judge}
-use Rattle.models.specs.Floats.{plain, minBits, maxBits}
-use Rattle.models.proofs.Laws.{and-left, and-right}
-use Rattle.parameters.specs.Forms.{Ends, formBytes, pmcMeanIn, swingIn, gives, givesEnds, rustsForPmcMean, rustsForSwing, pmcMeanForm, swingForm}
+use Rattle.models.specs.Floats.{minBits, maxBits, plainBits}
+use Rattle.models.proofs.Tests.{and-left, and-right, by-test}
+use Rattle.parameters.specs.Forms.{Ends, formBytes, gives, givesEnds, rustsForPmcMean, rustsForSwing, pmcMeanForm, swingForm, swingFrom, pmcMeanFrom}
+use Rattle.parameters.specs.declared.Form.{Form}
 use Rattle.parameters.specs.Calls.{bytesAfter}
-use Rattle.parameters.specs.declared.Form.the-variants.{Value, Both}
 use Rattle.parameters.proofs.Read.{value-read, both-read}
 
 -- ---- a pattern as it is answered
 
-pub plain-twice : (bits : ℕ) → plain (plain bits) ≡ plain bits
-unfolding plain
+pub plain-twice : (bits : ℕ) → plainBits (plainBits bits) ≡ plainBits bits
+unfolding plainBits
 plain-twice bits = ap (toBits binary32) (ofBits-toBits binary32 (ofBits binary32 bits) (ofBits-fits binary32 bits))
 
-pub plain-small : (bits : ℕ) → plain bits < 256 ^ 4
-unfolding plain
+pub plain-small : (bits : ℕ) → plainBits bits < 256 ^ 4
+unfolding plainBits
 plain-small bits = toBits-lt binary32 (ofBits binary32 bits) (ofBits-fits binary32 bits)
 
 -- ---- what the test on the Rust's form tells
@@ -50,45 +50,40 @@ gives-them a b s h = rw (h, eq-eqb a a refl, eq-eqb b b refl)
 
 module _ (value low high : ℕ) where
   abbrev pmcMeanRead : List ℕ → Said ℕ
-  pmcMeanRead = pmcMeanIn (minBits (plain value) low) (maxBits (plain value) high)
+  pmcMeanRead = pmcMeanFrom (minBits (plainBits value) low) (maxBits (plainBits value) high)
 
   -- "parameters read back bit for bit"
-  pub pmc-mean-reads-back : pmcMeanRead (formBytes (pmcMeanForm value low high)) ≡ answered (plain value)
+  pub pmc-mean-reads-back : pmcMeanRead (formBytes (pmcMeanForm value low high)) ≡ answered (plainBits value)
   unfolding pmcMeanForm
-  pmc-mean-reads-back = by-test _ refl
-    where
-      by-test : (test : Bool) → gives (plain value) (pmcMeanRead (formBytes (rustsForPmcMean (plain value) low high))) ≡ test
-          → pmcMeanRead (formBytes (pmcMeanForm value low high)) ≡ answered (plain value)
-      by-test true e = rw e (given (plain value) _ e)
-      by-test false e = rw e (value-read _ _ (plain value) (plain-small value) ∙ ap answered (plain-twice value))
+  pmc-mean-reads-back =
+      by-test (λ (f : Form). pmcMeanRead (formBytes f) ≡ answered (plainBits value)) (gives (plainBits value) (pmcMeanRead (formBytes (rustsForPmcMean (plainBits value) low high)))) _ _
+      (λ e. given (plainBits value) _ e)
+      (λ e. value-read _ _ (plainBits value) (plain-small value) ∙ ap answered (plain-twice value))
 
   -- the Rust's form is written exactly where it reads back so
-  pub pmc-mean-as-the-rust : pmcMeanRead (formBytes (rustsForPmcMean (plain value) low high)) ≡ answered (plain value)
-      → pmcMeanForm value low high ≡ rustsForPmcMean (plain value) low high
+  pub pmc-mean-as-the-rust : pmcMeanRead (formBytes (rustsForPmcMean (plainBits value) low high)) ≡ answered (plainBits value)
+      → pmcMeanForm value low high ≡ rustsForPmcMean (plainBits value) low high
   unfolding pmcMeanForm
-  pmc-mean-as-the-rust h = rw (gives-it (plain value) _ h)
+  pmc-mean-as-the-rust h = rw (gives-it (plainBits value) _ h)
 
 -- ---- Swing
 
 module _ (first last low high : ℕ) where
   abbrev swingRead : List ℕ → Said Ends
   swingRead =
-      swingIn (minBits (minBits (plain first) (plain last)) low) (maxBits (maxBits (plain first) (plain last)) high)
+      swingFrom (minBits (minBits (plainBits first) (plainBits last)) low) (maxBits (maxBits (plainBits first) (plainBits last)) high)
 
-  pub swing-reads-back : swingRead (formBytes (swingForm first last low high)) ≡ answered (plain first, plain last)
+  pub swing-reads-back : swingRead (formBytes (swingForm first last low high)) ≡ answered (plainBits first, plainBits last)
   unfolding swingForm
-  swing-reads-back = by-test _ refl
-    where
-      by-test : (test : Bool) → givesEnds (plain first) (plain last) (swingRead (formBytes (rustsForSwing (plain first) (plain last) low high))) ≡ test
-          → swingRead (formBytes (swingForm first last low high)) ≡ answered (plain first, plain last)
-      by-test true e = rw e (given-ends (plain first) (plain last) _ e)
-      by-test false e =
-          rw e (both-read _ _ (plain first) (plain last) (plain-small first) (plain-small last) ∙ rw (plain-twice first, plain-twice last))
+  swing-reads-back =
+      by-test (λ (f : Form). swingRead (formBytes f) ≡ answered (plainBits first, plainBits last)) (givesEnds (plainBits first) (plainBits last) (swingRead (formBytes (rustsForSwing (plainBits first) (plainBits last) low high)))) _ _
+      (λ e. given-ends (plainBits first) (plainBits last) _ e)
+      (λ e. both-read _ _ (plainBits first) (plainBits last) (plain-small first) (plain-small last) ∙ rw (plain-twice first, plain-twice last))
 
-  pub swing-as-the-rust : swingRead (formBytes (rustsForSwing (plain first) (plain last) low high)) ≡ answered (plain first, plain last)
-      → swingForm first last low high ≡ rustsForSwing (plain first) (plain last) low high
+  pub swing-as-the-rust : swingRead (formBytes (rustsForSwing (plainBits first) (plainBits last) low high)) ≡ answered (plainBits first, plainBits last)
+      → swingForm first last low high ≡ rustsForSwing (plainBits first) (plainBits last) low high
   unfolding swingForm
-  swing-as-the-rust h = rw (gives-them (plain first) (plain last) _ h)
+  swing-as-the-rust h = rw (gives-them (plainBits first) (plainBits last) _ h)
 
 -- ---- the bytes that a call leaves: the written ones stand at the front
 pub written-first : (bytes out : List ℕ) → length bytes ≤ length out → take (length bytes) (bytesAfter bytes out) ≡ bytes

@@ -5,7 +5,7 @@ use Prim.Native.Nat.{ℕ}
 use lib.Dec.{ltb}
 use lib.ListN.{length, drop}
 use Rattle.models.specs.Answers.{Said, answered, refused, Cause, _when_, judged, judgedMemory, Injective, told-apart}
-use Rattle.models.specs.Refusals.{number, numbered-number, unsaid}
+use Rattle.models.specs.Refusals.{numbered-number, unsaid, faultOf}
 use Rattle.parameters.specs.Forms.{Ends}
 use Rattle.parameters.specs.declared.EndsAnswer.{EndsAnswer}
 use Rattle.parameters.specs.declared.EndsAnswer.the-variants as OfEnds
@@ -25,7 +25,7 @@ bytesAfter bytes out = judgedMemory out (tooShort bytes out) (bytes ++ drop (len
 
 abbrev pub saysLength : LengthAnswer → Said ℕ
 saysLength (OfLength.Written n) = answered n
-saysLength (OfLength.Refused r) = refused (number r)
+saysLength (OfLength.Refused r) = refused (faultOf r)
 
 length-told : (r : LengthAnswer) → unsaid OfLength.Written OfLength.Refused (saysLength r) ≡ r
 length-told (OfLength.Written n) = refl
@@ -38,7 +38,7 @@ saysLength-injective = told-apart saysLength (unsaid OfLength.Written OfLength.R
 
 abbrev pub saysEnds : EndsAnswer → Said Ends
 saysEnds (OfEnds.Read first last) = answered (first, last)
-saysEnds (OfEnds.Refused r) = refused (number r)
+saysEnds (OfEnds.Refused r) = refused (faultOf r)
 
 abbrev ends-back : Said Ends → EndsAnswer
 ends-back = unsaid (λ (e : Ends). OfEnds.Read (e .0) (e .1)) OfEnds.Refused

@@ -1,12 +1,13 @@
 // Parameter bytes: what a segment stores of its model besides its least and its greatest value.
 // "Forms as in `types.rs`; values are little-endian."
 ghost use mathlib.Core.Path.{_≡_};
+ghost use mathlib.Core.Bool.{cond};
 ghost use mathlib.Core.List.{_++_};
 ghost use Prim.Native.Nat.{_+_, _*_, _≤_};
 ghost use lib.ListN.{length, take, drop};
 ghost use Rattle.models.specs.Calls.{saysValue};
 ghost use Rattle.parameters.specs.Bytes.{littleEndian, numberIn};
-ghost use Rattle.parameters.specs.Forms.{formBytes, answeredEnds, byFlag, pmcMeanIn, swingIn, lower, rustsForPmcMean, rustsForSwing, pmcMeanForm, swingForm};
+ghost use Rattle.parameters.specs.Forms.{formBytes, answeredEnds, byFlag, lower, rustsForPmcMean, rustsForSwing, pmcMeanForm, swingForm, swingFrom, pmcMeanFrom};
 ghost use Rattle.parameters.specs.Calls.{saysLength, saysEnds, lengthAnswer, bytesAfter};
 use models::Refusal;
 use models::ValueAnswer;
@@ -136,13 +137,13 @@ fn is_lower(a: u32, b: u32) -> bool
 fn rusts_for_pmc_mean(value: u32, residuals_min_value: u32, residuals_max_value: u32) -> Form
     ensures { λ r. ⌜ r ≡ rustsForPmcMean value «residuals_min_value» «residuals_max_value» ⌝ }
 {
-    if !is_lower(residuals_min_value, value) {
-        return Form::Nothing;
-    }
-    if numbers::value_of_f32(residuals_max_value) <= numbers::value_of_f32(value) {
-        return Form::One(1);
-    }
-    Form::Value(value)
+    let low = !is_lower(residuals_min_value, value);
+    let high = numbers::value_of_f32(residuals_max_value) <= numbers::value_of_f32(value);
+    either(
+        low,
+        Form::Nothing,
+        either(high, Form::One(1), Form::Value(value)),
+    )
 }
 
 fn rusts_for_swing(
@@ -157,33 +158,27 @@ fn rusts_for_swing(
     let min = models::min_bits(first_value, last_value);
     let max = models::max_bits(first_value, last_value);
     let above = is_lower(max, residuals_max_value);
-    if is_lower(residuals_min_value, min) {
-        if above {
-            return if rises {
-                Form::Both(min, max)
-            } else {
-                Form::Both(max, min)
-            };
-        }
-        return if rises {
-            Form::Flagged(0, min)
-        } else {
-            Form::Flagged(1, min)
-        };
-    }
-    if above {
-        return if rises {
-            Form::Flagged(2, max)
-        } else {
-            Form::Flagged(3, max)
-        };
-    }
-    if rises { Form::Nothing } else { Form::One(0) }
+    let both = either(rises, Form::Both(min, max), Form::Both(max, min));
+    let from_min = either(rises, Form::Flagged(0, min), Form::Flagged(1, min));
+    let from_max = either(rises, Form::Flagged(2, max), Form::Flagged(3, max));
+    let none = either(rises, Form::Nothing, Form::One(0));
+    either(
+        is_lower(residuals_min_value, min),
+        either(above, both, from_min),
+        either(above, from_max, none),
+    )
+}
+
+// The left where the test holds, else the right.
+fn either(test: bool, a: Form, b: Form) -> Form
+    ensures { λ r. ⌜ r ≡ cond test a b ⌝ }
+{
+    if test { a } else { b }
 }
 
 // What a form of PMC-Mean gives, read against a segment's least and greatest value.
 fn pmc_mean_in(form: Form, min: u32, max: u32) -> ValueAnswer
-    ensures { λ r. ⌜ saysValue r ≡ pmcMeanIn min max (formBytes form) ⌝ }
+    ensures { λ r. ⌜ saysValue r ≡ pmcMeanFrom min max (formBytes form) ⌝ }
 {
     match form {
         Form::Nothing => ValueAnswer::Answered(models::plain(min)),
@@ -196,7 +191,7 @@ fn pmc_mean_in(form: Form, min: u32, max: u32) -> ValueAnswer
 
 // The same of Swing.
 fn swing_in(form: Form, min: u32, max: u32) -> EndsAnswer
-    ensures { λ r. ⌜ saysEnds r ≡ swingIn min max (formBytes form) ⌝ }
+    ensures { λ r. ⌜ saysEnds r ≡ swingFrom min max (formBytes form) ⌝ }
 {
     match form {
         Form::Nothing => ends(min, max),
@@ -260,7 +255,7 @@ fn put_bytes(word: u64, n: usize, out: &mut [u8])
 // ---- reading
 
 pub fn decode_values_for_pmc_mean(min_value: u32, max_value: u32, values: &[u8]) -> ValueAnswer
-    ensures { λ r. ⌜ saysValue r ≡ pmcMeanIn «min_value» «max_value» (now (values .entry)) ⌝ }
+    ensures { λ r. ⌜ saysValue r ≡ pmcMeanFrom «min_value» «max_value» (now (values .entry)) ⌝ }
 {
     let n = values.len();
     if n == 0 {
@@ -276,7 +271,7 @@ pub fn decode_values_for_pmc_mean(min_value: u32, max_value: u32, values: &[u8])
 }
 
 pub fn decode_values_for_swing(min_value: u32, max_value: u32, values: &[u8]) -> EndsAnswer
-    ensures { λ r. ⌜ saysEnds r ≡ swingIn «min_value» «max_value» (now (values .entry)) ⌝ }
+    ensures { λ r. ⌜ saysEnds r ≡ swingFrom «min_value» «max_value» (now (values .entry)) ⌝ }
 {
     let n = values.len();
     if n == 0 {

@@ -17,12 +17,12 @@ use lib.Ieee.Digits.{back}
 use lib.Ieee.Fits.{down-pos, up-pos, fits-widens}
 use lib.Ieee.Bits.{ofBits-fits}
 use Rattle.numbers.specs.Narrowed.{narrowed}
-use Rattle.numbers.proofs.Held.{held}
+use Rattle.numbers.proofs.InFormat.{in-format}
 use Rattle.numbers.proofs.Shifts.{pow-le-back}
 use Rattle.models.specs.Floats.{zeroF, equalOrNan, minF, maxF}
-use Rattle.models.specs.Bound.{within}
+use Rattle.models.specs.Bound.{withinIn}
 use Rattle.models.specs.declared.ErrorBound.{ErrorBound}
-use Rattle.models.proofs.Laws.{or-right, or-false}
+use Rattle.models.proofs.Tests.{or-right, or-false}
 use Rattle.pmc_mean.specs.State as State
 
 -- ---- rounding changes no value that the format holds
@@ -79,7 +79,7 @@ exact f s t zero e num den ok dp h =
     rescaled (round f t num den) t (zero * up e) (down e) num den dp h
     (round-exact f t num den 0 0 dp (pow-pos (prec f)) (pow-pos (low f + suc (emax f))) (ap (λ (x : ℕ). x * 2 ^ low f) none ∙ zero-mul (2 ^ low f) ∙ sym (zero-mul den)))
 exact f s t (suc m) e num den ok dp h =
-    let b = held f s m e ok in
+    let b = in-format f s m e ok in
     let p = placed (low f) (suc m) e (b .1) in
     rescaled (round f t num den) t (suc m * up e) (down e) num den dp h
     (round-exact f t num den (suc m) (p .0) dp (b .0) (below (suc m) e (low f) (p .0) (p .1) (suc (emax f)) (b .2)) (same (suc m) e (low f) (p .0) (p .1) num den h))
@@ -168,8 +168,8 @@ average-of-one (fin s m e) ok =
     rw is-one (equal m e s _ (in-f32 m e s _ ok (by-one m e s _ wide (onto-zero m e s wide))))
 
 -- ---- the law
-pub first-fits : (b : ErrorBound) (bits : ℕ) → State.fits (State.taken (State.fresh b) (ofBits binary32 bits)) ≡ true
-unfolding State.fits State.taken State.fresh State.average within minF maxF Ieee.isNan
+pub first-fits : (b : ErrorBound) (bits : ℕ) → State.fits (State.withValue (State.fresh b) (ofBits binary32 bits)) ≡ true
+unfolding State.fits State.withValue State.fresh State.average withinIn minF maxF Ieee.isNan
 first-fits b bits =
     let v = ofBits binary32 bits in
     rw (average-of-one v (ofBits-fits binary32 bits))

@@ -5,7 +5,7 @@ use mathlib.Core.List.{List, [], _∷_}
 use Prim.Native.Nat.{ℕ}
 use lib.Ieee.{Float, binary32, ofBits, toBits}
 use Rattle.models.specs.Answers.{Said, answered, refused, SaidOn, answeredOn, refusedOn, Stepped, fitting, failing, Cause, _when_, judged, judgedOn, Injective, told-apart}
-use Rattle.models.specs.Refusals.{number, numbered-number, unsaid, unsaidOn, unsaidStep}
+use Rattle.models.specs.Refusals.{numbered-number, unsaid, unsaidOn, unsaidStep, faultOf}
 use Rattle.models.specs.Bound.{boundAllowed}
 use Rattle.models.specs.Limits.{cost}
 use Rattle.models.specs.Causes as Shared
@@ -24,7 +24,7 @@ use Rattle.pmc_mean.specs.declared.ModelAnswer.the-variants as OfModel
 -- ---- PMCMean::new
 abbrev pub saysNew : NewAnswer → Said PMCMean
 saysNew (OfNew.Answered s) = answered s
-saysNew (OfNew.Refused r) = refused (number r)
+saysNew (OfNew.Refused r) = refused (faultOf r)
 
 unfoldable pub newAnswer : ErrorBound → Said PMCMean
 newAnswer b = judged (1 when not (boundAllowed b) ∷ []) (fresh b)
@@ -40,7 +40,7 @@ saysNew-injective = told-apart saysNew (unsaid OfNew.Answered OfNew.Refused) new
 abbrev pub saysFit : FitAnswer → SaidOn PMCMean (Stepped PMCMean)
 saysFit (OfFit.Fits s) = answeredOn (fitting s)
 saysFit (OfFit.NoFit s) = answeredOn (failing s)
-saysFit (OfFit.Refused r s) = refusedOn (number r) s
+saysFit (OfFit.Refused r s) = refusedOn (faultOf r) s
 
 abbrev pub fitCauses : PMCMean → List Cause
 fitCauses s = Shared.stepCauses (s .«error_bound») (usable s) (s .length) []
@@ -59,7 +59,7 @@ saysFit-injective = told-apart saysFit (unsaidStep OfFit.Fits OfFit.NoFit OfFit.
 -- ---- PMCMean::bytes_per_value, with metadata of m bytes
 abbrev pub saysCost : CostAnswer → SaidOn PMCMean Float
 saysCost (OfCost.Answered x) = answeredOn x
-saysCost (OfCost.Refused r s) = refusedOn (number r) s
+saysCost (OfCost.Refused r s) = refusedOn (faultOf r) s
 
 abbrev pub costCauses : PMCMean → ℕ → List Cause
 costCauses s m = Shared.costCauses (s .«error_bound») (usable s) (s .length) m
@@ -77,7 +77,7 @@ saysCost-injective = told-apart saysCost (unsaidOn OfCost.Answered OfCost.Refuse
 -- ---- PMCMean::model: the average's pattern
 abbrev pub saysModel : ModelAnswer → SaidOn PMCMean ℕ
 saysModel (OfModel.Answered bits) = answeredOn bits
-saysModel (OfModel.Refused r s) = refusedOn (number r) s
+saysModel (OfModel.Refused r s) = refusedOn (faultOf r) s
 
 abbrev pub modelCauses : PMCMean → List Cause
 modelCauses s = Shared.modelCauses (s .«error_bound») (usable s) (s .length)

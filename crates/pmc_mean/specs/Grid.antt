@@ -7,7 +7,7 @@ use lib.ListN.{length, drop, replicate}
 use lib.Ieee as Ieee
 use lib.Ieee.{binary32, ofBits, toBits}
 use Rattle.models.specs.Answers.{Said, Cause, _when_, judged, judgedMemory}
-use Rattle.models.specs.Floats.{plain}
+use Rattle.models.specs.Floats.{plainBits}
 use Rattle.models.specs.Limits.{mostValues}
 
 -- ---- sum: "length × value in f32"
@@ -24,4 +24,4 @@ unfoldable pub filled : ℕ → ℕ → List ℕ → List ℕ
 filled bits count out = replicate count bits ++ drop count out
 
 unfoldable pub gridMemory : ℕ → ℕ → List ℕ → List ℕ
-gridMemory value count out = judgedMemory out (gridCauses count (length out)) (filled (plain value) count out)
+gridMemory value count out = judgedMemory out (gridCauses count (length out)) (filled (plainBits value) count out)

@@ -12,7 +12,6 @@ use Rattle.models.specs.Bound.{within}
 use Rattle.models.specs.Limits.{mostValues}
 use Rattle.models.specs.declared.ErrorBound.{ErrorBound}
 use Rattle.pmc_mean.specs.declared.PMCMean.{PMCMean}
-use Rattle.pmc_mean.specs.declared.Tried.{Tried}
 
 -- before any value: the minimum and the maximum are NaN, the sum is +0
 unfoldable pub fresh : ErrorBound → PMCMean
@@ -23,8 +22,8 @@ abbrev pub usable : PMCMean → Bool
 usable s = leb (s .length) mostValues
 
 -- "adds the widened value to an f64 sum": a value is the same number in both formats
-unfoldable pub taken : PMCMean → Float → PMCMean
-taken s value =
+unfoldable pub withValue : PMCMean → Float → PMCMean
+withValue s value =
     record {
       «error_bound» = s .«error_bound»;
       «min_value» = minF (s .«min_value») value;
@@ -43,10 +42,6 @@ fits s =
     within (s .«error_bound») (s .«min_value») (average s)
     && within (s .«error_bound») (s .«max_value») (average s)
 
--- what the code of a step gives, in the paper's terms
-abbrev pub stepOf : Tried → Stepped PMCMean
-stepOf t = record { fits = t .fits; state = t .state }
-
 -- "a failed fit changes nothing"
 unfoldable pub tried : PMCMean → Float → Stepped PMCMean
-tried s value = cond (fits (taken s value)) (fitting (taken s value)) (failing s)
+tried s value = cond (fits (withValue s value)) (fitting (withValue s value)) (failing s)

@@ -9,9 +9,11 @@ use models::Verdict;
 ghost use mathlib.Core.Path.{_≡_};
 ghost use Prim.Native.Nat.{_<_, _≤_};
 ghost use lib.ListN.{length};
+ghost use Rattle.models.specs.Limits.{mostValues};
 ghost use Rattle.models.specs.Answers.{verdict};
 ghost use Rattle.models.specs.Calls.{saysVerdict, saysValue, saysGrid};
-ghost use Rattle.pmc_mean.specs.State.{usable, taken, average, fits, stepOf, tried};
+ghost use Rattle.pmc_mean.specs.State.{usable, average, fits, tried, withValue};
+ghost use Rattle.pmc_mean.specs.inner.Steps.{stepOf};
 ghost use Rattle.pmc_mean.specs.Calls.{saysNew, newAnswer, fitCauses, saysFit, fitAnswer, saysCost, costAnswer, saysModel, modelAnswer};
 ghost use Rattle.pmc_mean.specs.Grid.{sumAnswer, gridCauses, filled, gridMemory};
 
@@ -129,7 +131,7 @@ impl PMCMean {
     pub fn usable(self) -> bool
         ensures { λ r. ⌜ r ≡ usable self ⌝ }
     {
-        self.length <= 65536
+        self.length <= models::MOST_VALUES
     }
 
     fn judge_fit(self) -> Verdict
@@ -143,10 +145,10 @@ impl PMCMean {
 
     // The step, once nothing refuses it.
     pub fn tried(self, value: f32) -> Tried
-        requires { ⌜ self .length < 65536 ⌝ }
+        requires { ⌜ self .length < mostValues ⌝ }
         ensures { λ r. ⌜ stepOf r ≡ tried self value ⌝ }
     {
-        let next = self.taken(value);
+        let next = self.with_value(value);
         if next.fits() {
             Tried {
                 fits: true,
@@ -161,9 +163,9 @@ impl PMCMean {
     }
 
     // The state with the value taken in.
-    fn taken(self, value: f32) -> PMCMean
-        requires { ⌜ self .length < 65536 ⌝ }
-        ensures { λ r. ⌜ r ≡ taken self value ⌝ }
+    fn with_value(self, value: f32) -> PMCMean
+        requires { ⌜ self .length < mostValues ⌝ }
+        ensures { λ r. ⌜ r ≡ withValue self value ⌝ }
     {
         let mut s = self;
         s.min_value = models::min_f32(self.min_value, value);
@@ -175,7 +177,7 @@ impl PMCMean {
 
     // The average, in f64, rounded to f32.
     pub fn average(self) -> f32
-        requires { ⌜ self .length ≤ 65536 ⌝ }
+        requires { ⌜ self .length ≤ mostValues ⌝ }
         ensures { λ r. ⌜ r ≡ average self ⌝ }
     {
         let n = self.length;
@@ -184,7 +186,7 @@ impl PMCMean {
 
     // Whether the average may stand for the least and for the greatest value.
     fn fits(self) -> bool
-        requires { ⌜ self .length ≤ 65536 ⌝ }
+        requires { ⌜ self .length ≤ mostValues ⌝ }
         ensures { λ r. ⌜ r ≡ fits self ⌝ }
     {
         let b = self.error_bound;
@@ -202,7 +204,7 @@ impl PMCMean {
 pub fn sum(length: usize, value: u32) -> ValueAnswer
     ensures { λ r. ⌜ saysValue r ≡ sumAnswer «length» value ⌝ }
 {
-    if 65536 < length {
+    if models::MOST_VALUES < length {
         return ValueAnswer::Refused(Refusal::OverLimit);
     }
     ValueAnswer::Answered(numbers::bits_of_f32((length as f32) * numbers::value_of_f32(value)))
@@ -226,7 +228,7 @@ fn judge_grid(count: usize, room: usize) -> Verdict
     ensures { λ r. ⌜ saysVerdict r ≡ verdict (gridCauses count room) ⌝ }
 {
     let short = models::when(Refusal::OutputTooShort, room < count, Verdict::Passed);
-    models::when(Refusal::OverLimit, 65536 < count, short)
+    models::when(Refusal::OverLimit, models::MOST_VALUES < count, short)
 }
 
 pub fn fill(bits: u32, count: usize, out: &mut [u32])

@@ -9,7 +9,8 @@ use borrow.Author.Tests.{leb-true, le-leb, ltb-true, lt-ltb, eqb-true}
 use lib.Dec.{leb, ltb, eqb}
 use lib.IntN.{ℤ, pos, negsuc}
 use lib.Signed.{ltZ}
-use Rattle.models.proofs.Laws.{and-left, and-right, and-both, or-either, or-right}
+use Rattle.models.specs.Limits.{mostValues}
+use Rattle.models.proofs.Tests.{and-left, and-right, and-both, or-either, or-right}
 use Rattle.swing.specs.declared.Swing.{Swing}
 use Rattle.lines.specs.Times.{sameTime, timeAllowed}
 use Rattle.swing.specs.State.{usable, timesAllowed, timeFollows}
@@ -42,9 +43,9 @@ module _ (s : Swing) where
   abbrev b : ℤ
   b = s .«end_time»
 
-  pub length-limit : usable s ≡ true → s .length ≤ 65536
+  pub length-limit : usable s ≡ true → s .length ≤ mostValues
   unfolding usable
-  length-limit h = leb-true (s .length) 65536 (and-left _ (timesAllowed (s .length) a b) h)
+  length-limit h = leb-true (s .length) mostValues (and-left _ (timesAllowed (s .length) a b) h)
 
   -- with a point in it, its times keep the limits, and a time after the end is after the start
   limits : usable s ≡ true → (s .length ≡ 0 → ⊥) → (timeAllowed a ≡ true) × (timeAllowed b ≡ true) × ((t : ℤ) → ltZ b t ≡ true → ltZ a t ≡ true)
@@ -61,7 +62,7 @@ module _ (s : Swing) where
       let ends = and-right (ltZ a b) _ w in
       (and-left _ (timeAllowed b) ends, and-right (timeAllowed a) _ ends, λ t. before-both a b t (and-left _ _ w)))
       (or-either _ _ r))
-      (or-either (eqb (s .length) 0) _ (and-right (leb (s .length) 65536) _ h))
+      (or-either (eqb (s .length) 0) _ (and-right (leb (s .length) mostValues) _ h))
 
   pub start-allowed : usable s ≡ true → (s .length ≡ 0 → ⊥) → timeAllowed a ≡ true
   start-allowed h some = limits h some .0
@@ -69,7 +70,7 @@ module _ (s : Swing) where
   pub end-allowed : usable s ≡ true → (s .length ≡ 0 → ⊥) → timeAllowed b ≡ true
   end-allowed h some = limits h some .1
 
-  pub length-below : usable s ≡ true → (s .length ≡ 65536 → ⊥) → s .length < 65536
+  pub length-below : usable s ≡ true → (s .length ≡ mostValues → ⊥) → s .length < mostValues
   length-below h below = omega (arith, length-limit h)
 
   -- ---- a time that follows it

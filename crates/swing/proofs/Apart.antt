@@ -17,9 +17,9 @@ use lib.Ieee.Exact.{HasValue, round-exact}
 use lib.Ieee.Fits.{two, down-pos, up-pos, neg-fits, fits-widens}
 use lib.Ieee.Order.{round-mono}
 use Rattle.numbers.proofs.Shifts.{pow-le-back, lt-or-le}
-use Rattle.numbers.proofs.Held.{held}
+use Rattle.numbers.proofs.InFormat.{in-format}
 use Rattle.models.specs.Floats.{equalOrNan}
-use Rattle.models.proofs.Laws.{and-left, and-right, or-false}
+use Rattle.models.proofs.Tests.{and-left, and-right, or-false}
 use Rattle.lines.specs.Line.{_+f_}
 use Rattle.swing.proofs.Order.{gain, loss, NoMore, NoMinusZero, Signed, infinite, number, round-signed, round-mirror, in-order, Rounded, upward, downward, rounded-zero, add-rounded}
 
@@ -111,7 +111,7 @@ together a b d e i j w h g = omega (arith, ap (λ (x : ℕ). a * e * x) h, ap (�
 
 digits : (f : Format) (t : Bool) (n : ℕ) (d : ℤ) → T (fits f (fin t n d)) → n < 2 ^ prec f
 digits f t zero d h = pow-pos (prec f)
-digits f t (suc n) d h = held f t n d h .0
+digits f t (suc n) d h = in-format f t n d h .0
 
 -- an f64 that is no whole number of steps is far smaller than the f32
 part-gain : (t : Bool) (a : ℕ) → gain t a ≤ a
@@ -146,7 +146,7 @@ apart s m e t n d p q = ⊎-elim (λ big. inr (small s big)) wide (lt-or-le (2 ^
     some = mul-pos {m = suc m} {n = up e} (omega arith) (up-pos e)
 
     step : down e ≤ 2 ^ 149
-    step = held binary32 s m e p .1
+    step = in-format binary32 s m e p .1
 
     wide : down d ≤ 2 ^ 203 → (gain s x * down d + gain t y * down e ≡ loss s x * down d + loss t y * down e) ⊎ Gap 203 (gain s x * down d + gain t y * down e) (loss s x * down d + loss t y * down e) (down e * down d)
     wide h =
@@ -219,11 +219,8 @@ add-clear s (suc m) e t n d p q h =
 add-clear s zero e t zero d p q h =
     sum-clear binary64 _ _ _ (mul-pos (down-pos e) (down-pos d)) (lit≤ tt) (inl (rw (no-part s (up e) .0, no-part s (up e) .1, no-part t (up d) .0, no-part t (up d) .1))) (add-rounded binary64 s zero e t zero d)
 add-clear s zero e t (suc n) d p q h =
-    let z : T (fits binary32 (fin t (suc n) d)) = ⊎-elim (λ z. absurd (never n z)) (λ k. k) (h refl) in
+    let z : T (fits binary32 (fin t (suc n) d)) = ⊎-elim (λ z. absurd (omega (arith, z))) (λ k. k) (h refl) in
     sum-clear binary64 _ _ _ (mul-pos (down-pos d) (down-pos e)) (lit≤ tt) (apart t n d s zero e z (fits-widens (fin s zero e) p)) (swapped binary64 _ _ _ _ _ _ (add-rounded binary64 s zero e t (suc n) d))
-  where
-    never : (n : ℕ) → suc n ≡ 0 → ⊥
-    never n z = omega arith
 
 -- the difference of such a number and an f32
 pub apart-or-equal : (s : Bool) (m : ℕ) (e : ℤ) (t : Bool) (n : ℕ) (d : ℤ) → T (fits binary32 (fin s m e)) → T (fits binary64 (fin t n d)) → Clear (fin t n d) → equalOrNan (fin s m e) (fin t n d) ≡ false

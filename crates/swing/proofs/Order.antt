@@ -17,8 +17,7 @@ use lib.Ieee.Order.{round-mono, drop, kept}
 use lib.Ieee.Nearest.{div-same}
 use lib.Ieee.Scale.{round-same}
 use Rattle.models.specs.Floats.{maxF}
-use Rattle.models.proofs.Judged.{by-test}
-use Rattle.models.proofs.Laws.{and-left, or-either}
+use Rattle.models.proofs.Tests.{and-left, or-either, by-test}
 
 -- ---- a finite value of the sign s and the size a / down e is (gain s a - loss s a) / down e: one of the two is 0
 abbrev pub gain : Bool → ℕ → ℕ

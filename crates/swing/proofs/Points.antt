@@ -8,16 +8,16 @@ use native.Mathlib.Omega.{arith}
 use lib.Dec.{T}
 use lib.Signed.{ltZ}
 use lib.Ieee as Ieee
-use lib.Ieee.{Float, nan, binary32, ofBits, toBits, fits}
+use lib.Ieee.{Float, nan, binary32, toBits, fits}
 use lib.Ieee.Bits.{ofBits-fits}
 use Rattle.numbers.proofs.Nans.{nan-pattern}
 use Rattle.numbers.proofs.Convert.{narrowed-nan}
-use Rattle.models.specs.Answers.{answeredOn, refusedOn, stateAfter, Stepped, fitting}
+use Rattle.models.specs.Answers.{answeredOn, stateAfter, Stepped, fitting, refusing, NoneHolds}
 use Rattle.models.specs.Floats.{zeroF, freshBits, isFinite, minF, maxF}
 use Rattle.models.specs.Bound.{boundAllowed, BoundHeld, deviation}
 use Rattle.models.specs.declared.ErrorBound.{ErrorBound}
-use Rattle.models.proofs.Judged.{NoneHolds, accepted}
-use Rattle.models.proofs.Laws.{and-left, and-right, and-both}
+use Rattle.models.proofs.Judged.{accepted}
+use Rattle.models.proofs.Tests.{and-left, and-right, and-both}
 use Rattle.models.proofs.Folds.{steps-keep}
 use Rattle.lines.specs.Times.{timeAllowed, after, inOrder}
 use Rattle.lines.specs.declared.Point.{Point}
@@ -27,25 +27,19 @@ use Rattle.swing.specs.State.{fresh, firstPoint, sumsOf, timeFollows}
 use Rattle.swing.specs.Step.{opened, moved, second, swung, tried}
 use Rattle.swing.specs.Model.{bestSlope, lastValue}
 use Rattle.swing.specs.Calls.{fitCauses, fitAnswer, modelCauses, modelAnswer}
-use Rattle.swing.specs.Run.{Given, next, run}
+use Rattle.swing.specs.Run.{Given, next, run, Fits, finite}
 use Rattle.swing.specs.declared.Swing.{Swing}
 use Rattle.swing.proofs.Allowed.{start-allowed, follows-allowed, follows-start}
-use Rattle.swing.proofs.Runs.{by-case, kept, run-bound, run-usable, run-steps}
+use Rattle.swing.proofs.Runs.{by-case, kept, fresh-has, swing, run-usable, run-steps}
+use Rattle.models.proofs.Runs.{run-bound}
 use Rattle.swing.proofs.Slopes.{span, two-slopes}
 
 -- ---- "its first two finite points always fit"
 
--- the call answers that the point fits
-abbrev pub Fits : Swing → Given → Type 0
-Fits s g = (t : Swing) × (fitAnswer s (g .time) (g .bits) ≡ answeredOn (fitting t))
-
-abbrev pub finite : Given → Bool
-finite g = isFinite (ofBits binary32 (g .bits))
-
 fits-by : (s : Swing) (g : Given) (t : Swing) → NoneHolds (fitCauses s (g .time)) → tried s (pointOf (g .time) (g .bits)) ≡ fitting t → fitAnswer s (g .time) (g .bits) ≡ answeredOn (fitting t)
 unfolding fitAnswer
 fits-by s g t none e =
-    sym (accepted (λ (n : ℕ). refusedOn n s) (answeredOn (tried s (pointOf (g .time) (g .bits)))) (fitCauses s (g .time)) none) ∙ ap answeredOn e
+    sym (accepted (refusing s) (answeredOn (tried s (pointOf (g .time) (g .bits)))) (fitCauses s (g .time)) none) ∙ ap answeredOn e
 
 module _ (b : ErrorBound) (given : List Given) (g : Given) (allowed : boundAllowed b ≡ true) where
   abbrev made : Swing
@@ -122,11 +116,12 @@ nan-answered = ap (toBits binary32) narrowed-nan ∙ nan-pattern binary32
 
 pub one-point-model : (b : ErrorBound) (given : List Given) → boundAllowed b ≡ true → run (fresh b) given .length ≡ 1
     → modelAnswer (run (fresh b) given) ≡ answeredOn (record { first = answeredAs (run (fresh b) given .«first_value»); last = freshBits })
-unfolding modelAnswer fresh
+unfolding modelAnswer fitAnswer
 one-point-model b given allowed one =
     let s = run (fresh b) given in
+    let bound : s .«error_bound» ≡ b = run-bound swing (fresh b) given ∙ fresh-has b .0 in
     let last : answeredAs (lastValue s) ≡ freshBits = ap answeredAs (one-point-last b given one) ∙ nan-answered in
-    sym (accepted (λ (n : ℕ). refusedOn n s) (answeredOn _) (modelCauses s) (rw (run-bound (fresh b) given, allowed), (rw (run-usable b given), (rw one, tt))))
+    sym (accepted (refusing s) (answeredOn _) (modelCauses s) (rw (bound, allowed), (rw (run-usable b given), (rw one, tt))))
     ∙ ap (λ (w : ℕ). answeredOn (record { first = answeredAs (s .«first_value»); last = w })) last
 
 -- ---- a two-point model "takes the upper slope", where the bound's number is an f32, as in every bound that the code holds: for 2 ^ -1074, the values 0 at the

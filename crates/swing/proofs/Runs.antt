@@ -1,25 +1,25 @@
--- A list of points tried one after the other: fitting xs and then ys is fitting xs ++ ys, and what fitting makes of a fresh state may be used,
--- has the same bound, and stands for no more points than were tried. Assumes nothing.
+-- A list of points tried one after the other: the cases of Swing's step, and the laws of runs of it. Assumes nothing.
 use mathlib.Core.Path.{_≡_, refl}
 use mathlib.Core.Bool.{true, not, _||_, false≢true}
-use mathlib.Core.List.{List, _++_, foldl-append}
+use mathlib.Core.List.{List, [], _∷_, _++_}
 use Prim.Native.Nat.{_+_, _≤_, _<_}
 use native.Mathlib.Omega.{arith}
-use borrow.Author.Tests.{le-leb, eqb-true, eqb-false, ne-eqb, not-false}
+use borrow.Author.Tests.{le-leb, eqb-true, eqb-false, not-false}
 use lib.Dec.{eqb}
 use lib.IntN.{ℤ}
 use lib.ListN.{length}
 use lib.Ieee as Ieee
 use lib.Ieee.{Float}
-use Rattle.models.specs.Answers.{Stepped, fitting, failing}
+use Rattle.models.specs.Limits.{mostValues}
+use Rattle.models.specs.Answers.{Stepped, fitting, failing, _when_, NoneHolds}
 use Rattle.models.specs.Floats.{equalOrNan}
 use Rattle.models.specs.Bound.{boundAllowed, deviation}
 use Rattle.models.specs.declared.ErrorBound.{ErrorBound}
-use Rattle.models.proofs.Judged.{NoneHolds, after-judging, by-test}
-use Rattle.models.proofs.Laws.{and-both}
-use Rattle.models.proofs.Folds.{steps-keep, steps-raise}
+use Rattle.models.proofs.Tests.{and-both, by-test, not-of}
+use Rattle.models.proofs.Runs as Shared
+use Rattle.models.proofs.Runs.{Fitting}
 use Rattle.lines.specs.Times.{timeAllowed}
-use Rattle.lines.specs.Line.{_+f_, _-f_, pointOf, bothFinite, level, valueAt}
+use Rattle.lines.specs.Line.{_+f_, _-f_, pointOf, bothFinite, valueAt, levelLine}
 use Rattle.swing.specs.State.{fresh, upperLine, lowerLine, sumsOf, usable, timesAllowed, timeFollows}
 use Rattle.swing.specs.Step.{opened, moved, flat, second, swung, laterAt, later, tried}
 use Rattle.swing.specs.Calls.{fitCauses, fitAnswer}
@@ -28,11 +28,11 @@ use Rattle.swing.specs.declared.Swing.{Swing}
 use Rattle.lines.specs.declared.Point.{Point}
 use Rattle.lines.specs.declared.Line.{Line}
 use Rattle.lines.specs.declared.Terms.{Terms}
-use Rattle.swing.proofs.Allowed.{length-below, follows-allowed, follows-start, start-allowed, one-time, two-times}
+use Rattle.swing.proofs.Allowed.{length-limit, follows-allowed, follows-start, start-allowed, one-time, two-times}
 
 -- a step by its cases: a point that does not fit, the first one, one that is the same as the first, the second, and a later one
 pub by-case : (Q : Stepped Swing → Type 0) (s : Swing) (p : Point) → Q (failing s) → (s .length ≡ 0 → Q (fitting (opened s p)))
-    → ((s .length ≡ 0 → ⊥) → Q (fitting (moved s p (level (p .value)) (level (p .value)) (sumsOf s))))
+    → ((s .length ≡ 0 → ⊥) → Q (fitting (moved s p (levelLine (p .value)) (levelLine (p .value)) (sumsOf s))))
     → (s .length ≡ 1 → bothFinite (s .«first_value») (p .value) ≡ true → Q (fitting (second s p (deviation (s .«error_bound») (p .value)))))
     → ((s .length ≡ 0 → ⊥) → (s .length ≡ 1 → ⊥) → (d high low : Float) → Q (fitting (swung s p d high low))) → Q (tried s p)
 unfolding tried flat later laterAt
@@ -59,55 +59,60 @@ unfolding opened moved second swung
 fitted-end s p =
     by-case (λ (t : Stepped Swing). t .fits ≡ true → t .state .«end_time» ≡ p .time) s p (λ h. absurd (false≢true h)) (λ none h. refl) (λ some h. refl) (λ one finite h. refl) (λ some more d high low h. refl)
 
--- what a state has, it has after the call, if it has it after a step: one of a state that may be used, has room, and is followed by the time
-pub kept : (P : Swing → Type 0) (s : Swing) (g : Given) → P s → (usable s ≡ true → s .length < 65536 → timeFollows s (g .time) ≡ true → P (tried s (pointOf (g .time) (g .bits)) .state)) → P (next s g)
-unfolding fitAnswer
-kept P s g p step =
-    after-judging P s (fitCauses s (g .time)) (tried s (pointOf (g .time) (g .bits))) p (λ none.
-    let ok = not-false _ (none .1 .0) in
-    step ok (length-below s ok (eqb-false (s .length) 65536 (none .1 .1 .0))) (not-false _ (none .1 .1 .1 .0)))
+-- ---- the laws of a step
+pub fresh-has : (b : ErrorBound) → (fresh b .«error_bound» ≡ b) × (usable (fresh b) ≡ true) × (fresh b .length ≡ 0)
+unfolding usable timesAllowed fresh
+fresh-has b = (refl, refl, refl)
 
--- ---- the laws
-pub run-append : (s : Swing) (xs ys : List Given) → run s (xs ++ ys) ≡ run (run s xs) ys
-run-append s xs ys = foldl-append next s xs ys
-
-pub run-bound : (s : Swing) (given : List Given) → run s given .«error_bound» ≡ s .«error_bound»
+pub step-has : (s : Swing) (p : Point) → (tried s p .state .«error_bound» ≡ s .«error_bound») × (tried s p .state .length ≤ s .length + 1)
 unfolding opened moved
-run-bound s given =
-    let P : Swing → Type 0 = λ t. t .«error_bound» ≡ s .«error_bound» in
-    steps-keep next P (λ t g p. kept P t g p (λ ok room follows. stepped P t _ p (λ none. p) (λ some upper lower sums. p))) s given refl
+step-has s p =
+    stepped (λ (t : Swing). (t .«error_bound» ≡ s .«error_bound») × (t .length ≤ s .length + 1)) s p (refl, omega arith) (λ none. (refl, omega arith)) (λ some upper lower sums. (refl, omega arith))
 
-next-usable : (s : Swing) (g : Given) → usable s ≡ true → usable (next s g) ≡ true
+pub step-usable : (s : Swing) (p : Point) → usable s ≡ true → s .length < mostValues → timeFollows s (p .time) ≡ true → usable (tried s p .state) ≡ true
 unfolding usable opened moved
-next-usable s g ok =
-    let P : Swing → Type 0 = λ t. usable t ≡ true in
-    kept P s g ok (λ ok room follows.
-    let last : timeAllowed (g .time) ≡ true = follows-allowed s (g .time) follows in
-    stepped P s (pointOf (g .time) (g .bits)) ok
-    (λ none. one-time (g .time) last)
+step-usable s p ok room follows =
+    let last : timeAllowed (p .time) ≡ true = follows-allowed s (p .time) follows in
+    stepped (λ (t : Swing). usable t ≡ true) s p ok
+    (λ none. one-time (p .time) last)
     (λ some upper lower sums.
     and-both _ _
-    (le-leb (s .length + 1) 65536 (omega arith))
-    (two-times (s .length + 1) (s .«start_time») (g .time) (omega arith) (follows-start s (g .time) ok some follows) (start-allowed s ok some) last)))
+    (le-leb (s .length + 1) mostValues (omega arith))
+    (two-times (s .length + 1) (s .«start_time») (p .time) (omega arith) (follows-start s (p .time) ok some follows) (start-allowed s ok some) last))
+
+abbrev pub swing : Fitting Swing Given
+swing =
+    record {
+      bound = λ (s : Swing). s .«error_bound»;
+      usable = usable;
+      size = λ (s : Swing). s .length;
+      later = λ (s : Swing) (g : Given). 10 when not (timeFollows s (g .time)) ∷ [];
+      step = λ (s : Swing) (g : Given). tried s (pointOf (g .time) (g .bits));
+      fresh = fresh;
+      fresh-has = fresh-has;
+      size-limit = length-limit;
+      step-has = λ s g. step-has s (pointOf (g .time) (g .bits));
+      step-usable = λ s g ok room later. step-usable s (pointOf (g .time) (g .bits)) ok room (not-false _ (later .0));
+    }
+
+-- ---- the laws of a run
+pub kept : (P : Swing → Type 0) (s : Swing) (g : Given) → P s → (usable s ≡ true → s .length < mostValues → timeFollows s (g .time) ≡ true → P (tried s (pointOf (g .time) (g .bits)) .state)) → P (next s g)
+unfolding fitAnswer
+kept P s g p step = Shared.kept swing P s g p (λ ok room later. step ok room (not-false _ (later .0)))
+
+pub run-append : (s : Swing) (xs ys : List Given) → run s (xs ++ ys) ≡ run (run s xs) ys
+unfolding fitAnswer
+run-append = Shared.run-append swing
 
 pub run-usable : (b : ErrorBound) (given : List Given) → usable (run (fresh b) given) ≡ true
-unfolding usable timesAllowed fresh
-run-usable b given = steps-keep next (λ (t : Swing). usable t ≡ true) next-usable (fresh b) given refl
-
-one-more : (s : Swing) (g : Given) → next s g .length ≤ s .length + 1
-unfolding opened moved
-one-more s g =
-    let P : Swing → Type 0 = λ t. t .length ≤ s .length + 1 in
-    kept P s g (omega arith) (λ ok room follows.
-    stepped P s (pointOf (g .time) (g .bits)) (omega arith) (λ none. omega arith) (λ some upper lower sums. omega arith))
+unfolding fitAnswer
+run-usable = Shared.run-usable swing
 
 pub run-length : (b : ErrorBound) (given : List Given) → run (fresh b) given .length ≤ length given
-unfolding fresh
-run-length b given = omega (arith, steps-raise next (λ (s : Swing). s .length) one-more (fresh b) given)
+unfolding fitAnswer
+run-length = Shared.run-length swing
 
 -- a step on it is refused by nothing but a full state, or a time that does not follow
-pub run-steps : (b : ErrorBound) (given : List Given) (t : ℤ) → boundAllowed b ≡ true → run (fresh b) given .length < 65536 → timeFollows (run (fresh b) given) t ≡ true → NoneHolds (fitCauses (run (fresh b) given) t)
-unfolding fresh
-run-steps b given t allowed room follows =
-    let s = run (fresh b) given in
-    (rw (run-bound (fresh b) given, allowed), (rw (run-usable b given), (ne-eqb (s .length) 65536 (λ e. absurd (omega arith)), (rw follows, tt))))
+pub run-steps : (b : ErrorBound) (given : List Given) (t : ℤ) → boundAllowed b ≡ true → run (fresh b) given .length < mostValues → timeFollows (run (fresh b) given) t ≡ true → NoneHolds (fitCauses (run (fresh b) given) t)
+unfolding fitAnswer
+run-steps b given t allowed room follows = Shared.run-steps swing b given (record { time = t; bits = 0 }) allowed room (not-of follows, tt)

@@ -18,8 +18,7 @@ use Rattle.models.specs.Floats.{zeroF, hundred, absF, isFinite, equalOrNan, max
 use Rattle.models.specs.Bound.{boundAllowed, BoundHeld, deviation}
 use Rattle.models.specs.declared.ErrorBound.{ErrorBound}
 use Rattle.models.specs.declared.ErrorBound.the-variants.{Lossless, Absolute, Relative}
-use Rattle.models.proofs.Judged.{by-test}
-use Rattle.models.proofs.Laws.{and-left, and-right}
+use Rattle.models.proofs.Tests.{and-left, and-right, by-test}
 use Rattle.lines.specs.Times.{timeAllowed}
 use Rattle.lines.specs.Line.{_+f_, _-f_, _/f_, bothFinite, raised, lowered, spanF, sloped, lineThrough}
 use Rattle.lines.specs.declared.Point.{Point}

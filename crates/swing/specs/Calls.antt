@@ -6,7 +6,7 @@ use Prim.Native.Nat.{ℕ, _+_}
 use lib.IntN.{ℤ}
 use lib.Ieee.{Float}
 use Rattle.models.specs.Answers.{Said, answered, refused, SaidOn, answeredOn, refusedOn, Stepped, fitting, failing, Cause, _when_, judged, judgedOn, Injective, told-apart}
-use Rattle.models.specs.Refusals.{number, numbered-number, unsaid, unsaidOn, unsaidStep}
+use Rattle.models.specs.Refusals.{numbered-number, unsaid, unsaidOn, unsaidStep, faultOf}
 use Rattle.models.specs.Bound.{boundAllowed}
 use Rattle.models.specs.Limits.{cost}
 use Rattle.models.specs.Causes as Shared
@@ -14,7 +14,7 @@ use Rattle.models.specs.declared.ErrorBound.{ErrorBound}
 use Rattle.lines.specs.Line.{pointOf}
 use Rattle.swing.specs.State.{fresh, usable, timeFollows}
 use Rattle.swing.specs.Step.{tried}
-use Rattle.swing.specs.Model.{Ends, endsOf}
+use Rattle.swing.specs.Model.{endsOf, LineEnds}
 use Rattle.swing.specs.declared.Swing.{Swing}
 use Rattle.swing.specs.declared.NewAnswer.{NewAnswer}
 use Rattle.swing.specs.declared.NewAnswer.the-variants as OfNew
@@ -28,7 +28,7 @@ use Rattle.swing.specs.declared.ModelAnswer.the-variants as OfModel
 -- ---- Swing::new
 abbrev pub saysNew : NewAnswer → Said Swing
 saysNew (OfNew.Answered s) = answered s
-saysNew (OfNew.Refused r) = refused (number r)
+saysNew (OfNew.Refused r) = refused (faultOf r)
 
 unfoldable pub newAnswer : ErrorBound → Said Swing
 newAnswer b = judged (1 when not (boundAllowed b) ∷ []) (fresh b)
@@ -44,7 +44,7 @@ saysNew-injective = told-apart saysNew (unsaid OfNew.Answered OfNew.Refused) new
 abbrev pub saysFit : FitAnswer → SaidOn Swing (Stepped Swing)
 saysFit (OfFit.Fits s) = answeredOn (fitting s)
 saysFit (OfFit.NoFit s) = answeredOn (failing s)
-saysFit (OfFit.Refused r s) = refusedOn (number r) s
+saysFit (OfFit.Refused r s) = refusedOn (faultOf r) s
 
 abbrev pub fitCauses : Swing → ℤ → List Cause
 fitCauses s t = Shared.stepCauses (s .«error_bound») (usable s) (s .length) (10 when not (timeFollows s t) ∷ [])
@@ -63,7 +63,7 @@ saysFit-injective = told-apart saysFit (unsaidStep OfFit.Fits OfFit.NoFit OfFit.
 -- ---- Swing::bytes_per_value: metadata of m bytes, and one more
 abbrev pub saysCost : CostAnswer → SaidOn Swing Float
 saysCost (OfCost.Answered x) = answeredOn x
-saysCost (OfCost.Refused r s) = refusedOn (number r) s
+saysCost (OfCost.Refused r s) = refusedOn (faultOf r) s
 
 abbrev pub costCauses : Swing → ℕ → List Cause
 costCauses s m = Shared.costCauses (s .«error_bound») (usable s) (s .length) m
@@ -79,19 +79,19 @@ pub saysCost-injective : Injective saysCost
 saysCost-injective = told-apart saysCost (unsaidOn OfCost.Answered OfCost.Refused) cost-told
 
 -- ---- Swing::model
-abbrev pub saysModel : ModelAnswer → SaidOn Swing Ends
+abbrev pub saysModel : ModelAnswer → SaidOn Swing LineEnds
 saysModel (OfModel.Answered first last) = answeredOn (record { first = first; last = last })
-saysModel (OfModel.Refused r s) = refusedOn (number r) s
+saysModel (OfModel.Refused r s) = refusedOn (faultOf r) s
 
 abbrev pub modelCauses : Swing → List Cause
 modelCauses s = Shared.modelCauses (s .«error_bound») (usable s) (s .length)
 
-unfoldable pub modelAnswer : Swing → SaidOn Swing Ends
+unfoldable pub modelAnswer : Swing → SaidOn Swing LineEnds
 modelAnswer s = judgedOn s (modelCauses s) (endsOf s)
 
-model-told : (r : ModelAnswer) → unsaidOn (λ (e : Ends). OfModel.Answered (e .first) (e .last)) OfModel.Refused (saysModel r) ≡ r
+model-told : (r : ModelAnswer) → unsaidOn (λ (e : LineEnds). OfModel.Answered (e .first) (e .last)) OfModel.Refused (saysModel r) ≡ r
 model-told (OfModel.Answered first last) = refl
 model-told (OfModel.Refused r s) = rw (numbered-number r)
 
 pub saysModel-injective : Injective saysModel
-saysModel-injective = told-apart saysModel (unsaidOn (λ (e : Ends). OfModel.Answered (e .first) (e .last)) OfModel.Refused) model-told
+saysModel-injective = told-apart saysModel (unsaidOn (λ (e : LineEnds). OfModel.Answered (e .first) (e .last)) OfModel.Refused) model-told

@@ -14,9 +14,9 @@ unfoldable pub lastValue : Swing → Float
 lastValue s = bestSlope s *f spanF (s .«start_time») (s .«end_time») +f s .«first_value»
 
 -- two patterns
-pub record Ends : Type 0 where
+pub record LineEnds : Type 0 where
   pub first : ℕ
   pub last : ℕ
 
-abbrev pub endsOf : Swing → Ends
+abbrev pub endsOf : Swing → LineEnds
 endsOf s = record { first = answeredAs (s .«first_value»); last = answeredAs (lastValue s) }

@@ -1,8 +1,12 @@
 -- A list of points tried one after the other.
+use mathlib.Core.Path.{_≡_}
+use mathlib.Core.Bool.{Bool}
 use mathlib.Core.List.{List, foldl}
 use Prim.Native.Nat.{ℕ}
 use lib.IntN.{ℤ}
-use Rattle.models.specs.Answers.{stateAfter}
+use lib.Ieee.{binary32, ofBits}
+use Rattle.models.specs.Answers.{answeredOn, fitting, stateAfter}
+use Rattle.models.specs.Floats.{isFinite}
 use Rattle.swing.specs.Calls.{fitAnswer}
 use Rattle.swing.specs.declared.Swing.{Swing}
 
@@ -17,3 +21,11 @@ next s g = stateAfter (fitAnswer s (g .time) (g .bits))
 
 abbrev pub run : Swing → List Given → Swing
 run s given = foldl next s given
+
+-- the call answers that the point fits
+abbrev pub Fits : Swing → Given → Type 0
+Fits s g = (t : Swing) × (fitAnswer s (g .time) (g .bits) ≡ answeredOn (fitting t))
+
+-- its value is finite
+abbrev pub finite : Given → Bool
+finite g = isFinite (ofBits binary32 (g .bits))

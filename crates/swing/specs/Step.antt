@@ -7,17 +7,12 @@ use lib.Ieee.{Float}
 use Rattle.models.specs.Answers.{Stepped, fitting, failing}
 use Rattle.models.specs.Floats.{equalOrNan}
 use Rattle.models.specs.Bound.{deviation}
-use Rattle.lines.specs.Line.{_+f_, _-f_, bothFinite, raised, lowered, level, lineThrough, valueAt, termsOf, added}
+use Rattle.lines.specs.Line.{_+f_, _-f_, bothFinite, raised, lowered, lineThrough, valueAt, termsOf, added, levelLine}
 use Rattle.swing.specs.State.{firstPoint, upperLine, lowerLine, sumsOf}
 use Rattle.swing.specs.declared.Swing.{Swing}
-use Rattle.swing.specs.declared.Tried.{Tried}
 use Rattle.lines.specs.declared.Point.{Point}
 use Rattle.lines.specs.declared.Line.{Line}
 use Rattle.lines.specs.declared.Terms.{Terms}
-
--- what the code of a step gives, in the paper's terms
-abbrev pub stepOf : Tried → Stepped Swing
-stepOf t = record { fits = t .fits; state = t .state }
 
 -- ---- the states that a step gives
 
@@ -61,7 +56,7 @@ moved s p upper lower sums =
 unfoldable pub flat : Swing → Point → Stepped Swing
 flat s p =
     cond (equalOrNan (s .«first_value») (p .value))
-    (fitting (moved s p (level (p .value)) (level (p .value)) (sumsOf s)))
+    (fitting (moved s p (levelLine (p .value)) (levelLine (p .value)) (sumsOf s)))
     (failing s)
 
 -- the second point "is not added to the error sums"

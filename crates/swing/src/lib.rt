@@ -15,7 +15,7 @@ ghost use Rattle.models.specs.Answers.{verdict};
 ghost use Rattle.models.specs.Calls.{saysVerdict, saysValue, saysGrid};
 ghost use Rattle.lines.specs.Line.{pointOf};
 ghost use Rattle.swing.specs.Calls.{saysNew, newAnswer, fitCauses, saysFit, fitAnswer, saysCost, costAnswer, saysModel, modelAnswer};
-ghost use Rattle.swing.specs.Grid.{averageCauses, averageAnswer, sumCauses, sumAnswer, gridCauses, gridMemory};
+ghost use Rattle.swing.specs.Grid.{lineCauses, averageCauses, averageAnswer, sumCauses, sumAnswer, gridCauses, gridMemory};
 
 pub struct Swing {
     pub error_bound: ErrorBound,
@@ -217,29 +217,35 @@ pub fn grid(
     }
 }
 
+fn judge_line(ordered: bool, a: Point, b: Point) -> Verdict
+    ensures { λ r. ⌜ saysVerdict r ≡ verdict (lineCauses ordered a b) ⌝ }
+{
+    let ends = models::when(Refusal::NoModel, lines::no_line(a, b), Verdict::Passed);
+    models::when(Refusal::TimesNotAllowed, !ordered, ends)
+}
+
 fn judge_average(a: Point, b: Point, count: usize) -> Verdict
     ensures { λ r. ⌜ saysVerdict r ≡ verdict (averageCauses a b count) ⌝ }
 {
-    let ends = models::when(Refusal::NoModel, lines::no_line(a, b), Verdict::Passed);
-    let times = models::when(Refusal::TimesNotAllowed, !lines::in_time(a, b), ends);
-    models::when(Refusal::OverLimit, 65536 < count, times)
+    let line = judge_line(lines::in_time(a, b), a, b);
+    models::when(Refusal::OverLimit, models::MOST_VALUES < count, line)
 }
 
 fn judge_sum(a: Point, b: Point, timestamps: &[i64]) -> Verdict
     ensures { λ r. ⌜ saysVerdict r ≡ verdict (sumCauses a b (now (timestamps .entry))) ⌝ }
 {
     let ordered = lines::in_time(a, b) & lines::times::in_order(timestamps);
-    let ends = models::when(Refusal::NoModel, lines::no_line(a, b), Verdict::Passed);
-    let times = models::when(Refusal::TimesNotAllowed, !ordered, ends);
-    models::when(Refusal::OverLimit, 65536 < timestamps.len(), times)
+    let line = judge_line(ordered, a, b);
+    let over = models::MOST_VALUES < timestamps.len();
+    models::when(Refusal::OverLimit, over, line)
 }
 
 fn judge_grid(a: Point, b: Point, timestamps: &[i64], room: usize) -> Verdict
     ensures { λ r. ⌜ saysVerdict r ≡ verdict (gridCauses a b (now (timestamps .entry)) room) ⌝ }
 {
     let ordered = lines::in_time(a, b) & lines::times::in_order(timestamps);
-    let ends = models::when(Refusal::NoModel, lines::no_line(a, b), Verdict::Passed);
-    let times = models::when(Refusal::TimesNotAllowed, !ordered, ends);
-    let short = models::when(Refusal::OutputTooShort, room < timestamps.len(), times);
-    models::when(Refusal::OverLimit, 65536 < timestamps.len(), short)
+    let line = judge_line(ordered, a, b);
+    let short = models::when(Refusal::OutputTooShort, room < timestamps.len(), line);
+    let over = models::MOST_VALUES < timestamps.len();
+    models::when(Refusal::OverLimit, over, short)
 }

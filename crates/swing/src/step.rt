@@ -9,11 +9,13 @@ use lines::times;
 ghost use mathlib.Core.Path.{_≡_};
 ghost use mathlib.Core.Bool.{true, cond};
 ghost use Prim.Native.Nat.{_<_};
+ghost use Rattle.models.specs.Limits.{mostValues};
 ghost use Rattle.models.specs.Answers.{fitting};
 ghost use Rattle.lines.specs.Times.{timeAllowed};
 ghost use Rattle.lines.specs.Line.{lineThrough};
 ghost use Rattle.swing.specs.State.{usable, timeFollows, firstPoint, upperLine, lowerLine, sumsOf};
-ghost use Rattle.swing.specs.Step.{stepOf, opened, moved, flat, second, swung, later, tried};
+ghost use Rattle.swing.specs.Step.{opened, moved, flat, second, swung, later, tried};
+ghost use Rattle.swing.specs.inner.Steps.{stepOf};
 ghost use Rattle.swing.specs.Model.{lastValue};
 
 impl Swing {
@@ -24,20 +26,19 @@ impl Swing {
         ensures { λ r. ⌜ r ≡ usable self ⌝ }
     {
         let n = self.length;
-        let a_ok = (times::LEAST <= self.start_time) & (self.start_time <= times::MOST);
-        let b_ok = (times::LEAST <= self.end_time) & (self.end_time <= times::MOST);
+        let a_ok = times::allowed(self.start_time);
+        let b_ok = times::allowed(self.end_time);
         let same = (self.start_time <= self.end_time) & (self.end_time <= self.start_time);
         let one = (n == 1) & (same & a_ok);
         let more = (1 < n) & ((self.start_time < self.end_time) & (a_ok & b_ok));
-        (n <= 65536) & ((n == 0) | (one | more))
+        (n <= models::MOST_VALUES) & ((n == 0) | (one | more))
     }
 
     // Whether the point's time keeps the limits and is after the state's last one.
     pub fn follows(self, p: Point) -> bool
         ensures { λ r. ⌜ r ≡ timeFollows self (p .time) ⌝ }
     {
-        let ok = (times::LEAST <= p.time) & (p.time <= times::MOST);
-        ok & ((self.length == 0) | (self.end_time < p.time))
+        times::allowed(p.time) & ((self.length == 0) | (self.end_time < p.time))
     }
 
     fn first_point(self) -> Point
@@ -80,7 +81,7 @@ impl Swing {
 
     // The step, once nothing refuses it.
     pub fn tried(self, p: Point) -> Tried
-        requires { ⌜ self .length < 65536 ⌝ ∗ ⌜ usable self ≡ true ⌝ ∗ ⌜ timeAllowed (p .time) ≡ true ⌝ }
+        requires { ⌜ self .length < mostValues ⌝ ∗ ⌜ usable self ≡ true ⌝ ∗ ⌜ timeAllowed (p .time) ≡ true ⌝ }
         ensures { λ r. ⌜ stepOf r ≡ tried self p ⌝ }
     {
         let n = self.length;
@@ -113,7 +114,7 @@ impl Swing {
 
     // The state with one point more, these lines and these sums.
     fn moved(self, p: Point, upper: Line, lower: Line, sums: Terms) -> Swing
-        requires { ⌜ self .length < 65536 ⌝ }
+        requires { ⌜ self .length < mostValues ⌝ }
         ensures { λ r. ⌜ r ≡ moved self p upper lower sums ⌝ }
     {
         let mut s = self;
@@ -130,7 +131,7 @@ impl Swing {
 
     // One point more where the first value or this one is not finite: it fits if they are the same.
     fn flat(self, p: Point) -> Tried
-        requires { ⌜ self .length < 65536 ⌝ }
+        requires { ⌜ self .length < mostValues ⌝ }
         ensures { λ r. ⌜ stepOf r ≡ flat self p ⌝ }
     {
         if models::equal_or_nan(self.first_value, p.value) {
@@ -149,7 +150,7 @@ impl Swing {
 
     // The second point, which sets both lines, d being the deviation that the bound allows.
     fn second(self, p: Point, d: f64) -> Swing
-        requires { ⌜ self .length < 65536 ⌝ ∗ ⌜ timeAllowed (self .«start_time») ≡ true ⌝ ∗ ⌜ timeAllowed (p .time) ≡ true ⌝ }
+        requires { ⌜ self .length < mostValues ⌝ ∗ ⌜ timeAllowed (self .«start_time») ≡ true ⌝ ∗ ⌜ timeAllowed (p .time) ≡ true ⌝ }
         ensures { λ r. ⌜ r ≡ second self p d ⌝ }
     {
         let first = self.first_point();
@@ -160,7 +161,7 @@ impl Swing {
 
     // A third or later point.
     fn later(self, p: Point, d: f64) -> Tried
-        requires { ⌜ self .length < 65536 ⌝ ∗ ⌜ timeAllowed (self .«start_time») ≡ true ⌝ ∗ ⌜ timeAllowed (p .time) ≡ true ⌝ }
+        requires { ⌜ self .length < mostValues ⌝ ∗ ⌜ timeAllowed (self .«start_time») ≡ true ⌝ ∗ ⌜ timeAllowed (p .time) ≡ true ⌝ }
         ensures { λ r. ⌜ stepOf r ≡ later self p d ⌝ }
     {
         let high = lines::value_at(self.upper_line(), p.time);
@@ -177,7 +178,7 @@ impl Swing {
 
     // A later point that fits: the lines are at `high` and `low` there.
     fn swung(self, p: Point, d: f64, high: f64, low: f64) -> Swing
-        requires { ⌜ self .length < 65536 ⌝ ∗ ⌜ timeAllowed (self .«start_time») ≡ true ⌝ ∗ ⌜ timeAllowed (p .time) ≡ true ⌝ }
+        requires { ⌜ self .length < mostValues ⌝ ∗ ⌜ timeAllowed (self .«start_time») ≡ true ⌝ ∗ ⌜ timeAllowed (p .time) ≡ true ⌝ }
         ensures { λ r. ⌜ r ≡ swung self p d high low ⌝ }
     {
         let upper = self.swung_to(high - d > p.value, lines::raised(p, d), self.upper_line());

@@ -1,7 +1,7 @@
 -- choose_model is refused by its own causes only: where none of them holds, both models stand for the first value, so nothing refuses the choice between
 -- them, and it is never 11 there. The chosen model stands for at least one of the values, Swing's for at least two. Assumes nothing.
 use mathlib.Core.Path.{_≡_, refl, sym, ap, _∙_, subst}
-use mathlib.Core.Bool.{Bool, true, false, not}
+use mathlib.Core.Bool.{true, not}
 use mathlib.Core.List.{List, [], _∷_}
 use Prim.Native.Nat.{ℕ, _≤_}
 use native.Mathlib.Omega.{arith}
@@ -10,12 +10,12 @@ use lib.Dec.{eqb, ltb}
 use lib.IntN.{ℤ}
 use lib.ListN.{length}
 use lib.Ieee.{Float, binary32, ofBits}
-use Rattle.models.specs.Answers.{answered, answeredOn, refusedOn, stateAfter}
+use Rattle.models.specs.Answers.{answered, answeredOn, stateAfter, refusing, NoneHolds}
 use Rattle.models.specs.Bound.{boundAllowed}
-use Rattle.models.specs.Limits.{metadataAllowed}
+use Rattle.models.specs.Limits.{metadataAllowed, mostValues}
 use Rattle.models.specs.declared.ErrorBound.{ErrorBound}
-use Rattle.models.proofs.Judged.{NoneHolds, accepted, after-judging, after-test}
-use Rattle.models.proofs.Laws.{and-left}
+use Rattle.models.proofs.Judged.{accepted, after-judging, after-test, told}
+use Rattle.models.proofs.Tests.{and-left, neither, by-test}
 use Rattle.models.proofs.Folds.{steps-keep}
 use Rattle.lines.specs.Times.{timeAllowed, after, inOrder}
 use Rattle.lines.specs.Line.{pointOf}
@@ -34,7 +34,6 @@ use Rattle.types.specs.Calls.{updateCauses, updateAnswer, finishCauses, 
 use Rattle.types.specs.Run.{next, run, points, choiceCauses, choiceAnswer}
 use Rattle.types.specs.declared.ModelBuilder.{ModelBuilder}
 use Rattle.types.specs.declared.SelectedModel.{SelectedModel}
-use Rattle.types.proofs.Said.{told, neither}
 use Rattle.types.proofs.Parts.{run-usable, run-bounds}
 use Rattle.types.proofs.Chosen.{finish-length, finish-swing, choice-length}
 
@@ -49,47 +48,45 @@ abbrev Some : ModelBuilder → Type 0
 Some b = (1 ≤ b .«pmc_mean» .length) × (1 ≤ b .swing .length)
 
 pmc-keeps : (s : PMCMean) (v : Float) → 1 ≤ s .length → 1 ≤ Pmc.tried s v .state .length
-unfolding Pmc.tried Pmc.taken
-pmc-keeps s v h = after-test (λ (t : PMCMean). 1 ≤ t .length) (Pmc.fits (Pmc.taken s v)) _ _ (λ f. omega arith) (λ f. h)
+unfolding Pmc.tried Pmc.withValue
+pmc-keeps s v h = after-test (λ (t : PMCMean). 1 ≤ t .length) (Pmc.fits (Pmc.withValue s v)) _ _ (λ f. omega arith) (λ f. h)
 
 swing-keeps : (s : Swing) (p : Point) → 1 ≤ s .length → 1 ≤ SwingStep.tried s p .state .length
 unfolding SwingStep.opened SwingStep.moved
 swing-keeps s p h = SwingRuns.stepped (λ (t : Swing). 1 ≤ t .length) s p h (λ none. omega arith) (λ some upper lower sums. omega arith)
 
-keep-pmc : (b : ModelBuilder) (v : Float) (live : Bool) → b .«pmc_mean_could_fit_all» ≡ live → Some b → Some (updatePmc b v)
+keep-pmc : (b : ModelBuilder) (v : Float) → Some b → Some (updatePmc b v)
 unfolding updatePmc withPmc
-keep-pmc b v true e h = rw e (pmc-keeps (b .«pmc_mean») v (h .0), h .1)
-keep-pmc b v false e h = rw e h
+keep-pmc b v h = by-test Some (b .«pmc_mean_could_fit_all») _ _ (λ e. (pmc-keeps (b .«pmc_mean») v (h .0), h .1)) (λ e. h)
 
-keep-swing : (b : ModelBuilder) (p : Point) (live : Bool) → b .«swing_could_fit_all» ≡ live → Some b → Some (updateSwing b p)
+keep-swing : (b : ModelBuilder) (p : Point) → Some b → Some (updateSwing b p)
 unfolding updateSwing withSwing
-keep-swing b p true e h = rw e (h .0, swing-keeps (b .swing) p (h .1))
-keep-swing b p false e h = rw e h
+keep-swing b p h = by-test Some (b .«swing_could_fit_all») _ _ (λ e. (h .0, swing-keeps (b .swing) p (h .1))) (λ e. h)
 
 keeps : (b : ModelBuilder) (g : Given) → Some b → Some (next b g)
 unfolding updateAnswer updated
 keeps b g h =
     let p = pointOf (g .time) (g .bits) in
-    after-judging Some b (updateCauses b (g .time)) (answeredBy (updated b p)) h (λ none. keep-swing (updatePmc b (p .value)) p _ refl (keep-pmc b (p .value) _ refl h))
+    after-judging Some b (updateCauses b (g .time)) (answeredBy (updated b p)) h (λ none. keep-swing (updatePmc b (p .value)) p (keep-pmc b (p .value) h))
 
 -- ---- after the first point they do
 first-judged : (b : ErrorBound) (t : ℤ) → boundAllowed b ≡ true → timeAllowed t ≡ true → NoneHolds (updateCauses (fresh b) t)
 unfolding fresh boundsAllowed statesAllowed roomLeft timeFits Pmc.fresh SwingState.fresh SwingState.usable SwingState.timesAllowed SwingState.timeFollows
 first-judged b t allowed time = (rw allowed, (refl, (refl, (rw time, tt))))
 
-one-taken : (b : ErrorBound) (v : Float) → 1 ≤ Pmc.taken (Pmc.fresh b) v .length
-unfolding Pmc.taken Pmc.fresh
-one-taken b v = omega arith
+one-value : (b : ErrorBound) (v : Float) → 1 ≤ Pmc.withValue (Pmc.fresh b) v .length
+unfolding Pmc.withValue Pmc.fresh
+one-value b v = omega arith
 
 first-updated : (b : ErrorBound) (g : Given) → Some (updated (fresh b) (pointOf (g .time) (g .bits)))
 unfolding fresh updated updatePmc updateSwing withPmc withSwing Pmc.tried SwingStep.tried SwingState.fresh SwingStep.opened
-first-updated b g = rw (first-fits b (g .bits)) (one-taken b (ofBits binary32 (g .bits)), omega arith)
+first-updated b g = rw (first-fits b (g .bits)) (one-value b (ofBits binary32 (g .bits)), omega arith)
 
 first-point : (b : ErrorBound) (g : Given) → boundAllowed b ≡ true → timeAllowed (g .time) ≡ true → Some (next (fresh b) g)
 unfolding updateAnswer
 first-point b g allowed time =
     subst Some
-    (ap stateAfter (accepted (λ (n : ℕ). refusedOn n (fresh b)) (answeredOn (answeredBy (updated (fresh b) (pointOf (g .time) (g .bits))))) (updateCauses (fresh b) (g .time)) (first-judged b (g .time) allowed time)))
+    (ap stateAfter (accepted (refusing (fresh b)) (answeredOn (answeredBy (updated (fresh b) (pointOf (g .time) (g .bits))))) (updateCauses (fresh b) (g .time)) (first-judged b (g .time) allowed time)))
     (first-updated b g)
 
 -- ---- so nothing refuses the choice between them
@@ -112,7 +109,7 @@ nothing-refuses b given m allowed size some =
 -- ---- what choose_model judges, where nothing refuses it
 pub record Clear (ts : List ℤ) (values : List ℕ) (b : ErrorBound) (m : ℕ) : Type 0 where
   pub allowed : boundAllowed b ≡ true
-  pub most : length values ≤ 65536
+  pub most : length values ≤ mostValues
   pub size : metadataAllowed m ≡ true
   pub same : length ts ≡ length values
   pub ordered : inOrder ts ≡ true
@@ -122,10 +119,10 @@ pub record Clear (ts : List ℤ) (values : List ℕ) (b : ErrorBound) (m : ℕ) 
 module _ (ts : List ℤ) (values : List ℕ) (b : ErrorBound) (m : ℕ) where
   pub clear : NoneHolds (choiceCauses ts values b m) → Clear ts values b m
   clear none =
-      let three = neither (ltb 65536 (length values)) (not (metadataAllowed m)) (none .1 .0) in
+      let three = neither (ltb mostValues (length values)) (not (metadataAllowed m)) (none .1 .0) in
       record {
         allowed = not-false (boundAllowed b) (none .0);
-        most = ltb-false 65536 (length values) (three .0);
+        most = ltb-false mostValues (length values) (three .0);
         size = not-false (metadataAllowed m) (three .1);
         same = eqb-true (length ts) (length values) (not-false (eqb (length ts) (length values)) (none .1 .1 .0));
         ordered = not-false (inOrder ts) (none .1 .1 .1 .0);
@@ -143,7 +140,7 @@ module _ (ts : List ℤ) (values : List ℕ) (b : ErrorBound) (m : ℕ) where
   -- so the builder's own choice after the same steps is that answer
   pub choice-finishes : NoneHolds (choiceCauses ts values b m) → finishAnswer after-all m ≡ answeredOn (choiceOf after-all m)
   unfolding finishAnswer
-  choice-finishes none = sym (accepted (λ (n : ℕ). refusedOn n after-all) (answeredOn (choiceOf after-all m)) (finishCauses after-all m) (choice-clear none))
+  choice-finishes none = sym (accepted (refusing after-all) (answeredOn (choiceOf after-all m)) (finishCauses after-all m) (choice-clear none))
 
   -- the model that is chosen
   pub choice-stands : (x : SelectedModel) → choiceAnswer ts values b m ≡ answered x → (1 ≤ x .length) × (x .length ≤ length values) × (x .«model_type_id» ≡ 1 → 2 ≤ x .length)

@@ -14,12 +14,10 @@ use lib.Ieee.Back.{round-whole}
 use lib.Ieee.Scale.{round-same}
 use lib.Ieee.Order.{round-mono}
 use lib.Ieee.Fits.{down-pos}
-use Rattle.models.specs.Limits.{cost}
-use Rattle.models.proofs.Laws.{and-left, and-right, or-either}
-use Rattle.pmc_mean.specs.declared.PMCMean.{PMCMean}
-use Rattle.swing.specs.declared.Swing.{Swing}
+use Rattle.models.specs.Limits.{cost, mostValues, mostMetadata}
+use Rattle.models.proofs.Tests.{and-left, and-right, or-either}
 use Rattle.swing.proofs.Order.{at-most}
-use Rattle.types.specs.Choice.{pmcModel, swingModel, swingWins}
+use Rattle.types.specs.Choice.{swingWins}
 
 -- ---- a quotient of whole numbers
 nonzero : (n u b d : ℕ) → n * u * 1 ≡ b * d → 0 < b → 0 < d → (n ≡ 0 → ⊥)
@@ -46,7 +44,7 @@ div-whole f (fin false m e) (fin false n d) a b p q B =
     let full : 0 < n * up d * down e = mul-pos (omega (arith, mul-one (n * up d), q .1, mul-pos B (down-pos d))) (down-pos e) in
     rw (ne-eqb n 0 some) (round-same f false (m * up e * down d) (n * up d * down e) a b full B (crossed (m * up e) (n * up d) a b (down d) (down e) (p .1) (q .1)))
 
-pub cost-is : (bytes values : ℕ) → bytes ≤ 65536 → values ≤ 65536 → 0 < values → cost bytes values ≡ round binary32 false bytes values
+pub cost-is : (bytes values : ℕ) → bytes ≤ mostValues → values ≤ mostValues → 0 < values → cost bytes values ≡ round binary32 false bytes values
 unfolding cost Ieee.ofInt
 cost-is bytes values hb hv some =
     div-whole binary32 _ _ bytes values (round-whole binary32 false bytes (omega arith)) (round-whole binary32 false values (omega arith)) some
@@ -81,10 +79,9 @@ not-above (fin true m e) (fin true n d) h =
     le-ltb a b (⊎-elim (λ l. omega (arith, ltb-true b a l)) (λ k. omega (arith, eqb-true a b (and-left (eqb a b) _ k))) (or-either (ltb b a) _ h))
 
 -- ---- the law
-pub one-point-loses : (p : PMCMean) (s : Swing) (m : ℕ) → 1 ≤ p .length → p .length ≤ 65536 → m ≤ 65535 → s .length ≡ 1 → swingWins (pmcModel p m) (swingModel s m) ≡ false
-unfolding swingWins pmcModel swingModel
-one-point-loses p s m some small size one =
-    let n = p .length in
+pub one-point-loses : (m n s : ℕ) → 1 ≤ n → n ≤ mostValues → m ≤ mostMetadata → s ≡ 1 → swingWins m n s ≡ false
+unfolding swingWins
+one-point-loses m n s some small size one =
     let more : m * 1 ≤ (m + 1) * n = wider m n some in
     let below = is-true (Ieee.le (round binary32 false m n) (round binary32 false (m + 1) 1)) (round-mono binary32 m n (m + 1) 1 some (omega arith) more) in
     rw (one, cost-is m n (omega arith) small some, cost-is (m + 1) 1 (omega arith) (omega arith) (omega arith)) (not-above (round binary32 false m n) (round binary32 false (m + 1) 1) below)

@@ -1,5 +1,4 @@
 -- What the proofs of this crate and of those over it share.
-pub mod Said
 pub mod Rooms
 pub mod Runs
 pub mod Parts

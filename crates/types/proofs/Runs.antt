@@ -8,10 +8,10 @@ use lib.IntN.{ℤ, pos}
 use lib.ListN.{length, getD, drop}
 use lib.Seq.{drop-cons, drop-length}
 use Rattle.models.proofs.Judged.{after-judging}
+use Rattle.models.proofs.Tests.{neither}
 use Rattle.lines.specs.Line.{pointOf}
 use Rattle.lines.specs.declared.Point.{Point}
 use Rattle.swing.specs.Run.{Given}
-use Rattle.types.proofs.Said.{neither}
 use Rattle.types.specs.Builder.{updatePmc, updateSwing, updated, couldFit, answeredBy}
 use Rattle.types.specs.Calls.{updateCauses, updateAnswer}
 use Rattle.types.specs.Run.{next, run, points}

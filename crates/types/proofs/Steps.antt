@@ -11,11 +11,12 @@ use lib.Dec.{eqb}
 use lib.IntN.{ℤ, pos, negsuc}
 use lib.Signed.{ltZ}
 use lib.ListN.{length, take, getD, length-take}
-use Rattle.models.specs.Answers.{answered, answeredOn, refused, refusedOn, stateAfter}
+use Rattle.models.specs.Limits.{mostValues}
+use Rattle.models.specs.Answers.{answered, answeredOn, refused, stateAfter, refusing, NoneHolds}
 use Rattle.models.specs.Bound.{boundAllowed}
 use Rattle.models.specs.declared.ErrorBound.{ErrorBound}
-use Rattle.models.proofs.Judged.{NoneHolds, accepted, after-judging}
-use Rattle.models.proofs.Laws.{and-left, and-right, and-both, or-right}
+use Rattle.models.proofs.Judged.{accepted, after-judging}
+use Rattle.models.proofs.Tests.{and-left, and-right, and-both, or-right}
 use Rattle.lines.specs.Times.{timeAllowed, after}
 use Rattle.lines.specs.Line.{pointOf}
 use Rattle.lines.specs.declared.Point.{Point}
@@ -29,7 +30,7 @@ use Rattle.swing.proofs.Runs.{fitted-end}
 use Rattle.types.specs.Builder.{_unless-failed_, fresh, boundsAllowed, statesAllowed, roomLeft, timeFits, withSwing, updatePmc, updateSwing, updated, answeredBy}
 use Rattle.types.specs.Choice.{choiceOf}
 use Rattle.types.specs.Calls.{updateCauses, updateAnswer}
-use Rattle.types.specs.Run.{next, run, points, choiceCauses, choiceAnswer}
+use Rattle.types.specs.Run.{next, run, points, choiceCauses, choiceAnswer, withPoint}
 use Rattle.types.specs.declared.ModelBuilder.{ModelBuilder}
 use Rattle.types.proofs.Parts.{run-usable, run-bounds, run-lengths}
 use Rattle.types.proofs.Accepted.{clear, points-length}
@@ -79,10 +80,10 @@ in-time a b (t ∷ ts) (v ∷ values) (suc i) h k ordered follows =
 either-way : (ok live : Bool) → ok ≡ true → (ok unless-failed live) ≡ true
 either-way ok live h = or-right (not live) ok h
 
-room-below : (n : ℕ) → n < 65536 → not (eqb n 65536) ≡ true
-room-below n h = rw (ne-eqb n 65536 (λ e. absurd (omega arith)))
+room-below : (n : ℕ) → n < mostValues → not (eqb n mostValues) ≡ true
+room-below n h = rw (ne-eqb n mostValues (λ e. absurd (omega arith)))
 
-nothing-refuses : (b : ErrorBound) (given : List Given) (t : ℤ) → boundAllowed b ≡ true → length given < 65536 → timeFits (run (fresh b) given) t ≡ true → NoneHolds (updateCauses (run (fresh b) given) t)
+nothing-refuses : (b : ErrorBound) (given : List Given) (t : ℤ) → boundAllowed b ≡ true → length given < mostValues → timeFits (run (fresh b) given) t ≡ true → NoneHolds (updateCauses (run (fresh b) given) t)
 unfolding boundsAllowed statesAllowed roomLeft
 nothing-refuses b given t allowed room time =
     let s = run (fresh b) given in
@@ -96,21 +97,18 @@ nothing-refuses b given t allowed room time =
     let three = and-both _ _ (either-way _ p (room-below (s .«pmc_mean» .length) (omega (arith, lengths .0)))) (either-way _ q (room-below (s .swing .length) (omega (arith, lengths .1)))) in
     (ap not one, (ap not two, (ap not three, (ap not time, tt))))
 
--- ---- the builder after a point, where nothing refuses its step
-abbrev pub taken : ModelBuilder → Given → ModelBuilder
-taken b g = updated b (pointOf (g .time) (g .bits))
-
-next-taken : (b : ModelBuilder) (g : Given) → NoneHolds (updateCauses b (g .time)) → next b g ≡ taken b g
+-- ---- steps that nothing refuses
+next-with-point : (b : ModelBuilder) (g : Given) → NoneHolds (updateCauses b (g .time)) → next b g ≡ withPoint b g
 unfolding updateAnswer
-next-taken b g none = sym (ap stateAfter (accepted (λ (n : ℕ). refusedOn n b) (answeredOn (answeredBy (taken b g))) (updateCauses b (g .time)) none))
+next-with-point b g none = sym (ap stateAfter (accepted (refusing b) (answeredOn (answeredBy (withPoint b g))) (updateCauses b (g .time)) none))
 
 abbrev at : List Given → ℕ → Given
 at given i = getD given i (record { time = pos 0; bits = 0 })
 
-run-taken : (b : ModelBuilder) (given : List Given) → ((i : ℕ) → i < length given → NoneHolds (updateCauses (run b (take i given)) (at given i .time))) → run b given ≡ foldl taken b given
-run-taken b [] h = refl
-run-taken b (g ∷ given) h =
-    run-taken (next b g) given (λ i l. h (suc i) (omega arith)) ∙ ap (λ (s : ModelBuilder). foldl taken s given) (next-taken b g (h 0 (omega arith)))
+run-with-points : (b : ModelBuilder) (given : List Given) → ((i : ℕ) → i < length given → NoneHolds (updateCauses (run b (take i given)) (at given i .time))) → run b given ≡ foldl withPoint b given
+run-with-points b [] h = refl
+run-with-points b (g ∷ given) h =
+    run-with-points (next b g) given (λ i l. h (suc i) (omega arith)) ∙ ap (λ (s : ModelBuilder). foldl withPoint s given) (next-with-point b g (h 0 (omega arith)))
 
 point-time : (ts : List ℤ) (values : List ℕ) (i : ℕ) → i < length (points ts values) → at (points ts values) i .time ≡ getD ts i (pos 0)
 unfolding points
@@ -131,12 +129,12 @@ module _ (ts : List ℤ) (values : List ℕ) (b : ErrorBound) (m : ℕ) (none : 
       (in-time first (fresh b) ts values i (omega (arith, c .same)) h (sym (after-all ts) ∙ c .ordered) (fresh-follows b first))
 
   -- so every point is taken in
-  pub choice-folds : run (fresh b) (points ts values) ≡ foldl taken (fresh b) (points ts values)
+  pub choice-folds : run (fresh b) (points ts values) ≡ foldl withPoint (fresh b) (points ts values)
   choice-folds =
-      run-taken (fresh b) (points ts values) (λ i l.
+      run-with-points (fresh b) (points ts values) (λ i l.
       rw (point-time ts values i l) (choice-steps i (omega (arith, points-length ts values))))
 
-  pub choice-takes-all : choiceAnswer ts values b m ≡ answered (choiceOf (foldl taken (fresh b) (points ts values)) m)
+  pub choice-takes-all : choiceAnswer ts values b m ≡ answered (choiceOf (foldl withPoint (fresh b) (points ts values)) m)
   unfolding choiceAnswer
   choice-takes-all =
       sym (accepted refused (answered (choiceOf (run (fresh b) (points ts values)) m)) (choiceCauses ts values b m) none)

@@ -6,7 +6,7 @@ use Prim.Native.Nat.{ℕ}
 use lib.Dec.{eqb}
 use lib.IntN.{ℤ}
 use Rattle.models.specs.Answers.{Said, answered, refused, SaidOn, answeredOn, refusedOn, Stepped, fitting, failing, Cause, _when_, judged, judgedOn, Injective, told-apart}
-use Rattle.models.specs.Refusals.{number, numbered-number, unsaid, unsaidOn, unsaidStep}
+use Rattle.models.specs.Refusals.{numbered-number, unsaid, unsaidOn, unsaidStep, faultOf}
 use Rattle.models.specs.Bound.{boundAllowed}
 use Rattle.models.specs.Limits.{metadataAllowed}
 use Rattle.models.specs.declared.ErrorBound.{ErrorBound}
@@ -27,7 +27,7 @@ use Rattle.types.specs.declared.FinishAnswer.the-variants as OfFinish
 -- ---- ModelBuilder::new
 abbrev pub saysNew : NewAnswer → Said ModelBuilder
 saysNew (OfNew.Answered b) = answered b
-saysNew (OfNew.Refused r) = refused (number r)
+saysNew (OfNew.Refused r) = refused (faultOf r)
 
 unfoldable pub newAnswer : ErrorBound → Said ModelBuilder
 newAnswer b = judged (1 when not (boundAllowed b) ∷ []) (fresh b)
@@ -43,7 +43,7 @@ saysNew-injective = told-apart saysNew (unsaid OfNew.Answered OfNew.Refused) new
 abbrev pub saysUpdate : UpdateAnswer → SaidOn ModelBuilder (Stepped ModelBuilder)
 saysUpdate (OfUpdate.Fits b) = answeredOn (fitting b)
 saysUpdate (OfUpdate.NoFit b) = answeredOn (failing b)
-saysUpdate (OfUpdate.Refused r b) = refusedOn (number r) b
+saysUpdate (OfUpdate.Refused r b) = refusedOn (faultOf r) b
 
 abbrev pub updateCauses : ModelBuilder → ℤ → List Cause
 updateCauses b t =
@@ -67,7 +67,7 @@ saysUpdate-injective = told-apart saysUpdate (unsaidStep OfUpdate.Fits OfUpdate.
 -- ---- ModelBuilder::finish, with metadata of m bytes: both models are judged, whatever failed
 abbrev pub saysFinish : FinishAnswer → SaidOn ModelBuilder SelectedModel
 saysFinish (OfFinish.Answered model) = answeredOn model
-saysFinish (OfFinish.Refused r b) = refusedOn (number r) b
+saysFinish (OfFinish.Refused r b) = refusedOn (faultOf r) b
 
 abbrev pub finishCauses : ModelBuilder → ℕ → List Cause
 finishCauses b m =

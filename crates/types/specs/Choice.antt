@@ -33,16 +33,17 @@ swingModel s m =
       «bytes_per_value» = cost (m + 1) (s .length);
     }
 
--- "the smaller wins and PMC wins a tie"
-unfoldable pub swingWins : SelectedModel → SelectedModel → Bool
-swingWins pmc swing = Ieee.lt (swing .«bytes_per_value») (pmc .«bytes_per_value»)
+-- "the smaller wins and PMC wins a tie": metadata of m bytes, and how many values each model stands for
+unfoldable pub swingWins : ℕ → ℕ → ℕ → Bool
+swingWins m pmc swing = Ieee.lt (cost (m + 1) swing) (cost m pmc)
 
 -- "a finite first and a non-finite last value (both as f32)"
 unfoldable pub endLost : SelectedModel → Bool
 endLost swing = isFinite (ofBits binary32 (swing .«first_value»)) && not (isFinite (ofBits binary32 (swing .«last_value»)))
 
-unfoldable pub chosen : SelectedModel → SelectedModel → SelectedModel
-chosen pmc swing = cond (swingWins pmc swing && not (endLost swing)) swing pmc
+unfoldable pub chosen : Bool → SelectedModel → SelectedModel → SelectedModel
+chosen wins pmc swing = cond (wins && not (endLost swing)) swing pmc
 
 unfoldable pub choiceOf : ModelBuilder → ℕ → SelectedModel
-choiceOf b m = chosen (pmcModel (b .«pmc_mean») m) (swingModel (b .swing) m)
+choiceOf b m =
+    chosen (swingWins m (b .«pmc_mean» .length) (b .swing .length)) (pmcModel (b .«pmc_mean») m) (swingModel (b .swing) m)

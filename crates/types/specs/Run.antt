@@ -7,13 +7,14 @@ use lib.Dec.{eqb, ltb}
 use lib.IntN.{ℤ}
 use lib.ListN.{length}
 use Rattle.models.specs.Answers.{Said, answered, refused, stateAfter, Cause, _when_, judged, Injective, told-apart}
-use Rattle.models.specs.Refusals.{number, numbered-number, unsaid}
+use Rattle.models.specs.Refusals.{numbered-number, unsaid, faultOf}
 use Rattle.models.specs.Bound.{boundAllowed}
 use Rattle.models.specs.Limits.{mostValues, metadataAllowed}
 use Rattle.models.specs.declared.ErrorBound.{ErrorBound}
 use Rattle.lines.specs.Times.{inOrder}
+use Rattle.lines.specs.Line.{pointOf}
 use Rattle.swing.specs.Run.{Given}
-use Rattle.types.specs.Builder.{fresh}
+use Rattle.types.specs.Builder.{fresh, updated}
 use Rattle.types.specs.Choice.{choiceOf}
 use Rattle.types.specs.Calls.{updateAnswer}
 use Rattle.types.specs.declared.ModelBuilder.{ModelBuilder}
@@ -28,6 +29,10 @@ next b g = stateAfter (updateAnswer b (g .time) (g .bits))
 abbrev pub run : ModelBuilder → List Given → ModelBuilder
 run b given = foldl next b given
 
+-- the builder after a point, where nothing refuses its step
+abbrev pub withPoint : ModelBuilder → Given → ModelBuilder
+withPoint b g = updated b (pointOf (g .time) (g .bits))
+
 -- timestamps and values side by side
 unfoldable pub points : List ℤ → List ℕ → List Given
 points [] values = []
@@ -37,7 +42,7 @@ points (t ∷ ts) (v ∷ values) = record { time = t; bits = v } ∷ points ts v
 -- ---- choose_model
 abbrev pub saysChoice : ChoiceAnswer → Said SelectedModel
 saysChoice (OfChoice.Answered model) = answered model
-saysChoice (OfChoice.Refused r) = refused (number r)
+saysChoice (OfChoice.Refused r) = refused (faultOf r)
 
 abbrev pub choiceCauses : List ℤ → List ℕ → ErrorBound → ℕ → List Cause
 choiceCauses ts values b m =

@@ -12,7 +12,9 @@ use models::Verdict;
 use pmc_mean::PMCMean;
 use swing::Swing;
 ghost use mathlib.Core.Path.{_≡_};
+ghost use Prim.Native.Nat.{_≤_};
 ghost use lib.ListN.{length};
+ghost use Rattle.models.specs.Limits.{mostValues, mostMetadata};
 ghost use Rattle.models.specs.Answers.{answered, verdict};
 ghost use Rattle.models.specs.Calls.{saysVerdict};
 ghost use Rattle.pmc_mean.specs.Calls.{costCauses};
@@ -55,7 +57,8 @@ impl ModelBuilder {
     {
         let p = self.pmc_mean;
         let s = self.swing;
-        choose(select_pmc_mean(p, m), select_swing(s, m))
+        let wins = swing_wins(m, p.length, s.length);
+        choose(wins, select_pmc_mean(p, m), select_swing(s, m))
     }
 
     // The builder that a step hands back.
@@ -116,10 +119,13 @@ fn select_swing(s: Swing, m: usize) -> SelectedModel
     }
 }
 
-fn swing_wins(pmc_mean: SelectedModel, swing: SelectedModel) -> bool
-    ensures { λ r. ⌜ r ≡ swingWins «pmc_mean» swing ⌝ }
+// Whether Swing needs fewer bytes for each value: by the size of the metadata, and how many values
+// each model stands for.
+fn swing_wins(m: usize, pmc_mean: usize, swing: usize) -> bool
+    requires { ⌜ m ≤ mostMetadata ⌝ ∗ ⌜ «pmc_mean» ≤ mostValues ⌝ ∗ ⌜ swing ≤ mostValues ⌝ }
+    ensures { λ r. ⌜ r ≡ swingWins m «pmc_mean» swing ⌝ }
 {
-    swing.bytes_per_value < pmc_mean.bytes_per_value
+    models::cost(m + 1, swing) < models::cost(m, pmc_mean)
 }
 
 // Whether the line starts at a finite value and does not end at one.
@@ -131,10 +137,10 @@ fn end_lost(swing: SelectedModel) -> bool
     models::is_finite_f32(first) & !models::is_finite_f32(last)
 }
 
-fn choose(pmc_mean: SelectedModel, swing: SelectedModel) -> SelectedModel
-    ensures { λ r. ⌜ r ≡ chosen «pmc_mean» swing ⌝ }
+fn choose(wins: bool, pmc_mean: SelectedModel, swing: SelectedModel) -> SelectedModel
+    ensures { λ r. ⌜ r ≡ chosen wins «pmc_mean» swing ⌝ }
 {
-    if swing_wins(pmc_mean, swing) & !end_lost(swing) {
+    if wins & !end_lost(swing) {
         swing
     } else {
         pmc_mean
@@ -171,7 +177,7 @@ fn judge_choice(timestamps: &[i64], values: &[u32], error_bound: ErrorBound, m: 
     let none = models::when(Refusal::NoModel, n == 0, Verdict::Passed);
     let times = models::when(Refusal::TimesNotAllowed, !ordered, none);
     let same = models::when(Refusal::CountsDisagree, !(timestamps.len() == n), times);
-    let over = (65536 < n) | !models::metadata_allowed(m);
+    let over = (models::MOST_VALUES < n) | !models::metadata_allowed(m);
     let limit = models::when(Refusal::OverLimit, over, same);
     models::when(
         Refusal::BoundNotAllowed,

@@ -13,7 +13,8 @@ use swing::Swing;
 ghost use mathlib.Core.Path.{_≡_};
 ghost use mathlib.Core.Bool.{true};
 ghost use Prim.Native.Nat.{_<_};
-ghost use Rattle.models.specs.Answers.{verdict};
+ghost use Rattle.models.specs.Limits.{mostValues};
+ghost use Rattle.models.specs.Answers.{answered, verdict};
 ghost use Rattle.models.specs.Calls.{saysVerdict};
 ghost use Rattle.lines.specs.Times.{timeAllowed};
 ghost use Rattle.swing.specs.State.{usable};
@@ -149,22 +150,22 @@ impl ModelBuilder {
     {
         let p = self.pmc_mean;
         let s = self.swing;
-        let first = !self.pmc_mean_could_fit_all | !(p.length == 65536);
-        first & (!self.swing_could_fit_all | !(s.length == 65536))
+        let first = !self.pmc_mean_could_fit_all | !(p.length == models::MOST_VALUES);
+        first & (!self.swing_could_fit_all | !(s.length == models::MOST_VALUES))
     }
 
     fn time_fits(self, p: Point) -> bool
         ensures { λ r. ⌜ r ≡ timeFits self (p .time) ⌝ }
     {
         let s = self.swing;
-        in_limits(p) & (!self.swing_could_fit_all | s.follows(p))
+        times::allowed(p.time) & (!self.swing_could_fit_all | s.follows(p))
     }
 
     // ---- the step
 
     // The step, once nothing refuses it. The point's value is that of the f32.
     fn updated(self, value: f32, p: Point) -> ModelBuilder
-        requires { ⌜ statesAllowed self ≡ true ⌝ ∗ ⌜ roomLeft self ≡ true ⌝ ∗ ⌜ timeAllowed (p .time) ≡ true ⌝ ∗ ⌜ value ≡ p .value ⌝ }
+        requires { ⌜ verdict (updateCauses self (p .time)) ≡ answered tt ⌝ ∗ ⌜ value ≡ p .value ⌝ }
         ensures { λ r. ⌜ r ≡ updated self p ⌝ }
     {
         let b = self.update_pmc_mean(value);
@@ -172,7 +173,7 @@ impl ModelBuilder {
     }
 
     fn update_pmc_mean(self, value: f32) -> ModelBuilder
-        requires { ⌜ (self .«pmc_mean_could_fit_all» ≡ true → self .«pmc_mean» .length < 65536) ⌝ }
+        requires { ⌜ (self .«pmc_mean_could_fit_all» ≡ true → self .«pmc_mean» .length < mostValues) ⌝ }
         ensures { λ r. ⌜ r ≡ updatePmc self value ⌝ }
     {
         if !self.pmc_mean_could_fit_all {
@@ -185,7 +186,7 @@ impl ModelBuilder {
     }
 
     fn update_swing(self, p: Point) -> ModelBuilder
-        requires { ⌜ (self .«swing_could_fit_all» ≡ true → (self .swing .length < 65536) × (usable (self .swing) ≡ true)) ⌝ ∗ ⌜ timeAllowed (p .time) ≡ true ⌝ }
+        requires { ⌜ (self .«swing_could_fit_all» ≡ true → (self .swing .length < mostValues) × (usable (self .swing) ≡ true)) ⌝ ∗ ⌜ timeAllowed (p .time) ≡ true ⌝ }
         ensures { λ r. ⌜ r ≡ updateSwing self p ⌝ }
     {
         if !self.swing_could_fit_all {
@@ -220,11 +221,4 @@ impl ModelBuilder {
             swing_could_fit_all: fits,
         }
     }
-}
-
-// Whether the point's time keeps the limits.
-fn in_limits(p: Point) -> bool
-    ensures { λ r. ⌜ r ≡ timeAllowed (p .time) ⌝ }
-{
-    (times::LEAST <= p.time) & (p.time <= times::MOST)
 }

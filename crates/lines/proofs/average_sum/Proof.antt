@@ -30,9 +30,6 @@ int-to-float-answered : tie.Need-int-to-float-answered
 unfolding Ieee.inFloat
 int-to-float-answered c = le→leb (c .before .before .before .before .before .before .args .count) 9007199254740992 (omega arith)
 
-answered-requires : tie.Need-answered-requires
-answered-requires c κs = search needs
-
 returns : tie.Need-returns
 unfolding averageSum Ieee.ofBits
 returns c =
@@ -50,5 +47,5 @@ average-sum-spec =
     value-at-requires
     value-at-requires-2
     int-to-float-answered
-    answered-requires
+    (λ c κs. search needs)
     returns)

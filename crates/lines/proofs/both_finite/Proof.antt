@@ -3,14 +3,8 @@ use borrow.Author.Needs.{needs}
 use Rattle.lines.proofs.both_finite.Statement.{statement}
 use Rattle.lines.proofs.both_finite.Tie as tie
 
-is-finite-f64-requires : tie.Need-is-finite-f64-requires
-is-finite-f64-requires c κs = search needs
-
-is-finite-f64-requires-2 : tie.Need-is-finite-f64-requires-2
-is-finite-f64-requires-2 c κs = search needs
-
 returns : tie.Need-returns
 returns c = rw (c .before .is-finite-f64 .ensures, c .is-finite-f642 .ensures)
 
 pub both-finite-spec : {M : Type 1} → statement M
-both-finite-spec = tie.close (tie.spec is-finite-f64-requires is-finite-f64-requires-2 returns)
+both-finite-spec = tie.close (tie.spec (λ c κs. search needs) (λ c κs. search needs) returns)

@@ -10,26 +10,20 @@ use lib.ListN.{getD, length, drop, length-set}
 use denote.Ref.{now}
 use lib.Seq.{sets}
 use mathlib.Core.List.{map}
-use Rattle.lines.specs.Values.{drawnAt}
+use Rattle.lines.specs.Values.{lineDrawnAt}
 use Rattle.lines.proofs.Exact.{time-fits}
 use Rattle.lines.proofs.Ordered.{in-order-at, sets-here, sets-done, sets-drawn}
 use Rattle.lines.proofs.draw.Statement.{statement}
 use Rattle.lines.proofs.draw.Tie as tie
 
 abbrev Inv-loop : tie.InvT-loop
-Inv-loop line ts out₀ i₀ out i = (i ≤ length ts) × (length out ≡ length out₀) × (sets out i (map (drawnAt line) (drop i ts)) ≡ sets out₀ 0 (map (drawnAt line) ts))
+Inv-loop line ts out₀ i₀ out i = (i ≤ length ts) × (length out ≡ length out₀) × (sets out i (map (lineDrawnAt line) (drop i ts)) ≡ sets out₀ 0 (map (lineDrawnAt line) ts))
 
 abbrev μ-loop : tie.MeasureT-loop
 μ-loop line ts out₀ i₀ out i = length ts - i
 
 loop-holds : tie.Need-loop-holds Inv-loop μ-loop
 loop-holds c = (search needs, refl, refl)
-
-mul-t : tie.Need-mul-t Inv-loop μ-loop
-mul-t c = search needs
-
-shared-slice-copy-out-t : tie.Need-shared-slice-copy-out-t Inv-loop μ-loop
-shared-slice-copy-out-t c = search needs
 
 value-at-requires : tie.Need-value-at-requires Inv-loop μ-loop
 value-at-requires c κs =
@@ -38,37 +32,19 @@ value-at-requires c κs =
     let ok = in-order-at ts (l .i) (c .before .before .before .before .pre .0) (c .before .loop-test .taken) in
     rw (toZ-ofZ w64 (getD ts (l .i) (pos 0)) (time-fits _ ok)) ok
 
-answered-requires : tie.Need-answered-requires Inv-loop μ-loop
-answered-requires c κs = search needs
-
-mul-out : tie.Need-mul-out Inv-loop μ-loop
-mul-out c = search needs
-
-slice-write-out : tie.Need-slice-write-out Inv-loop μ-loop
-slice-write-out c = search needs
-
-add-i : tie.Need-add-i Inv-loop μ-loop
-add-i c = search needs
-
-loop-less : tie.Need-loop-less Inv-loop μ-loop
-loop-less c = search needs
-
 loop-again : tie.Need-loop-again Inv-loop μ-loop
 loop-again c =
     let ts = now (c .before .before .before .before .before .before .args .ts) in
     let l = c .before .before .before .before .loop in
     let ok = in-order-at ts (l .i) (c .before .before .before .before .before .before .pre .0) (c .before .before .before .loop-test .taken) in
     let e = rw (toZ-ofZ w64 (getD ts (l .i) (pos 0)) (time-fits _ ok)) at (c .before .value-at .ensures) in
-    (search needs, simp length-set (l .inv .1), rw (c .answered .ensures, e) (sym (sets-here (drawnAt (c .before .before .before .before .before .before .args .line)) (l .out) ts (l .i) (pos 0) (c .before .before .before .loop-test .taken)) ∙ l .inv .2))
-
-same-length : tie.Need-same-length Inv-loop μ-loop
-same-length c = search needs
+    (search needs, simp length-set (l .inv .1), rw (c .answered .ensures, e) (sym (sets-here (lineDrawnAt (c .before .before .before .before .before .before .args .line)) (l .out) ts (l .i) (pos 0) (c .before .before .before .loop-test .taken)) ∙ l .inv .2))
 
 returns : tie.Need-returns Inv-loop μ-loop
 returns c =
     let l = c .before .loop in
     let ts = now (c .before .before .before .args .ts) in
-    sym (sets-done (drawnAt (c .before .before .before .args .line)) (l .out) ts (l .i) (omega arith)) ∙ l .inv .2 ∙ sets-drawn (c .before .before .before .args .line) ts (now (c .before .before .before .args .out)) (c .before .before .before .pre .1)
+    sym (sets-done (lineDrawnAt (c .before .before .before .args .line)) (l .out) ts (l .i) (omega arith)) ∙ l .inv .2 ∙ sets-drawn (c .before .before .before .args .line) ts (now (c .before .before .before .args .out)) (c .before .before .before .pre .1)
 
 pub draw-spec : {M : Type 1} → statement M
 draw-spec =
@@ -77,14 +53,14 @@ draw-spec =
     Inv-loop
     μ-loop
     loop-holds
-    mul-t
-    shared-slice-copy-out-t
+    (λ c. search needs)
+    (λ c. search needs)
     value-at-requires
-    answered-requires
-    mul-out
-    slice-write-out
-    add-i
-    loop-less
+    (λ c κs. search needs)
+    (λ c. search needs)
+    (λ c. search needs)
+    (λ c. search needs)
+    (λ c. search needs)
     loop-again
-    same-length
+    (λ c. search needs)
     returns)

@@ -8,12 +8,6 @@ use Rattle.lines.proofs.Exact.{time-whole, time-fits}
 use Rattle.lines.proofs.line_through.Statement.{statement}
 use Rattle.lines.proofs.line_through.Tie as tie
 
-equal-or-nan-requires : tie.Need-equal-or-nan-requires
-equal-or-nan-requires c κs = search needs
-
-span-requires : tie.Need-span-requires
-span-requires c κs = search needs
-
 int-to-float-start : tie.Need-int-to-float-start
 int-to-float-start c =
     let t = c .before .before .before .before .before .before .before .before .before .args .a .time in
@@ -32,4 +26,4 @@ returns-2 c =
 
 pub line-through-spec : {M : Type 1} → statement M
 line-through-spec =
-    tie.close (tie.spec equal-or-nan-requires span-requires int-to-float-start returns returns-2)
+    tie.close (tie.spec (λ c κs. search needs) (λ c κs. search needs) int-to-float-start returns returns-2)

@@ -5,14 +5,8 @@ use borrow.Author.Needs.{needs}
 use Rattle.lines.proofs.point_of.Statement.{statement}
 use Rattle.lines.proofs.point_of.Tie as tie
 
-value-of-f32-requires : tie.Need-value-of-f32-requires
-value-of-f32-requires c κs = search needs
-
-widen-requires : tie.Need-widen-requires
-widen-requires c κs = search needs
-
 returns : tie.Need-returns
 returns c = rw (toZ-ofZ w64 (c .before .before .args .time) (c .before .before .fits .time), c .widen .ensures, c .before .value-of-f32 .ensures)
 
 pub point-of-spec : {M : Type 1} → statement M
-point-of-spec = tie.close (tie.spec value-of-f32-requires widen-requires returns)
+point-of-spec = tie.close (tie.spec (λ c κs. search needs) (λ c κs. search needs) returns)

@@ -8,12 +8,6 @@ use Rattle.lines.proofs.Exact.{time-fits}
 use Rattle.lines.proofs.terms_of.Statement.{statement}
 use Rattle.lines.proofs.terms_of.Tie as tie
 
-equal-or-nan-requires : tie.Need-equal-or-nan-requires
-equal-or-nan-requires c κs = search needs
-
-span-requires : tie.Need-span-requires
-span-requires c κs = search needs
-
 returns : tie.Need-returns
 unfolding termsOf Ieee.ofBits
 returns c = rw (← c .before .equal-or-nan .ensures, c .if1 .taken)
@@ -26,4 +20,4 @@ returns-2 c =
     rw (← c .before .before .before .before .before .before .equal-or-nan .ensures, c .before .before .before .before .before .if1 .left, c .before .before .span .ensures, toZ-ofZ w64 (a .time) (time-fits _ (c .before .before .before .before .before .before .before .pre .0)), toZ-ofZ w64 (b .time) (time-fits _ (c .before .before .before .before .before .before .before .pre .1)))
 
 pub terms-of-spec : {M : Type 1} → statement M
-terms-of-spec = tie.close (tie.spec equal-or-nan-requires span-requires returns returns-2)
+terms-of-spec = tie.close (tie.spec (λ c κs. search needs) (λ c κs. search needs) returns returns-2)

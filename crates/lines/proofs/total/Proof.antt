@@ -26,24 +26,12 @@ loop-holds : tie.Need-loop-holds Inv-loop μ-loop
 unfolding Ieee.ofBits
 loop-holds c = (search needs, refl)
 
-mul-t : tie.Need-mul-t Inv-loop μ-loop
-mul-t c = search needs
-
-shared-slice-copy-out-t : tie.Need-shared-slice-copy-out-t Inv-loop μ-loop
-shared-slice-copy-out-t c = search needs
-
 value-at-requires : tie.Need-value-at-requires Inv-loop μ-loop
 value-at-requires c κs =
     let ts = now (c .before .before .before .args .ts) in
     let l = c .before .before .loop in
     let ok = in-order-at ts (l .i) (c .before .before .before .pre) (c .before .loop-test .taken) in
     rw (toZ-ofZ w64 (getD ts (l .i) (pos 0)) (time-fits _ ok)) ok
-
-add-i : tie.Need-add-i Inv-loop μ-loop
-add-i c = search needs
-
-loop-less : tie.Need-loop-less Inv-loop μ-loop
-loop-less c = search needs
 
 loop-again : tie.Need-loop-again Inv-loop μ-loop
 loop-again c =
@@ -65,10 +53,10 @@ total-spec =
     Inv-loop
     μ-loop
     loop-holds
-    mul-t
-    shared-slice-copy-out-t
+    (λ c. search needs)
+    (λ c. search needs)
     value-at-requires
-    add-i
-    loop-less
+    (λ c. search needs)
+    (λ c. search needs)
     loop-again
     returns)

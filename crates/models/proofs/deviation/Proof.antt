@@ -6,24 +6,6 @@ use borrow.Author.Needs.{needs}
 use Rattle.models.proofs.deviation.Statement.{statement}
 use Rattle.models.proofs.deviation.Tie as tie
 
-enum-told : tie.Need-enum-told
-enum-told c = search needs
-
-enum-known-b : tie.Need-enum-known-b
-enum-known-b c = search needs
-
-widen-requires : tie.Need-widen-requires
-widen-requires c κs = search needs
-
-enum-known-b-2 : tie.Need-enum-known-b-2
-enum-known-b-2 c = search needs
-
-widen-requires-2 : tie.Need-widen-requires-2
-widen-requires-2 c κs = search needs
-
-abs-f64-requires : tie.Need-abs-f64-requires
-abs-f64-requires c κs = search needs
-
 returns : tie.Need-returns
 unfolding deviation Ieee.ofBits
 returns c = rw (c .enum-told .given .1)
@@ -40,12 +22,12 @@ pub deviation-spec : {M : Type 1} → statement M
 deviation-spec =
     tie.close
     (tie.spec
-    enum-told
-    enum-known-b
-    widen-requires
-    enum-known-b-2
-    widen-requires-2
-    abs-f64-requires
+    (λ c. search needs)
+    (λ c. search needs)
+    (λ c κs. search needs)
+    (λ c. search needs)
+    (λ c κs. search needs)
+    (λ c κs. search needs)
     returns
     returns-2
     returns-3)

@@ -4,15 +4,9 @@ use borrow.Author.Needs.{needs}
 use Rattle.models.proofs.judge_step.Statement.{statement}
 use Rattle.models.proofs.judge_step.Tie as tie
 
-when-requires : tie.Need-when-requires
-when-requires c κs = search needs
-
-judge-state-requires : tie.Need-judge-state-requires
-judge-state-requires c κs = search needs
-
 returns : tie.Need-returns
 unfolding judge
 returns c = rw (c .judge-state .ensures, c .before .when .ensures)
 
 pub judge-step-spec : {M : Type 1} → statement M
-judge-step-spec = tie.close (tie.spec when-requires judge-state-requires returns)
+judge-step-spec = tie.close (tie.spec (λ c κs. search needs) (λ c κs. search needs) returns)

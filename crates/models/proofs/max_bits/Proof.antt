@@ -7,12 +7,6 @@ use Rattle.models.proofs.Laws.{gives-way, right-wins, left-stays}
 use Rattle.models.proofs.max_bits.Statement.{statement}
 use Rattle.models.proofs.max_bits.Tie as tie
 
-value-of-f32-requires : tie.Need-value-of-f32-requires
-value-of-f32-requires c κs = search needs
-
-value-of-f32-requires-2 : tie.Need-value-of-f32-requires-2
-value-of-f32-requires-2 c κs = search needs
-
 returns : tie.Need-returns
 unfolding maxBits
 returns c = gives-way (λ (x y : Float). Ieee.lt y x) (ofBits binary32) _ _ _ _ (c .before .before .value-of-f32 .ensures) (c .before .value-of-f322 .ensures) (c .if1 .taken)
@@ -27,4 +21,4 @@ returns-3 c = left-stays (λ (x y : Float). Ieee.lt y x) (ofBits binary32) _ _ _
 
 pub max-bits-spec : {M : Type 1} → statement M
 max-bits-spec =
-    tie.close (tie.spec value-of-f32-requires value-of-f32-requires-2 returns returns-2 returns-3)
+    tie.close (tie.spec (λ c κs. search needs) (λ c κs. search needs) returns returns-2 returns-3)

@@ -1,5 +1,5 @@
 -- `models::size_f32` meets its contract. Assumes nothing.
-use Rattle.models.specs.Floats.{magnitude}
+use Rattle.models.specs.inner.Sizes.{magnitude}
 use Rattle.models.proofs.size_f32.Statement.{statement}
 use Rattle.models.proofs.size_f32.Tie as tie
 

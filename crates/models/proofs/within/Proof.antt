@@ -2,26 +2,20 @@
 use borrow.Author.Needs.{needs}
 use mathlib.Core.Path.{sym, _∙_}
 use Rattle.models.specs.Floats.{equalOrNan}
-use Rattle.models.specs.Bound.{within}
-use Rattle.models.proofs.Laws.{or-right, or-false}
+use Rattle.models.specs.Bound.{withinIn}
+use Rattle.models.proofs.Tests.{or-right, or-false}
 use Rattle.models.proofs.within.Statement.{statement}
 use Rattle.models.proofs.within.Tie as tie
 
-is-near-requires : tie.Need-is-near-requires
-is-near-requires c κs = search needs
-
 returns : tie.Need-returns
-unfolding within
+unfolding withinIn
 returns c =
     let s = c .before .before .args in
     sym (or-right (equalOrNan (s .real) (s .approximate)) _ (sym (c .before .is-near .ensures) ∙ c .if1 .taken))
 
-equal-or-nan-f32-requires : tie.Need-equal-or-nan-f32-requires
-equal-or-nan-f32-requires c κs = search needs
-
 returns-2 : tie.Need-returns-2
-unfolding within
+unfolding withinIn
 returns-2 c = c .equal-or-nan-f32 .ensures ∙ sym (or-false _ _ (sym (c .before .before .is-near .ensures) ∙ c .before .if1 .left))
 
 pub within-spec : {M : Type 1} → statement M
-within-spec = tie.close (tie.spec is-near-requires returns equal-or-nan-f32-requires returns-2)
+within-spec = tie.close (tie.spec (λ c κs. search needs) returns (λ c κs. search needs) returns-2)

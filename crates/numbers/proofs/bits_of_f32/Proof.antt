@@ -11,8 +11,5 @@ float-to-bits-result c = equals-itself (c .before .args .x) (c .if1 .left)
 returns : tie.Need-returns
 returns c = pattern-of-nan binary32 (c .before .args .x) (c .if1 .taken)
 
-returns-2 : tie.Need-returns-2
-returns-2 c = search needs
-
 pub bits-of-f32-spec : {M : Type 1} → statement M
-bits-of-f32-spec = tie.close (tie.spec float-to-bits-result returns returns-2)
+bits-of-f32-spec = tie.close (tie.spec float-to-bits-result returns (λ c. search needs))

@@ -5,29 +5,17 @@ use Rattle.parameters.specs.Forms.{byFlag}
 use Rattle.parameters.proofs.by_flag.Statement.{statement}
 use Rattle.parameters.proofs.by_flag.Tie as tie
 
-ends-requires : tie.Need-ends-requires
-ends-requires c κs = search needs
-
 returns : tie.Need-returns
 unfolding byFlag
 returns c = let flag = c .before .before .args .flag in rw (eq-eqb flag 0 (c .before .if1 .taken)) (c .ends .ensures)
-
-ends-requires-2 : tie.Need-ends-requires-2
-ends-requires-2 c κs = search needs
 
 returns-2 : tie.Need-returns-2
 unfolding byFlag
 returns-2 c = let flag = c .before .before .before .args .flag in rw (ne-eqb flag 0 (c .before .before .if1 .left), eq-eqb flag 1 (c .before .if2 .taken)) (c .ends2 .ensures)
 
-ends-requires-3 : tie.Need-ends-requires-3
-ends-requires-3 c κs = search needs
-
 returns-3 : tie.Need-returns-3
 unfolding byFlag
 returns-3 c = let flag = c .before .before .before .before .args .flag in rw (ne-eqb flag 0 (c .before .before .before .if1 .left), ne-eqb flag 1 (c .before .before .if2 .left), eq-eqb flag 2 (c .before .if3 .taken)) (c .ends3 .ensures)
-
-ends-requires-4 : tie.Need-ends-requires-4
-ends-requires-4 c κs = search needs
 
 returns-4 : tie.Need-returns-4
 unfolding byFlag
@@ -41,12 +29,12 @@ pub by-flag-spec : {M : Type 1} → statement M
 by-flag-spec =
     tie.close
     (tie.spec
-    ends-requires
+    (λ c κs. search needs)
     returns
-    ends-requires-2
+    (λ c κs. search needs)
     returns-2
-    ends-requires-3
+    (λ c κs. search needs)
     returns-3
-    ends-requires-4
+    (λ c κs. search needs)
     returns-4
     returns-5)

@@ -5,27 +5,6 @@ use borrow.Author.Tests.{eq-eqb, ne-eqb}
 use Rattle.parameters.proofs.form_for_pmc_mean.Statement.{statement}
 use Rattle.parameters.proofs.form_for_pmc_mean.Tie as tie
 
-plain-requires : tie.Need-plain-requires
-plain-requires c κs = search needs
-
-rusts-for-pmc-mean-requires : tie.Need-rusts-for-pmc-mean-requires
-rusts-for-pmc-mean-requires c κs = search needs
-
-min-bits-requires : tie.Need-min-bits-requires
-min-bits-requires c κs = search needs
-
-max-bits-requires : tie.Need-max-bits-requires
-max-bits-requires c κs = search needs
-
-pmc-mean-in-requires : tie.Need-pmc-mean-in-requires
-pmc-mean-in-requires c κs = search needs
-
-enum-told : tie.Need-enum-told
-enum-told c = search needs
-
-enum-known-read : tie.Need-enum-known-read
-enum-known-read c = search needs
-
 returns : tie.Need-returns
 unfolding pmcMeanForm
 returns c = rw (← c .before .before .before .before .before .before .plain .ensures, ← c .before .before .before .before .before .rusts-for-pmc-mean .ensures, ← c .before .before .before .before .min-bits .ensures, ← c .before .before .before .max-bits .ensures, ← c .before .before .pmc-mean-in .ensures, c .enum-told .given .1)
@@ -42,13 +21,13 @@ pub form-for-pmc-mean-spec : {M : Type 1} → statement M
 form-for-pmc-mean-spec =
     tie.close
     (tie.spec
-    plain-requires
-    rusts-for-pmc-mean-requires
-    min-bits-requires
-    max-bits-requires
-    pmc-mean-in-requires
-    enum-told
-    enum-known-read
+    (λ c κs. search needs)
+    (λ c κs. search needs)
+    (λ c κs. search needs)
+    (λ c κs. search needs)
+    (λ c κs. search needs)
+    (λ c. search needs)
+    (λ c. search needs)
     returns
     returns-2
     returns-3)

@@ -11,18 +11,9 @@ use mathlib.Core.Path.{refl, ap}
 use Rattle.parameters.proofs.hand_out.Statement.{statement}
 use Rattle.parameters.proofs.hand_out.Tie as tie
 
-length-of-requires : tie.Need-length-of-requires
-length-of-requires c κs = search needs
-
 returns : tie.Need-returns
 unfolding lengthAnswer bytesAfter judge
 returns c = let a = c .before .before .before .args in rw (lt-ltb (length (now (a .out))) (length (formBytes (a .form))) (omega arith)) (refl, refl)
-
-put-requires : tie.Need-put-requires
-put-requires c κs = search needs
-
-same-length : tie.Need-same-length
-same-length c = search needs
 
 returns-2 : tie.Need-returns-2
 unfolding lengthAnswer bytesAfter judge
@@ -31,4 +22,4 @@ returns-2 c =
     rw (le-ltb (length (now (a .out))) (length (formBytes (a .form))) (omega arith)) (ap answered (c .before .before .before .before .before .length-of .ensures), c .before .before .put .ensures)
 
 pub hand-out-spec : {M : Type 1} → statement M
-hand-out-spec = tie.close (tie.spec length-of-requires returns put-requires same-length returns-2)
+hand-out-spec = tie.close (tie.spec (λ c κs. search needs) returns (λ c κs. search needs) (λ c. search needs) returns-2)

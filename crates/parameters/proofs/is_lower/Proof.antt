@@ -3,14 +3,8 @@ use borrow.Author.Needs.{needs}
 use Rattle.parameters.proofs.is_lower.Statement.{statement}
 use Rattle.parameters.proofs.is_lower.Tie as tie
 
-value-of-f32-requires : tie.Need-value-of-f32-requires
-value-of-f32-requires c κs = search needs
-
-value-of-f32-requires-2 : tie.Need-value-of-f32-requires-2
-value-of-f32-requires-2 c κs = search needs
-
 returns : tie.Need-returns
 returns c = rw (c .value-of-f322 .ensures, c .before .value-of-f32 .ensures)
 
 pub is-lower-spec : {M : Type 1} → statement M
-is-lower-spec = tie.close (tie.spec value-of-f32-requires value-of-f32-requires-2 returns)
+is-lower-spec = tie.close (tie.spec (λ c κs. search needs) (λ c κs. search needs) returns)

@@ -2,49 +2,22 @@
 use borrow.Author.Needs.{needs}
 use Rattle.parameters.specs.Bytes.{littleEndian}
 use Rattle.parameters.proofs.Read.{flagged-read, both-read}
-use Rattle.parameters.specs.Forms.{swingIn}
+use Rattle.parameters.specs.Forms.{swingFrom}
 use native.Mathlib.Omega.{arith}
 use mathlib.Core.Path.{sym, _∙_}
 use Rattle.parameters.proofs.swing_in.Statement.{statement}
 use Rattle.parameters.proofs.swing_in.Tie as tie
 
-enum-told : tie.Need-enum-told
-enum-told c = search needs
-
-ends-requires : tie.Need-ends-requires
-ends-requires c κs = search needs
-
-enum-told-2 : tie.Need-enum-told-2
-enum-told-2 c = search needs
-
-ends-requires-2 : tie.Need-ends-requires-2
-ends-requires-2 c κs = search needs
-
-enum-told-3 : tie.Need-enum-told-3
-enum-told-3 c = search needs
-
-enum-known-form : tie.Need-enum-known-form
-enum-known-form c = search needs
-
-by-flag-requires : tie.Need-by-flag-requires
-by-flag-requires c κs = search needs
-
-enum-known-form-2 : tie.Need-enum-known-form-2
-enum-known-form-2 c = search needs
-
-ends-requires-3 : tie.Need-ends-requires-3
-ends-requires-3 c κs = search needs
-
 returns : tie.Need-returns
-unfolding swingIn
+unfolding swingFrom
 returns c = rw (c .before .enum-told .given .1) (c .ends .ensures)
 
 returns-2 : tie.Need-returns-2
-unfolding swingIn
+unfolding swingFrom
 returns-2 c = rw (c .before .enum-told2 .given .1) (c .ends2 .ensures)
 
 returns-3 : tie.Need-returns-3
-unfolding swingIn littleEndian
+unfolding swingFrom littleEndian
 returns-3 c = rw (c .enum-told3 .given .1)
 
 returns-4 : tie.Need-returns-4
@@ -57,15 +30,15 @@ pub swing-in-spec : {M : Type 1} → statement M
 swing-in-spec =
     tie.close
     (tie.spec
-    enum-told
-    ends-requires
-    enum-told-2
-    ends-requires-2
-    enum-told-3
-    enum-known-form
-    by-flag-requires
-    enum-known-form-2
-    ends-requires-3
+    (λ c. search needs)
+    (λ c κs. search needs)
+    (λ c. search needs)
+    (λ c κs. search needs)
+    (λ c. search needs)
+    (λ c. search needs)
+    (λ c κs. search needs)
+    (λ c. search needs)
+    (λ c κs. search needs)
     returns
     returns-2
     returns-3

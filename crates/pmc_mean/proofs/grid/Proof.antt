@@ -1,27 +1,14 @@
 -- `pmc_mean::grid` meets its contract: a refusal leaves the output as it was. Assumes nothing.
 use mathlib.Core.Path.{_∙_}
-use Prim.Native.Nat.{ℕ}
 use borrow.Author.Tests.{ltb-false}
 use lib.ListN.{length}
 use denote.Ref.{now}
-use Rattle.models.specs.Answers.{refused}
+use Rattle.models.specs.Answers.{refused, keeping}
 use Rattle.models.proofs.Judged.{none-holds, when-passed, when-refused}
 use Rattle.pmc_mean.specs.Grid.{gridCauses, gridMemory}
 use borrow.Author.Needs.{needs}
 use Rattle.pmc_mean.proofs.grid.Statement.{statement}
 use Rattle.pmc_mean.proofs.grid.Tie as tie
-
-judge-grid-requires : tie.Need-judge-grid-requires
-judge-grid-requires c κs = search needs
-
-enum-known-r : tie.Need-enum-known-r
-enum-known-r c = search needs
-
-enum-told : tie.Need-enum-told
-enum-told c = search needs
-
-plain-requires : tie.Need-plain-requires
-plain-requires c κs = search needs
 
 fill-requires : tie.Need-fill-requires
 fill-requires c κs =
@@ -33,27 +20,24 @@ returns : tie.Need-returns
 unfolding gridMemory
 returns c =
     let a = c .before .before .before .before .before .args in
-    (when-refused _ _ (c .before .before .before .judge-grid .ensures) refused _ _ (c .before .r .given .1), when-refused _ _ (c .before .before .before .judge-grid .ensures) (λ (n : ℕ). now (a .out)) _ _ (c .before .r .given .1))
-
-same-length : tie.Need-same-length
-same-length c = search needs
+    (when-refused _ _ (c .before .before .before .judge-grid .ensures) refused _ _ (c .before .r .given .1), when-refused _ _ (c .before .before .before .judge-grid .ensures) (keeping (now (a .out))) _ _ (c .before .r .given .1))
 
 returns-2 : tie.Need-returns-2
 unfolding gridMemory
 returns-2 c =
     let a = c .before .before .before .before .before .before .before .before .before .args in
     let ok = c .before .before .before .before .before .enum-told .given .1 in
-    (when-passed _ _ (c .before .before .before .before .before .before .before .judge-grid .ensures) refused _ ok, c .before .before .fill .ensures ∙ rw (c .before .before .before .before .plain .ensures) (when-passed _ _ (c .before .before .before .before .before .before .before .judge-grid .ensures) (λ (n : ℕ). now (a .out)) _ ok))
+    (when-passed _ _ (c .before .before .before .before .before .before .before .judge-grid .ensures) refused _ ok, c .before .before .fill .ensures ∙ rw (c .before .before .before .before .plain .ensures) (when-passed _ _ (c .before .before .before .before .before .before .before .judge-grid .ensures) (keeping (now (a .out))) _ ok))
 
 pub grid-spec : {M : Type 1} → statement M
 grid-spec =
     tie.close
     (tie.spec
-    judge-grid-requires
-    enum-known-r
-    enum-told
-    plain-requires
+    (λ c κs. search needs)
+    (λ c. search needs)
+    (λ c. search needs)
+    (λ c κs. search needs)
     fill-requires
     returns
-    same-length
+    (λ c. search needs)
     returns-2)

@@ -1,6 +1,5 @@
 -- `swing::grid` meets its contract: a refusal leaves the output as it was. Assumes nothing.
 use mathlib.Core.Path.{_∙_, _≡_}
-use Prim.Native.Nat.{ℕ}
 use mir.Syntax.{w64}
 use mir.ValLaws.{toZ-ofZ}
 use borrow.Author.Needs.{needs}
@@ -8,9 +7,9 @@ use borrow.Author.Tests.{not-false, ltb-false}
 use lib.ListN.{length}
 use denote.Ref.{now}
 use Rattle.models.specs.Calls.{saysVerdict}
-use Rattle.models.specs.Answers.{refused, verdict}
-use Rattle.models.proofs.Judged.{NoneHolds, none-holds, when-passed, when-refused}
-use Rattle.models.proofs.Laws.{and-left, and-right}
+use Rattle.models.specs.Answers.{refused, verdict, keeping, NoneHolds}
+use Rattle.models.proofs.Judged.{none-holds, when-passed, when-refused}
+use Rattle.models.proofs.Tests.{and-left, and-right}
 use Rattle.lines.specs.Line.{pointOf}
 use Rattle.lines.specs.Values.{inTime}
 use Rattle.swing.specs.Grid.{gridCauses, gridMemory}
@@ -31,21 +30,6 @@ says c = rw (start (c .before .before), end (c .before)) at (c .judge-grid .ensu
 clear : (c : tie.After-enum-told) → NoneHolds (gridCauses (c .before .before .before .before .point-of .result) (c .before .before .before .point-of2 .result) (now (c .before .before .before .before .before .before .args .timestamps)) (length (now (c .before .before .before .before .before .before .args .out))))
 clear c = none-holds _ _ (c .before .before .judge-grid .ensures) (c .enum-told .given .1)
 
-point-of-requires : tie.Need-point-of-requires
-point-of-requires c κs = search needs
-
-point-of-requires-2 : tie.Need-point-of-requires-2
-point-of-requires-2 c κs = search needs
-
-judge-grid-requires : tie.Need-judge-grid-requires
-judge-grid-requires c κs = search needs
-
-enum-known-r : tie.Need-enum-known-r
-enum-known-r c = search needs
-
-enum-told : tie.Need-enum-told
-enum-told c = search needs
-
 line-through-requires : tie.Need-line-through-requires
 line-through-requires c κs =
     let none = clear c in
@@ -60,28 +44,25 @@ draw-requires c κs =
 returns : tie.Need-returns
 unfolding gridMemory
 returns c =
-    (when-refused _ _ (says (c .before .before .before)) refused _ _ (c .before .r .given .1), when-refused _ _ (says (c .before .before .before)) (λ (n : ℕ). now (c .before .before .before .before .before .before .before .args .out)) _ _ (c .before .r .given .1))
-
-same-length : tie.Need-same-length
-same-length c = search needs
+    (when-refused _ _ (says (c .before .before .before)) refused _ _ (c .before .r .given .1), when-refused _ _ (says (c .before .before .before)) (keeping (now (c .before .before .before .before .before .before .before .args .out))) _ _ (c .before .r .given .1))
 
 returns-2 : tie.Need-returns-2
 unfolding gridMemory
 returns-2 c =
     let v = says (c .before .before .before .before .before .before .before) in
-    (when-passed _ _ v refused _ (c .before .before .before .before .before .enum-told .given .1), c .before .before .draw .ensures ∙ rw (c .before .before .before .before .line-through .ensures, start (c .before .before .before .before .before .before .before .before .before), end (c .before .before .before .before .before .before .before .before)) (when-passed _ _ v (λ (n : ℕ). now (c .before .before .before .before .before .before .before .before .before .before .before .args .out)) _ (c .before .before .before .before .before .enum-told .given .1)))
+    (when-passed _ _ v refused _ (c .before .before .before .before .before .enum-told .given .1), c .before .before .draw .ensures ∙ rw (c .before .before .before .before .line-through .ensures, start (c .before .before .before .before .before .before .before .before .before), end (c .before .before .before .before .before .before .before .before)) (when-passed _ _ v (keeping (now (c .before .before .before .before .before .before .before .before .before .before .before .args .out))) _ (c .before .before .before .before .before .enum-told .given .1)))
 
 pub grid-spec : {M : Type 1} → statement M
 grid-spec =
     tie.close
     (tie.spec
-    point-of-requires
-    point-of-requires-2
-    judge-grid-requires
-    enum-known-r
-    enum-told
+    (λ c κs. search needs)
+    (λ c κs. search needs)
+    (λ c κs. search needs)
+    (λ c. search needs)
+    (λ c. search needs)
     line-through-requires
     draw-requires
     returns
-    same-length
+    (λ c. search needs)
     returns-2)

@@ -4,32 +4,9 @@ use Rattle.models.specs.Answers.{judge}
 use Rattle.swing.proofs.judge_average.Statement.{statement}
 use Rattle.swing.proofs.judge_average.Tie as tie
 
-no-line-requires : tie.Need-no-line-requires
-no-line-requires c κs = search needs
-
-when-requires : tie.Need-when-requires
-when-requires c κs = search needs
-
-in-time-requires : tie.Need-in-time-requires
-in-time-requires c κs = search needs
-
-when-requires-2 : tie.Need-when-requires-2
-when-requires-2 c κs = search needs
-
-when-requires-3 : tie.Need-when-requires-3
-when-requires-3 c κs = search needs
-
 returns : tie.Need-returns
 unfolding judge
-returns c = rw (c .when3 .ensures, c .before .when2 .ensures, c .before .before .in-time .ensures, c .before .before .before .when .ensures, c .before .before .before .before .no-line .ensures)
+returns c = rw (c .when .ensures, c .before .judge-line .ensures, c .before .before .in-time .ensures)
 
 pub judge-average-spec : {M : Type 1} → statement M
-judge-average-spec =
-    tie.close
-    (tie.spec
-    no-line-requires
-    when-requires
-    in-time-requires
-    when-requires-2
-    when-requires-3
-    returns)
+judge-average-spec = tie.close (tie.spec (λ c κs. search needs) (λ c κs. search needs) (λ c κs. search needs) returns)

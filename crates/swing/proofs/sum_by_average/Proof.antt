@@ -4,9 +4,10 @@ use mir.Syntax.{w64}
 use mir.ValLaws.{toZ-ofZ}
 use borrow.Author.Needs.{needs}
 use borrow.Author.Tests.{not-false, ltb-false}
+use Rattle.models.specs.Limits.{mostValues}
 use Rattle.models.specs.Calls.{saysVerdict}
-use Rattle.models.specs.Answers.{refused, verdict}
-use Rattle.models.proofs.Judged.{NoneHolds, none-holds, when-passed, when-refused}
+use Rattle.models.specs.Answers.{refused, verdict, NoneHolds}
+use Rattle.models.proofs.Judged.{none-holds, when-passed, when-refused}
 use Rattle.lines.specs.Line.{pointOf}
 use Rattle.swing.specs.Grid.{averageCauses, averageAnswer}
 use Rattle.swing.proofs.sum_by_average.Statement.{statement}
@@ -25,25 +26,10 @@ says c = rw (start (c .before .before), end (c .before)) at (c .judge-average .e
 clear : (c : tie.After-enum-told) → NoneHolds (averageCauses (c .before .before .before .before .point-of .result) (c .before .before .before .point-of2 .result) (c .before .before .before .before .before .args .count))
 clear c = none-holds _ _ (c .before .before .judge-average .ensures) (c .enum-told .given .1)
 
-point-of-requires : tie.Need-point-of-requires
-point-of-requires c κs = search needs
-
-point-of-requires-2 : tie.Need-point-of-requires-2
-point-of-requires-2 c κs = search needs
-
-judge-average-requires : tie.Need-judge-average-requires
-judge-average-requires c κs = search needs
-
-enum-known-r : tie.Need-enum-known-r
-enum-known-r c = search needs
-
-enum-told : tie.Need-enum-told
-enum-told c = search needs
-
 average-sum-requires : tie.Need-average-sum-requires
 average-sum-requires c κs =
     let none = clear c in
-    (not-false _ (none .1 .0), ltb-false 65536 (c .before .before .before .before .before .args .count) (none .0))
+    (not-false _ (none .1 .0), ltb-false mostValues (c .before .before .before .before .before .args .count) (none .0))
 
 returns : tie.Need-returns
 unfolding averageAnswer
@@ -57,11 +43,11 @@ pub sum-by-average-spec : {M : Type 1} → statement M
 sum-by-average-spec =
     tie.close
     (tie.spec
-    point-of-requires
-    point-of-requires-2
-    judge-average-requires
-    enum-known-r
-    enum-told
+    (λ c κs. search needs)
+    (λ c κs. search needs)
+    (λ c κs. search needs)
+    (λ c. search needs)
+    (λ c. search needs)
     average-sum-requires
     returns
     returns-2)

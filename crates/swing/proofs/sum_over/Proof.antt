@@ -6,9 +6,9 @@ use borrow.Author.Needs.{needs}
 use borrow.Author.Tests.{not-false}
 use denote.Ref.{now}
 use Rattle.models.specs.Calls.{saysVerdict}
-use Rattle.models.specs.Answers.{refused, verdict}
-use Rattle.models.proofs.Judged.{NoneHolds, none-holds, when-passed, when-refused}
-use Rattle.models.proofs.Laws.{and-left, and-right}
+use Rattle.models.specs.Answers.{refused, verdict, NoneHolds}
+use Rattle.models.proofs.Judged.{none-holds, when-passed, when-refused}
+use Rattle.models.proofs.Tests.{and-left, and-right}
 use Rattle.lines.specs.Line.{pointOf}
 use Rattle.lines.specs.Values.{inTime}
 use Rattle.swing.specs.Grid.{sumCauses, sumAnswer}
@@ -29,21 +29,6 @@ says c = rw (start (c .before .before), end (c .before)) at (c .judge-sum .ensur
 clear : (c : tie.After-enum-told) → NoneHolds (sumCauses (c .before .before .before .before .point-of .result) (c .before .before .before .point-of2 .result) (now (c .before .before .before .before .before .args .timestamps)))
 clear c = none-holds _ _ (c .before .before .judge-sum .ensures) (c .enum-told .given .1)
 
-point-of-requires : tie.Need-point-of-requires
-point-of-requires c κs = search needs
-
-point-of-requires-2 : tie.Need-point-of-requires-2
-point-of-requires-2 c κs = search needs
-
-judge-sum-requires : tie.Need-judge-sum-requires
-judge-sum-requires c κs = search needs
-
-enum-known-r : tie.Need-enum-known-r
-enum-known-r c = search needs
-
-enum-told : tie.Need-enum-told
-enum-told c = search needs
-
 line-through-requires : tie.Need-line-through-requires
 line-through-requires c κs =
     let none = clear c in
@@ -54,9 +39,6 @@ total-requires : tie.Need-total-requires
 total-requires c κs =
     let none = clear (c .before) in
     and-right (inTime (c .before .before .before .before .before .point-of .result) (c .before .before .before .before .point-of2 .result)) _ (not-false _ (none .1 .0))
-
-answered-requires : tie.Need-answered-requires
-answered-requires c κs = search needs
 
 returns : tie.Need-returns
 unfolding sumAnswer
@@ -70,13 +52,13 @@ pub sum-over-spec : {M : Type 1} → statement M
 sum-over-spec =
     tie.close
     (tie.spec
-    point-of-requires
-    point-of-requires-2
-    judge-sum-requires
-    enum-known-r
-    enum-told
+    (λ c κs. search needs)
+    (λ c κs. search needs)
+    (λ c κs. search needs)
+    (λ c. search needs)
+    (λ c. search needs)
     line-through-requires
     total-requires
-    answered-requires
+    (λ c κs. search needs)
     returns
     returns-2)

@@ -24,15 +24,6 @@ abbrev μ-loop : tie.MeasureT-loop
 loop-holds : tie.Need-loop-holds Inv-loop μ-loop
 loop-holds c = (search needs, after-all _)
 
-mul-t : tie.Need-mul-t Inv-loop μ-loop
-mul-t c = search needs
-
-shared-slice-copy-out-t : tie.Need-shared-slice-copy-out-t Inv-loop μ-loop
-shared-slice-copy-out-t c = search needs
-
-allowed-requires : tie.Need-allowed-requires Inv-loop μ-loop
-allowed-requires c κs = search needs
-
 returns : tie.Need-returns Inv-loop μ-loop
 returns c =
     let ts = now (c .before .before .before .before .before .args .ts) in
@@ -41,9 +32,6 @@ returns c =
     let zt = toZ-ofZ w64 (getD ts (l .i) (pos 0)) (search needs) in
     let ok = rw zt at (c .before .allowed .ensures) in
     rw (l .inv .1, after-here (toZ w64 (l .last)) ts (l .i) h, ← ok, not-true (c .before .allowed .result) (c .if1 .taken))
-
-earlier-requires : tie.Need-earlier-requires Inv-loop μ-loop
-earlier-requires c κs = search needs
 
 returns-2 : tie.Need-returns-2 Inv-loop μ-loop
 returns-2 c =
@@ -54,12 +42,6 @@ returns-2 c =
     let ok = rw zt at (c .before .before .before .allowed .ensures) in
     let up = rw zt at (c .before .earlier .ensures) in
     rw (l .inv .1, after-here (toZ w64 (l .last)) ts (l .i) h, ← ok, not-false (c .before .before .before .allowed .result) (c .before .before .if1 .left), ← up, not-true (c .before .earlier .result) (c .if2 .taken))
-
-add-i : tie.Need-add-i Inv-loop μ-loop
-add-i c = search needs
-
-loop-less : tie.Need-loop-less Inv-loop μ-loop
-loop-less c = search needs
 
 loop-again : tie.Need-loop-again Inv-loop μ-loop
 loop-again c =
@@ -85,13 +67,13 @@ in-order-spec =
     Inv-loop
     μ-loop
     loop-holds
-    mul-t
-    shared-slice-copy-out-t
-    allowed-requires
+    (λ c. search needs)
+    (λ c. search needs)
+    (λ c κs. search needs)
     returns
-    earlier-requires
+    (λ c κs. search needs)
     returns-2
-    add-i
-    loop-less
+    (λ c. search needs)
+    (λ c. search needs)
     loop-again
     returns-3)

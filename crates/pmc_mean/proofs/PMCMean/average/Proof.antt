@@ -11,12 +11,9 @@ int-to-float-narrow : tie.Need-int-to-float-narrow
 unfolding Ieee.inFloat
 int-to-float-narrow c = le→leb (c .before .args .self .length) 9007199254740992 (omega arith)
 
-narrow-requires : tie.Need-narrow-requires
-narrow-requires c κs = search needs
-
 returns : tie.Need-returns
 unfolding average
 returns c = c .narrow .ensures
 
 pub average-spec : {M : Type 1} → statement M
-average-spec = tie.close (tie.spec int-to-float-narrow narrow-requires returns)
+average-spec = tie.close (tie.spec int-to-float-narrow (λ c κs. search needs) returns)

@@ -1,9 +1,9 @@
 -- `PMCMean::bytes_per_value` meets its contract. Assumes nothing.
 use mathlib.Core.Path.{_≡_}
-use Prim.Native.Nat.{ℕ}
 use native.Mathlib.Omega.{arith}
 use borrow.Author.Tests.{leb-true}
-use Rattle.models.specs.Answers.{refusedOn, verdict}
+use Rattle.models.specs.Limits.{mostValues}
+use Rattle.models.specs.Answers.{verdict, refusing}
 use Rattle.models.specs.Calls.{saysVerdict}
 use Rattle.models.proofs.Judged.{none-holds, when-passed, when-refused, has-cost}
 use Rattle.pmc_mean.specs.State.{usable}
@@ -16,42 +16,30 @@ use Rattle.pmc_mean.proofs.PMCMean.bytes_per_value.Tie as tie
 says : (c : tie.After-judge-cost) → saysVerdict (c .judge-cost .result) ≡ verdict (costCauses (c .before .before .args .self) (c .before .before .args .m))
 says c = rw (c .before .usable .ensures) at (c .judge-cost .ensures)
 
-usable-requires : tie.Need-usable-requires
-usable-requires c κs = search needs
-
-judge-cost-requires : tie.Need-judge-cost-requires
-judge-cost-requires c κs = search needs
-
-enum-known-r : tie.Need-enum-known-r
-enum-known-r c = search needs
-
-enum-told : tie.Need-enum-told
-enum-told c = search needs
-
 cost-requires : tie.Need-cost-requires
 cost-requires c κs =
     let a = c .before .before .before .before .args in
     let s = a .self in
     let ok = has-cost (s .«error_bound») (usable s) (s .length) (a .m) (none-holds _ _ (says (c .before .before)) (c .enum-told .given .1)) in
-    let small = leb-true (s .length) 65536 (ok .0) in
+    let small = leb-true (s .length) mostValues (ok .0) in
     (omega (arith, ok .2), small)
 
 returns : tie.Need-returns
 unfolding costAnswer
-returns c = when-refused _ _ (says (c .before .before .before)) (λ (n : ℕ). refusedOn n (c .before .before .before .before .before .args .self)) _ _ (c .before .r .given .1)
+returns c = when-refused _ _ (says (c .before .before .before)) (refusing (c .before .before .before .before .before .args .self)) _ _ (c .before .r .given .1)
 
 returns-2 : tie.Need-returns-2
 unfolding costAnswer
-returns-2 c = rw (c .cost .ensures) (when-passed _ _ (says (c .before .before .before)) (λ (n : ℕ). refusedOn n (c .before .before .before .before .before .args .self)) _ (c .before .enum-told .given .1))
+returns-2 c = rw (c .cost .ensures) (when-passed _ _ (says (c .before .before .before)) (refusing (c .before .before .before .before .before .args .self)) _ (c .before .enum-told .given .1))
 
 pub bytes-per-value-spec : {M : Type 1} → statement M
 bytes-per-value-spec =
     tie.close
     (tie.spec
-    usable-requires
-    judge-cost-requires
-    enum-known-r
-    enum-told
+    (λ c κs. search needs)
+    (λ c κs. search needs)
+    (λ c. search needs)
+    (λ c. search needs)
     cost-requires
     returns
     returns-2)

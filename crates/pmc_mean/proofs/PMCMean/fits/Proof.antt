@@ -5,18 +5,9 @@ use borrow.Author.Needs.{needs}
 use Rattle.pmc_mean.proofs.PMCMean.fits.Statement.{statement}
 use Rattle.pmc_mean.proofs.PMCMean.fits.Tie as tie
 
-average-requires : tie.Need-average-requires
-average-requires c κs = search needs
-
-within-requires : tie.Need-within-requires
-within-requires c κs = search needs
-
 returns : tie.Need-returns
 unfolding fits
 returns c = rw (← c .before .before .average .ensures, ← c .before .within .ensures, not-true (c .before .within .result) (c .if1 .taken))
-
-within-requires-2 : tie.Need-within-requires-2
-within-requires-2 c κs = search needs
 
 returns-2 : tie.Need-returns-2
 unfolding fits
@@ -24,4 +15,4 @@ returns-2 c = rw (← c .before .before .before .average .ensures, ← c .before
 
 pub fits-spec : {M : Type 1} → statement M
 fits-spec =
-    tie.close (tie.spec average-requires within-requires returns within-requires-2 returns-2)
+    tie.close (tie.spec (λ c κs. search needs) (λ c κs. search needs) returns (λ c κs. search needs) returns-2)

@@ -1,7 +1,7 @@
 -- `Swing::bytes_per_value` meets its contract. Assumes nothing.
 use mathlib.Core.Path.{_≡_}
-use Prim.Native.Nat.{ℕ}
-use Rattle.models.specs.Answers.{refusedOn, verdict}
+use Rattle.models.specs.Limits.{mostMetadata}
+use Rattle.models.specs.Answers.{verdict, refusing}
 use Rattle.models.specs.Calls.{saysVerdict}
 use mathlib.Core.Bool.{true}
 use Prim.Native.Nat.{_≤_}
@@ -18,22 +18,10 @@ use Rattle.swing.proofs.Swing.bytes_per_value.Tie as tie
 says : (c : tie.After-judge-cost) → saysVerdict (c .judge-cost .result) ≡ verdict (costCauses (c .before .before .args .self) (c .before .before .args .m))
 says c = rw (c .before .usable .ensures) at (c .judge-cost .ensures)
 
-clear : (c : tie.After-enum-told) → (usable (c .before .before .before .before .args .self) ≡ true) × (c .before .before .before .before .args .self .length ≡ 0 → ⊥) × (c .before .before .before .before .args .m ≤ 65535)
+clear : (c : tie.After-enum-told) → (usable (c .before .before .before .before .args .self) ≡ true) × (c .before .before .before .before .args .self .length ≡ 0 → ⊥) × (c .before .before .before .before .args .m ≤ mostMetadata)
 clear c =
     let s = c .before .before .before .before .args .self in
     has-cost (s .«error_bound») (usable s) (s .length) (c .before .before .before .before .args .m) (none-holds _ _ (says (c .before .before)) (c .enum-told .given .1))
-
-usable-requires : tie.Need-usable-requires
-usable-requires c κs = search needs
-
-judge-cost-requires : tie.Need-judge-cost-requires
-judge-cost-requires c κs = search needs
-
-enum-known-r : tie.Need-enum-known-r
-enum-known-r c = search needs
-
-enum-told : tie.Need-enum-told
-enum-told c = search needs
 
 add-cost : tie.Need-add-cost
 add-cost c =
@@ -47,20 +35,20 @@ cost-requires c κs =
 
 returns : tie.Need-returns
 unfolding costAnswer
-returns c = when-refused _ _ (says (c .before .before .before)) (λ (n : ℕ). refusedOn n (c .before .before .before .before .before .args .self)) _ _ (c .before .r .given .1)
+returns c = when-refused _ _ (says (c .before .before .before)) (refusing (c .before .before .before .before .before .args .self)) _ _ (c .before .r .given .1)
 
 returns-2 : tie.Need-returns-2
 unfolding costAnswer
-returns-2 c = rw (c .cost .ensures) (when-passed _ _ (says (c .before .before .before)) (λ (n : ℕ). refusedOn n (c .before .before .before .before .before .args .self)) _ (c .before .enum-told .given .1))
+returns-2 c = rw (c .cost .ensures) (when-passed _ _ (says (c .before .before .before)) (refusing (c .before .before .before .before .before .args .self)) _ (c .before .enum-told .given .1))
 
 pub bytes-per-value-spec : {M : Type 1} → statement M
 bytes-per-value-spec =
     tie.close
     (tie.spec
-    usable-requires
-    judge-cost-requires
-    enum-known-r
-    enum-told
+    (λ c κs. search needs)
+    (λ c κs. search needs)
+    (λ c. search needs)
+    (λ c. search needs)
     add-cost
     cost-requires
     returns

@@ -2,16 +2,15 @@
 use mathlib.Core.Path.{_≡_, ap, _∙_}
 use mathlib.Core.Bool.{not}
 use mathlib.Core.List.{[], _∷_}
-use Prim.Native.Nat.{ℕ}
 use mir.Syntax.{w64}
 use mir.ValLaws.{toZ-ofZ}
 use borrow.Author.Tests.{not-false}
 use Rattle.models.specs.Calls.{saysVerdict}
-use Rattle.models.specs.Answers.{answeredOn, refusedOn, verdict, _when_}
+use Rattle.models.specs.Answers.{answeredOn, verdict, _when_, refusing}
 use Rattle.models.proofs.Judged.{none-holds, when-passed, when-refused, steps}
 use Rattle.lines.specs.Line.{pointOf}
 use Rattle.swing.specs.State.{usable, timeFollows}
-use Rattle.swing.specs.Step.{stepOf}
+use Rattle.swing.specs.inner.Steps.{stepOf}
 use Rattle.swing.specs.Calls.{fitCauses, fitAnswer}
 use Rattle.swing.proofs.Allowed.{length-below, follows-allowed}
 use borrow.Author.Needs.{needs}
@@ -28,19 +27,7 @@ says c = rw (point (c .before)) at (c .judge-fit .ensures)
 stepped : (c : tie.After-tried) → answeredOn (stepOf (c .tried .result)) ≡ fitAnswer (c .before .before .before .before .before .args .self) (c .before .before .before .before .before .args .timestamp) (c .before .before .before .before .before .args .value)
 unfolding fitAnswer
 stepped c =
-    ap answeredOn (c .tried .ensures) ∙ rw (point (c .before .before .before .before)) (when-passed _ _ (says (c .before .before .before)) (λ (n : ℕ). refusedOn n (c .before .before .before .before .before .args .self)) _ (c .before .enum-told .given .1))
-
-point-of-requires : tie.Need-point-of-requires
-point-of-requires c κs = search needs
-
-judge-fit-requires : tie.Need-judge-fit-requires
-judge-fit-requires c κs = search needs
-
-enum-known-r : tie.Need-enum-known-r
-enum-known-r c = search needs
-
-enum-told : tie.Need-enum-told
-enum-told c = search needs
+    ap answeredOn (c .tried .ensures) ∙ rw (point (c .before .before .before .before)) (when-passed _ _ (says (c .before .before .before)) (refusing (c .before .before .before .before .before .args .self)) _ (c .before .enum-told .given .1))
 
 tried-requires : tie.Need-tried-requires
 tried-requires c κs =
@@ -51,7 +38,7 @@ tried-requires c κs =
 
 returns : tie.Need-returns
 unfolding fitAnswer
-returns c = when-refused _ _ (says (c .before .before .before)) (λ (n : ℕ). refusedOn n (c .before .before .before .before .before .args .self)) _ _ (c .before .r .given .1)
+returns c = when-refused _ _ (says (c .before .before .before)) (refusing (c .before .before .before .before .before .args .self)) _ _ (c .before .r .given .1)
 
 returns-2 : tie.Need-returns-2
 returns-2 c = rw (c .if1 .taken) at (stepped (c .before .before))
@@ -63,10 +50,10 @@ pub fit-data-point-spec : {M : Type 1} → statement M
 fit-data-point-spec =
     tie.close
     (tie.spec
-    point-of-requires
-    judge-fit-requires
-    enum-known-r
-    enum-told
+    (λ c κs. search needs)
+    (λ c κs. search needs)
+    (λ c. search needs)
+    (λ c. search needs)
     tried-requires
     returns
     returns-2

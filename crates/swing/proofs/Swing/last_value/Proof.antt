@@ -7,18 +7,6 @@ use Rattle.lines.proofs.Exact.{time-fits}
 use Rattle.swing.proofs.Swing.last_value.Statement.{statement}
 use Rattle.swing.proofs.Swing.last_value.Tie as tie
 
-sums-requires : tie.Need-sums-requires
-sums-requires c κs = search needs
-
-min-f64-requires : tie.Need-min-f64-requires
-min-f64-requires c κs = search needs
-
-max-f64-requires : tie.Need-max-f64-requires
-max-f64-requires c κs = search needs
-
-span-requires : tie.Need-span-requires
-span-requires c κs = search needs
-
 returns : tie.Need-returns
 unfolding lastValue
 returns c =
@@ -27,4 +15,4 @@ returns c =
 
 pub last-value-spec : {M : Type 1} → statement M
 last-value-spec =
-    tie.close (tie.spec sums-requires min-f64-requires max-f64-requires span-requires returns)
+    tie.close (tie.spec (λ c κs. search needs) (λ c κs. search needs) (λ c κs. search needs) (λ c κs. search needs) returns)

@@ -16,24 +16,6 @@ at c =
     let z = toZ-ofZ w64 (c .before .before .before .before .before .before .before .before .args .p .time) (time-fits _ (c .before .before .before .before .before .before .before .before .pre .1 .1)) in
     (rw (z, c .before .before .before .before .before .before .before .upper-line .ensures) at (c .before .before .before .before .before .value-at .ensures), rw (z, c .before .before .before .before .lower-line .ensures) at (c .before .before .value-at2 .ensures))
 
-upper-line-requires : tie.Need-upper-line-requires
-upper-line-requires c κs = search needs
-
-value-at-requires : tie.Need-value-at-requires
-value-at-requires c κs = search needs
-
-lower-line-requires : tie.Need-lower-line-requires
-lower-line-requires c κs = search needs
-
-value-at-requires-2 : tie.Need-value-at-requires-2
-value-at-requires-2 c κs = search needs
-
-swung-requires : tie.Need-swung-requires
-swung-requires c κs = search needs
-
-fitting-requires : tie.Need-fitting-requires
-fitting-requires c κs = search needs
-
 returns : tie.Need-returns
 unfolding later laterAt
 returns c =
@@ -50,11 +32,11 @@ pub later-spec : {M : Type 1} → statement M
 later-spec =
     tie.close
     (tie.spec
-    upper-line-requires
-    value-at-requires
-    lower-line-requires
-    value-at-requires-2
-    swung-requires
-    fitting-requires
+    (λ c κs. search needs)
+    (λ c κs. search needs)
+    (λ c κs. search needs)
+    (λ c κs. search needs)
+    (λ c κs. search needs)
+    (λ c κs. search needs)
     returns
     returns-2)

@@ -1,7 +1,6 @@
 -- `Swing::model` meets its contract. Assumes nothing.
 use mathlib.Core.Path.{_≡_}
-use Prim.Native.Nat.{ℕ}
-use Rattle.models.specs.Answers.{refusedOn, verdict}
+use Rattle.models.specs.Answers.{verdict, refusing}
 use Rattle.models.specs.Calls.{saysVerdict}
 use Rattle.models.proofs.Judged.{none-holds, when-passed, when-refused, has-model}
 use Rattle.swing.specs.State.{usable}
@@ -15,50 +14,32 @@ use Rattle.swing.proofs.Swing.model.Tie as tie
 says : (c : tie.After-judge-model) → saysVerdict (c .judge-model .result) ≡ verdict (modelCauses (c .before .before .args .self))
 says c = rw (c .before .usable .ensures) at (c .judge-model .ensures)
 
-usable-requires : tie.Need-usable-requires
-usable-requires c κs = search needs
-
-judge-model-requires : tie.Need-judge-model-requires
-judge-model-requires c κs = search needs
-
-enum-known-r : tie.Need-enum-known-r
-enum-known-r c = search needs
-
-enum-told : tie.Need-enum-told
-enum-told c = search needs
-
-answered-requires : tie.Need-answered-requires
-answered-requires c κs = search needs
-
 last-value-requires : tie.Need-last-value-requires
 last-value-requires c κs =
     let s = c .before .before .before .before .before .args .self in
     let ok = has-model (s .«error_bound») (usable s) (s .length) (none-holds _ _ (says (c .before .before .before)) (c .before .enum-told .given .1)) in
     (start-allowed s (ok .0) (ok .1), end-allowed s (ok .0) (ok .1))
 
-answered-requires-2 : tie.Need-answered-requires-2
-answered-requires-2 c κs = search needs
-
 returns : tie.Need-returns
 unfolding modelAnswer
-returns c = when-refused _ _ (says (c .before .before .before)) (λ (n : ℕ). refusedOn n (c .before .before .before .before .before .args .self)) _ _ (c .before .r .given .1)
+returns c = when-refused _ _ (says (c .before .before .before)) (refusing (c .before .before .before .before .before .args .self)) _ _ (c .before .r .given .1)
 
 returns-2 : tie.Need-returns-2
 unfolding modelAnswer
 returns-2 c =
     rw (c .before .before .answered .ensures, c .answered2 .ensures, c .before .last-value .ensures)
-    (when-passed _ _ (says (c .before .before .before .before .before)) (λ (n : ℕ). refusedOn n (c .before .before .before .before .before .before .before .args .self)) _ (c .before .before .before .enum-told .given .1))
+    (when-passed _ _ (says (c .before .before .before .before .before)) (refusing (c .before .before .before .before .before .before .before .args .self)) _ (c .before .before .before .enum-told .given .1))
 
 pub model-spec : {M : Type 1} → statement M
 model-spec =
     tie.close
     (tie.spec
-    usable-requires
-    judge-model-requires
-    enum-known-r
-    enum-told
-    answered-requires
+    (λ c κs. search needs)
+    (λ c κs. search needs)
+    (λ c. search needs)
+    (λ c. search needs)
+    (λ c κs. search needs)
     last-value-requires
-    answered-requires-2
+    (λ c κs. search needs)
     returns
     returns-2)

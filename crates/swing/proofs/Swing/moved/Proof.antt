@@ -4,12 +4,9 @@ use Rattle.swing.specs.Step.{moved}
 use Rattle.swing.proofs.Swing.moved.Statement.{statement}
 use Rattle.swing.proofs.Swing.moved.Tie as tie
 
-add-s : tie.Need-add-s
-add-s c = search needs
-
 returns : tie.Need-returns
 unfolding moved
 returns c = search needs
 
 pub moved-spec : {M : Type 1} → statement M
-moved-spec = tie.close (tie.spec add-s returns)
+moved-spec = tie.close (tie.spec (λ c. search needs) returns)

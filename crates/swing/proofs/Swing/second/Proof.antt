@@ -4,26 +4,11 @@ use Rattle.swing.specs.Step.{second}
 use Rattle.swing.proofs.Swing.second.Statement.{statement}
 use Rattle.swing.proofs.Swing.second.Tie as tie
 
-first-point-requires : tie.Need-first-point-requires
-first-point-requires c κs = search needs
-
-raised-requires : tie.Need-raised-requires
-raised-requires c κs = search needs
-
 line-through-requires : tie.Need-line-through-requires
 line-through-requires c κs = rw (c .before .first-point .ensures, c .raised .ensures) (c .before .before .pre .1 .0, c .before .before .pre .1 .1)
 
-lowered-requires : tie.Need-lowered-requires
-lowered-requires c κs = search needs
-
 line-through-requires-2 : tie.Need-line-through-requires-2
 line-through-requires-2 c κs = rw (c .before .before .before .first-point .ensures, c .lowered .ensures) (c .before .before .before .before .pre .1 .0, c .before .before .before .before .pre .1 .1)
-
-sums-requires : tie.Need-sums-requires
-sums-requires c κs = search needs
-
-moved-requires : tie.Need-moved-requires
-moved-requires c κs = search needs
 
 returns : tie.Need-returns
 unfolding second
@@ -33,11 +18,11 @@ pub second-spec : {M : Type 1} → statement M
 second-spec =
     tie.close
     (tie.spec
-    first-point-requires
-    raised-requires
+    (λ c κs. search needs)
+    (λ c κs. search needs)
     line-through-requires
-    lowered-requires
+    (λ c κs. search needs)
     line-through-requires-2
-    sums-requires
-    moved-requires
+    (λ c κs. search needs)
+    (λ c κs. search needs)
     returns)

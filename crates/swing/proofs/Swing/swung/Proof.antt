@@ -4,35 +4,14 @@ use borrow.Author.Needs.{needs}
 use Rattle.swing.proofs.Swing.swung.Statement.{statement}
 use Rattle.swing.proofs.Swing.swung.Tie as tie
 
-raised-requires : tie.Need-raised-requires
-raised-requires c κs = search needs
-
-upper-line-requires : tie.Need-upper-line-requires
-upper-line-requires c κs = search needs
-
 swung-to-requires : tie.Need-swung-to-requires
 swung-to-requires c κs = rw (c .before .raised .ensures) (c .before .before .before .pre .1 .0, c .before .before .before .pre .1 .1)
-
-lowered-requires : tie.Need-lowered-requires
-lowered-requires c κs = search needs
-
-lower-line-requires : tie.Need-lower-line-requires
-lower-line-requires c κs = search needs
 
 swung-to-requires-2 : tie.Need-swung-to-requires-2
 swung-to-requires-2 c κs = rw (c .before .lowered .ensures) (c .before .before .before .before .before .before .before .pre .1 .0, c .before .before .before .before .before .before .before .pre .1 .1)
 
-sums-requires : tie.Need-sums-requires
-sums-requires c κs = search needs
-
-first-point-requires : tie.Need-first-point-requires
-first-point-requires c κs = search needs
-
 terms-of-requires : tie.Need-terms-of-requires
 terms-of-requires c κs = rw (c .first-point .ensures) (c .before .before .before .before .before .before .before .before .before .before .pre .1 .0, c .before .before .before .before .before .before .before .before .before .before .pre .1 .1)
-
-added-requires : tie.Need-added-requires
-added-requires c κs = search needs
 
 moved-requires : tie.Need-moved-requires
 moved-requires c κs = c .before .before .before .before .before .before .before .before .before .before .before .before .pre .0
@@ -45,15 +24,15 @@ pub swung-spec : {M : Type 1} → statement M
 swung-spec =
     tie.close
     (tie.spec
-    raised-requires
-    upper-line-requires
+    (λ c κs. search needs)
+    (λ c κs. search needs)
     swung-to-requires
-    lowered-requires
-    lower-line-requires
+    (λ c κs. search needs)
+    (λ c κs. search needs)
     swung-to-requires-2
-    sums-requires
-    first-point-requires
+    (λ c κs. search needs)
+    (λ c κs. search needs)
     terms-of-requires
-    added-requires
+    (λ c κs. search needs)
     moved-requires
     returns)

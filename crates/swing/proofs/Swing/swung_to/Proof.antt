@@ -3,9 +3,6 @@ use borrow.Author.Needs.{needs}
 use Rattle.swing.proofs.Swing.swung_to.Statement.{statement}
 use Rattle.swing.proofs.Swing.swung_to.Tie as tie
 
-first-point-requires : tie.Need-first-point-requires
-first-point-requires c κs = search needs
-
 line-through-requires : tie.Need-line-through-requires
 line-through-requires c κs = rw (c .first-point .ensures) (c .before .before .pre .0, c .before .before .pre .1)
 
@@ -16,4 +13,4 @@ returns-2 : tie.Need-returns-2
 returns-2 c = rw (c .if1 .left)
 
 pub swung-to-spec : {M : Type 1} → statement M
-swung-to-spec = tie.close (tie.spec first-point-requires line-through-requires returns returns-2)
+swung-to-spec = tie.close (tie.spec (λ c κs. search needs) line-through-requires returns returns-2)

@@ -6,34 +6,16 @@ use borrow.Author.Needs.{needs}
 use Rattle.swing.proofs.Swing.tried.Statement.{statement}
 use Rattle.swing.proofs.Swing.tried.Tie as tie
 
-opened-requires : tie.Need-opened-requires
-opened-requires c κs = search needs
-
-fitting-requires : tie.Need-fitting-requires
-fitting-requires c κs = search needs
-
 returns : tie.Need-returns
 unfolding tried
 returns c = rw (eq-eqb (c .before .before .before .args .self .length) 0 (c .before .before .if1 .taken), c .fitting .ensures, c .before .opened .ensures)
-
-both-finite-requires : tie.Need-both-finite-requires
-both-finite-requires c κs = search needs
-
-flat-requires : tie.Need-flat-requires
-flat-requires c κs = search needs
 
 returns-2 : tie.Need-returns-2
 unfolding tried
 returns-2 c = rw (ne-eqb (c .before .before .before .before .args .self .length) 0 (c .before .before .before .if1 .left), ← c .before .before .both-finite .ensures, c .before .if2 .taken) (c .flat .ensures)
 
-deviation-requires : tie.Need-deviation-requires
-deviation-requires c κs = search needs
-
 second-requires : tie.Need-second-requires
 second-requires c κs = (c .before .before .before .before .before .pre .0, (start-allowed (c .before .before .before .before .before .args .self) (c .before .before .before .before .before .pre .1 .0) (c .before .before .before .before .if1 .left), c .before .before .before .before .before .pre .1 .1))
-
-fitting-requires-2 : tie.Need-fitting-requires-2
-fitting-requires-2 c κs = search needs
 
 later-requires : tie.Need-later-requires
 later-requires c κs = (c .before .before .before .before .before .pre .0, (start-allowed (c .before .before .before .before .before .args .self) (c .before .before .before .before .before .pre .1 .0) (c .before .before .before .before .if1 .left), c .before .before .before .before .before .pre .1 .1))
@@ -50,15 +32,15 @@ pub tried-spec : {M : Type 1} → statement M
 tried-spec =
     tie.close
     (tie.spec
-    opened-requires
-    fitting-requires
+    (λ c κs. search needs)
+    (λ c κs. search needs)
     returns
-    both-finite-requires
-    flat-requires
+    (λ c κs. search needs)
+    (λ c κs. search needs)
     returns-2
-    deviation-requires
+    (λ c κs. search needs)
     second-requires
-    fitting-requires-2
+    (λ c κs. search needs)
     later-requires
     returns-3
     returns-4)

@@ -8,18 +8,6 @@ use borrow.Author.Needs.{needs}
 use Rattle.types.proofs.ModelBuilder.next.Statement.{statement}
 use Rattle.types.proofs.ModelBuilder.next.Tie as tie
 
-try-to-update-models-requires : tie.Need-try-to-update-models-requires
-try-to-update-models-requires c κs = search needs
-
-enum-known-b : tie.Need-enum-known-b
-enum-known-b c = search needs
-
-enum-known-b-2 : tie.Need-enum-known-b-2
-enum-known-b-2 c = search needs
-
-enum-known-b-3 : tie.Need-enum-known-b-3
-enum-known-b-3 c = search needs
-
 returns : tie.Need-returns
 returns c = rw (toZ-ofZ w64 (c .before .before .before .before .args .timestamp) (c .before .before .before .before .fits .timestamp)) at (sym (ap (λ r. stateAfter (saysUpdate r)) (c .before .b .given .1)) ∙ ap stateAfter (c .before .before .before .try-to-update-models .ensures))
 
@@ -33,10 +21,10 @@ pub next-spec : {M : Type 1} → statement M
 next-spec =
     tie.close
     (tie.spec
-    try-to-update-models-requires
-    enum-known-b
-    enum-known-b-2
-    enum-known-b-3
+    (λ c κs. search needs)
+    (λ c. search needs)
+    (λ c. search needs)
+    (λ c. search needs)
     returns
     returns-2
     returns-3)

@@ -4,15 +4,9 @@ use borrow.Author.Needs.{needs}
 use Rattle.types.proofs.ModelBuilder.states_allowed.Statement.{statement}
 use Rattle.types.proofs.ModelBuilder.states_allowed.Tie as tie
 
-usable-requires : tie.Need-usable-requires
-usable-requires c κs = search needs
-
-usable-requires-2 : tie.Need-usable-requires-2
-usable-requires-2 c κs = search needs
-
 returns : tie.Need-returns
 unfolding statesAllowed
 returns c = rw (c .usable2 .ensures, c .before .before .usable .ensures)
 
 pub states-allowed-spec : {M : Type 1} → statement M
-states-allowed-spec = tie.close (tie.spec usable-requires usable-requires-2 returns)
+states-allowed-spec = tie.close (tie.spec (λ c κs. search needs) (λ c κs. search needs) returns)

@@ -24,36 +24,12 @@ abbrev μ-loop : tie.MeasureT-loop
 loop-holds : tie.Need-loop-holds Inv-loop μ-loop
 loop-holds c = (search needs, c .before .pre, refl)
 
-could-fit-requires : tie.Need-could-fit-requires Inv-loop μ-loop
-could-fit-requires c κs = search needs
-
 returns : tie.Need-returns Inv-loop μ-loop
 returns c =
     let l = c .before .before .before .loop in
     let ts = now (c .before .before .before .before .before .args .timestamps) in
     let vs = now (c .before .before .before .before .before .args .values) in
     sym (l .inv .2 ∙ run-failed (l .b) (points (drop (l .i) ts) (drop (l .i) vs)) (sym (c .before .could-fit .ensures) ∙ not-true (c .before .could-fit .result) (c .if1 .taken)))
-
-mul-next : tie.Need-mul-next Inv-loop μ-loop
-mul-next c = search needs
-
-shared-slice-copy-out-next : tie.Need-shared-slice-copy-out-next Inv-loop μ-loop
-shared-slice-copy-out-next c = search needs
-
-mul-next-2 : tie.Need-mul-next-2 Inv-loop μ-loop
-mul-next-2 c = search needs
-
-shared-slice-read-next : tie.Need-shared-slice-read-next Inv-loop μ-loop
-shared-slice-read-next c = search needs
-
-next-requires : tie.Need-next-requires Inv-loop μ-loop
-next-requires c κs = search needs
-
-add-i : tie.Need-add-i Inv-loop μ-loop
-add-i c = search needs
-
-loop-less : tie.Need-loop-less Inv-loop μ-loop
-loop-less c = search needs
 
 loop-again : tie.Need-loop-again Inv-loop μ-loop
 loop-again c =
@@ -79,14 +55,14 @@ stepped-spec =
     Inv-loop
     μ-loop
     loop-holds
-    could-fit-requires
+    (λ c κs. search needs)
     returns
-    mul-next
-    shared-slice-copy-out-next
-    mul-next-2
-    shared-slice-read-next
-    next-requires
-    add-i
-    loop-less
+    (λ c. search needs)
+    (λ c. search needs)
+    (λ c. search needs)
+    (λ c. search needs)
+    (λ c κs. search needs)
+    (λ c. search needs)
+    (λ c. search needs)
     loop-again
     returns-2)

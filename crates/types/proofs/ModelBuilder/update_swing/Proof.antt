@@ -2,7 +2,7 @@
 use mathlib.Core.Path.{_∙_}
 use borrow.Author.Tests.{not-true, not-false}
 use Rattle.types.specs.Builder.{updateSwing}
-use Rattle.swing.specs.Step.{stepOf}
+use Rattle.swing.specs.inner.Steps.{stepOf}
 use Rattle.types.proofs.Rooms.{swing-live}
 use borrow.Author.Needs.{needs}
 use Rattle.types.proofs.ModelBuilder.update_swing.Statement.{statement}
@@ -17,11 +17,8 @@ tried-requires c κs =
     let room = c .before .before .before .pre .0 (not-false _ (c .before .if1 .left)) in
     (room .0, (room .1, c .before .before .before .pre .1))
 
-with-swing-requires : tie.Need-with-swing-requires
-with-swing-requires c κs = search needs
-
 returns-2 : tie.Need-returns-2
 returns-2 c = c .with-swing .ensures ∙ swing-live (c .before .before .before .before .before .before .args .self) _ (stepOf (c .before .before .tried .result)) (not-false _ (c .before .before .before .before .if1 .left)) (c .before .before .tried .ensures)
 
 pub update-swing-spec : {M : Type 1} → statement M
-update-swing-spec = tie.close (tie.spec returns tried-requires with-swing-requires returns-2)
+update-swing-spec = tie.close (tie.spec returns tried-requires (λ c κs. search needs) returns-2)

@@ -4,19 +4,13 @@ use borrow.Author.Needs.{needs}
 use Rattle.types.proofs.choice.choose.Statement.{statement}
 use Rattle.types.proofs.choice.choose.Tie as tie
 
-swing-wins-requires : tie.Need-swing-wins-requires
-swing-wins-requires c κs = search needs
-
-end-lost-requires : tie.Need-end-lost-requires
-end-lost-requires c κs = search needs
-
 returns : tie.Need-returns
 unfolding chosen
-returns c = rw (← c .before .before .swing-wins .ensures, ← c .before .end-lost .ensures, c .if1 .taken)
+returns c = rw (← c .before .end-lost .ensures, c .if1 .taken)
 
 returns-2 : tie.Need-returns-2
 unfolding chosen
-returns-2 c = rw (← c .before .before .swing-wins .ensures, ← c .before .end-lost .ensures, c .if1 .left)
+returns-2 c = rw (← c .before .end-lost .ensures, c .if1 .left)
 
 pub choose-spec : {M : Type 1} → statement M
-choose-spec = tie.close (tie.spec swing-wins-requires end-lost-requires returns returns-2)
+choose-spec = tie.close (tie.spec (λ c κs. search needs) returns returns-2)

@@ -3,13 +3,12 @@ use mathlib.Core.Path.{_≡_, sym, ap, _∙_}
 use borrow.Author.Tests.{eqb-true, not-false}
 use lib.ListN.{length}
 use denote.Ref.{now}
-use Rattle.models.specs.Answers.{refused, answered}
-use Rattle.models.proofs.Judged.{NoneHolds, none-holds, accepted, when-passed, when-refused}
+use Rattle.models.specs.Answers.{refused, answered, NoneHolds}
+use Rattle.models.proofs.Judged.{none-holds, accepted, passed, when-passed, when-refused, not-answered, same-answer}
 use Rattle.types.specs.Builder.{fresh}
 use Rattle.types.specs.Calls.{saysNew, newAnswer, finishCauses}
 use Rattle.types.specs.Run.{run, points, choiceCauses, choiceAnswer}
 use Rattle.types.specs.declared.ModelBuilder.{ModelBuilder}
-use Rattle.types.proofs.Said.{apart, same-answer}
 use Rattle.types.proofs.Accepted.{choice-clear}
 use borrow.Author.Needs.{needs}
 use Rattle.types.proofs.choice.choose_model.Statement.{statement}
@@ -26,26 +25,8 @@ made c = c .new .ensures ∙ sym (accepted refused _ _ (clear (c .before) .0, tt
 stepped : (c : tie.After-stepped) → c .stepped .result ≡ run (fresh (c .before .before .before .before .before .before .before .before .before .args .error-bound)) (points (now (c .before .before .before .before .before .before .before .before .before .args .timestamps)) (now (c .before .before .before .before .before .before .before .before .before .args .values)))
 stepped c =
     let a = c .before .before .before .before .before .before .before .before .before .args in
-    let b = same-answer _ _ (sym (ap saysNew (c .before .before .b .given .1)) ∙ made (c .before .before .before .before)) in
+    let b = same-answer (sym (ap saysNew (c .before .before .b .given .1)) ∙ made (c .before .before .before .before)) in
     c .stepped .ensures ∙ ap (λ (s : ModelBuilder). run s (points (now (a .timestamps)) (now (a .values)))) b
-
-judge-choice-requires : tie.Need-judge-choice-requires
-judge-choice-requires c κs = search needs
-
-enum-known-r : tie.Need-enum-known-r
-enum-known-r c = search needs
-
-enum-told : tie.Need-enum-told
-enum-told c = search needs
-
-new-requires : tie.Need-new-requires
-new-requires c κs = search needs
-
-enum-known-r-2 : tie.Need-enum-known-r-2
-enum-known-r-2 c = search needs
-
-enum-known-b : tie.Need-enum-known-b
-enum-known-b c = search needs
 
 stepped-requires : tie.Need-stepped-requires
 stepped-requires c κs =
@@ -58,14 +39,14 @@ selected-requires c κs =
     let a = c .before .before .before .before .before .before .before .before .before .args in
     let causes = finishCauses (run (fresh (a .error-bound)) (points (now (a .timestamps)) (now (a .values)))) (a .m) in
     rw (stepped c)
-    (sym (accepted refused (answered tt) causes (choice-clear (now (a .timestamps)) (now (a .values)) (a .error-bound) (a .m) (clear (c .before .before .before .before .before)))))
+    (passed causes (choice-clear (now (a .timestamps)) (now (a .values)) (a .error-bound) (a .m) (clear (c .before .before .before .before .before))))
 
 returns : tie.Need-returns
 unfolding choiceAnswer
 returns c = when-refused _ _ (c .before .before .before .judge-choice .ensures) refused _ _ (c .before .r .given .1)
 
 returns-2 : tie.Need-returns-2
-returns-2 c = absurd (apart _ _ (sym (ap saysNew (c .before .r2 .given .1)) ∙ made (c .before .before .before)))
+returns-2 c = absurd (not-answered (sym (ap saysNew (c .before .r2 .given .1)) ∙ made (c .before .before .before)))
 
 returns-3 : tie.Need-returns-3
 unfolding choiceAnswer
@@ -77,12 +58,12 @@ pub choose-model-spec : {M : Type 1} → statement M
 choose-model-spec =
     tie.close
     (tie.spec
-    judge-choice-requires
-    enum-known-r
-    enum-told
-    new-requires
-    enum-known-r-2
-    enum-known-b
+    (λ c κs. search needs)
+    (λ c. search needs)
+    (λ c. search needs)
+    (λ c κs. search needs)
+    (λ c. search needs)
+    (λ c. search needs)
     stepped-requires
     selected-requires
     returns

@@ -4,18 +4,6 @@ use borrow.Author.Needs.{needs}
 use Rattle.types.proofs.choice.end_lost.Statement.{statement}
 use Rattle.types.proofs.choice.end_lost.Tie as tie
 
-value-of-f32-requires : tie.Need-value-of-f32-requires
-value-of-f32-requires c κs = search needs
-
-value-of-f32-requires-2 : tie.Need-value-of-f32-requires-2
-value-of-f32-requires-2 c κs = search needs
-
-is-finite-f32-requires : tie.Need-is-finite-f32-requires
-is-finite-f32-requires c κs = search needs
-
-is-finite-f32-requires-2 : tie.Need-is-finite-f32-requires-2
-is-finite-f32-requires-2 c κs = search needs
-
 returns : tie.Need-returns
 unfolding endLost
 returns c = rw (c .is-finite-f322 .ensures, c .before .is-finite-f32 .ensures, c .before .before .value-of-f322 .ensures, c .before .before .before .value-of-f32 .ensures)
@@ -24,8 +12,8 @@ pub end-lost-spec : {M : Type 1} → statement M
 end-lost-spec =
     tie.close
     (tie.spec
-    value-of-f32-requires
-    value-of-f32-requires-2
-    is-finite-f32-requires
-    is-finite-f32-requires-2
+    (λ c κs. search needs)
+    (λ c κs. search needs)
+    (λ c κs. search needs)
+    (λ c κs. search needs)
     returns)

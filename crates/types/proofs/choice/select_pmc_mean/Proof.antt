@@ -3,6 +3,7 @@ use mathlib.Core.Path.{_≡_}
 use Prim.Native.Nat.{ℕ, _≤_}
 use native.Mathlib.Omega.{arith}
 use borrow.Author.Tests.{leb-true}
+use Rattle.models.specs.Limits.{mostValues, mostMetadata}
 use Rattle.models.specs.Answers.{answered, verdict}
 use Rattle.models.proofs.Judged.{none, has-cost}
 use Rattle.pmc_mean.specs.State.{usable}
@@ -13,16 +14,13 @@ use borrow.Author.Needs.{needs}
 use Rattle.types.proofs.choice.select_pmc_mean.Statement.{statement}
 use Rattle.types.proofs.choice.select_pmc_mean.Tie as tie
 
-limits : (s : PMCMean) (m : ℕ) → verdict (costCauses s m) ≡ answered tt → (s .length ≤ 65536) × (m ≤ 65535)
+limits : (s : PMCMean) (m : ℕ) → verdict (costCauses s m) ≡ answered tt → (s .length ≤ mostValues) × (m ≤ mostMetadata)
 limits s m h =
     let ok = has-cost (s .«error_bound») (usable s) (s .length) m (none (costCauses s m) h) in
-    (leb-true (s .length) 65536 (ok .0), ok .2)
+    (leb-true (s .length) mostValues (ok .0), ok .2)
 
 average-requires : tie.Need-average-requires
 average-requires c κs = limits (c .args .s) (c .args .m) (c .pre) .0
-
-bits-of-f32-requires : tie.Need-bits-of-f32-requires
-bits-of-f32-requires c κs = search needs
 
 cost-requires : tie.Need-cost-requires
 cost-requires c κs =
@@ -35,4 +33,4 @@ returns c = rw (c .cost .ensures, c .before .bits-of-f32 .ensures, c .before .be
 
 pub select-pmc-mean-spec : {M : Type 1} → statement M
 select-pmc-mean-spec =
-    tie.close (tie.spec average-requires bits-of-f32-requires cost-requires returns)
+    tie.close (tie.spec average-requires (λ c κs. search needs) cost-requires returns)

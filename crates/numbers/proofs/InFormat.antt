@@ -6,9 +6,9 @@ use lib.Dec.{T, eqb, leb, ltb, ltb→lt, leb→le}
 use lib.Ieee.{Format, fin, prec, emax, low, up, down, fits}
 use lib.Ieee.Fits.{and-l, and-r}
 
-pub held : (f : Format) (s : Bool) (m : ℕ) (e : ℤ) → T (fits f (fin s (suc m) e)) → (suc m < 2 ^ prec f) × (down e ≤ 2 ^ low f) × (suc m * up e < 2 ^ suc (emax f) * down e)
+pub in-format : (f : Format) (s : Bool) (m : ℕ) (e : ℤ) → T (fits f (fin s (suc m) e)) → (suc m < 2 ^ prec f) × (down e ≤ 2 ^ low f) × (suc m * up e < 2 ^ suc (emax f) * down e)
 unfolding fits
-held f s m e t =
+in-format f s m e t =
     let a = eqb (suc m % 2) 1 in
     let b = ltb (suc m) (2 ^ prec f) in
     let c = leb (down e) (2 ^ low f) in
