@@ -1,22 +1,23 @@
 -- The three kinds of code as the numbers that the writer works out: a repeat, in the window, with a new window. Assumes nothing.
-use mathlib.Core.Path.{_≡_, refl, sym, ap, ap₂, _∙_, subst}
-use mathlib.Core.Bool.{Bool, true, false, cond, _&&_, false≢true}
-use Prim.Native.Nat.{ℕ, suc, _+_, _-_, _*_, _/_, _%_, _^_, _≤_, _<_}
-use native.Mathlib.Nat.{mod-eq-of-lt, lt-of-lt-of-le, le-refl}
+use mathlib.Core.Path.{_≡_, sym, ap, ap₂, _∙_, subst}
+use mathlib.Core.Bool.{Bool, true, false, cond, _&&_}
+use Prim.Native.Nat.{ℕ, _+_, _-_, _*_, _/_, _%_, _^_, _≤_, _<_}
+use native.Mathlib.Nat.{mod-eq-of-lt, lt-of-lt-of-le}
 use native.Mathlib.Omega.{arith}
 use borrow.Author.Tests.{leb-true, ne-eqb}
 use lib.Arith.{digits-lt}
 use lib.Bits.{bitOr, or-shifted}
 use lib.Count.{leadingZeros, trailingZeros}
-use lib.Dec.{leb, eqb}
+use lib.Dec.{leb}
 use lib.Pow.{pow-add, pow-mono}
 use Rattle.bits.specs.Bits.{field}
 use Rattle.bits.proofs.Counts.{ends-apart}
-use Rattle.stream.specs.Format.{macaque, Kind, same, keep, new, Window, span, leadOf, trailOf, windowOf, fits, kindOf, codeOf, windowBy}
+use Rattle.models.proofs.Tests.{and-parts}
+use Rattle.stream.specs.Format.{macaque, same, keep, new, Window, leadOf, trailOf, fits, kindOf, windowBy, windowIn}
 use Rattle.stream.proofs.OneValue.{cut-lt}
 use Rattle.stream.proofs.WhichKind.{kind-same, macaque-lead, macaque-trail}
-use Rattle.stream.proofs.CodeWords.{code-same, code-keep, code-new}
-use Rattle.coding.specs.Code.{windowIn, Says, CodedXor}
+use Rattle.stream.proofs.CodeWords.{macaque-same, macaque-keep, macaque-new}
+use Rattle.coding.specs.inner.Code.{CodedXor}
 
 -- ---- a header over m meaningful bits, put together by a shift
 
@@ -45,14 +46,10 @@ module _ (lead trail x : ℕ) (p : 0 < x) (h : x < 2 ^ 32) where
       ap (λ (t : Bool). cond t same (cond (fits macaque (windowIn lead trail) x) keep new)) (ne-eqb x 0 no0)
       ∙ ap (λ (t : Bool). cond t keep new) (ap₂ (λ (a t : ℕ). leb lead a && leb trail t) (macaque-lead x p h) (macaque-trail x) ∙ e)
 
-  both : (a b : Bool) → (a && b) ≡ true → (a ≡ true) × (b ≡ true)
-  both true b e = (refl, e)
-  both false b e = absurd (false≢true e)
-
   -- a window that x fits lies within its own
   pub fits-window : (leb lead (leadingZeros 32 x) && leb trail (trailingZeros 32 x)) ≡ true → (lead ≤ leadingZeros 32 x) × (trail ≤ trailingZeros 32 x)
   fits-window e =
-      let t = both (leb lead (leadingZeros 32 x)) (leb trail (trailingZeros 32 x)) e in
+      let t = and-parts (leb lead (leadingZeros 32 x)) (leb trail (trailingZeros 32 x)) e in
       (leb-true lead (leadingZeros 32 x) (t .0), leb-true trail (trailingZeros 32 x) (t .1))
 
   pub zeros-apart : leadingZeros 32 x + trailingZeros 32 x < 32
@@ -83,7 +80,7 @@ module _ (lead trail x : ℕ) (p : 0 < x) (h : x < 2 ^ 32) where
         let one : 1 + (32 - lead - trail) ≡ 33 - lead - trail = omega arith in
         let more : 32 - lead - trail ≤ 33 - lead - trail = omega arith in
         record {
-          digits = ap (λ (n : ℕ). field n (x / 2 ^ trail)) (sym one) ∙ sym (code-keep win x k in-window);
+          digits = ap (λ (n : ℕ). field n (x / 2 ^ trail)) (sym one) ∙ sym (macaque-keep win x k in-window);
           small = lt-of-lt-of-le in-window (pow-mono more);
           window = sym (ap (windowBy macaque win x) k);
           some = omega arith;
@@ -105,7 +102,7 @@ module _ (lead trail x : ℕ) (p : 0 < x) (h : x < 2 ^ 32) where
       record {
         digits =
             ap (field (13 + (32 - a - t))) is
-            ∙ sym (code-new win x k p h
+            ∙ sym (macaque-new win x k p h
             ∙ ap₂ (λ (a t : ℕ). field (13 + (32 - a - t)) (((3 * 2 ^ 5 + a) * 2 ^ 6 + (32 - a - t)) * 2 ^ (32 - a - t) + x / 2 ^ t)) (macaque-lead x p h) (macaque-trail x));
         small = subst (λ (z : ℕ). z < 2 ^ (13 + (32 - a - t))) (sym is) (header-lt a (32 - a - t) (x / 2 ^ t) (omega arith) (omega arith) own-bits);
         window = sym (ap (windowBy macaque win x) k ∙ ap₂ windowIn (macaque-lead x p h) (macaque-trail x));
@@ -119,7 +116,7 @@ same-code lead trail x e =
     let win : Window = windowIn lead trail in
     let k : kindOf macaque win x ≡ same = kind-same macaque win x e in
     record {
-      digits = sym (code-same win x k);
+      digits = sym (macaque-same win x k);
       small = omega arith;
       window = sym (ap (windowBy macaque win x) k);
       some = omega arith;

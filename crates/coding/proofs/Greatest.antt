@@ -1,17 +1,17 @@
 -- "clear the s lowest bits with the greatest s from 0 to 23 that stays within": what is kept is so. Assumes nothing.
 use mathlib.Core.Path.{_≡_, refl, sym, ap, _∙_}
-use mathlib.Core.Bool.{Bool, true, false, not, cond, _&&_, _||_}
-use Prim.Native.Nat.{ℕ, zero, suc, _/_, _*_, _^_, _≤_, _<_}
+use mathlib.Core.Bool.{Bool, true, false, not, _&&_, _||_}
+use Prim.Native.Nat.{ℕ, zero, suc, _≤_, _<_}
 use native.Mathlib.Omega.{arith}
 use borrow.Author.Tests.{leb-true, leb-false}
 use lib.Dec.{leb}
 use lib.Ieee as Ieee
 use lib.Ieee.{Float, binary32, ofBits}
 use Rattle.models.specs.Floats.{equalOrNan}
-use Rattle.models.specs.Bound.{within}
+use Rattle.models.specs.Bound.{withinIn}
 use Rattle.models.specs.declared.ErrorBound.{ErrorBound}
 use Rattle.models.proofs.Laws.{ne-self}
-use Rattle.coding.specs.Keep.{standsFor, cleared, shortened}
+use Rattle.coding.specs.Keep.{mayReplace, cleared, shortened, Greatest}
 
 -- equal-or-NaN always is within, and a value is that to itself
 self-equal : (x : Float) → equalOrNan x x ≡ true
@@ -22,15 +22,9 @@ self-equal x = by-test (Ieee.eq x x) (Ieee.isNan x) (ne-self x)
     by-test true n h = refl
     by-test false n h = rw (← h)
 
-pub stands-for-itself : (b : ErrorBound) (x : ℕ) → standsFor b x x ≡ true
-unfolding within
-stands-for-itself b x = rw (self-equal (ofBits binary32 x))
-
--- s is the greatest from 0 to `most` that stays within
-pub record Greatest (b : ErrorBound) (x most s : ℕ) : Type 0 where
-  pub atMost : s ≤ most
-  pub stays : standsFor b x (cleared s x) ≡ true
-  pub noneAbove : (t : ℕ) → s < t → t ≤ most → standsFor b x (cleared t x) ≡ false
+pub may-replace-itself : (b : ErrorBound) (x : ℕ) → mayReplace b x x ≡ true
+unfolding withinIn
+may-replace-itself b x = rw (self-equal (ofBits binary32 x))
 
 whole : (x : ℕ) → cleared 0 x ≡ x
 whole x = omega arith
@@ -38,20 +32,20 @@ whole x = omega arith
 pub clears-the-most : (b : ErrorBound) (x most : ℕ) → (s : ℕ) × (shortened b most x ≡ cleared s x) × Greatest b x most s
 unfolding shortened
 clears-the-most b x zero =
-    (zero, sym (whole x), record { atMost = omega arith; stays = ap (standsFor b x) (whole x) ∙ stands-for-itself b x; noneAbove = λ t h k. absurd (omega arith) })
-clears-the-most b x (suc most) = by-test (standsFor b x (cleared (suc most) x)) refl (clears-the-most b x most)
+    (zero, sym (whole x), record { atMost = omega arith; stays = ap (mayReplace b x) (whole x) ∙ may-replace-itself b x; noneAbove = λ t h k. absurd (omega arith) })
+clears-the-most b x (suc most) = by-test (mayReplace b x (cleared (suc most) x)) refl (clears-the-most b x most)
   where
     -- a t above s is the one tried here, or a lower one
-    above : (s : ℕ) → Greatest b x most s → standsFor b x (cleared (suc most) x) ≡ false → (t : ℕ) → s < t → t ≤ suc most → standsFor b x (cleared t x) ≡ false
+    above : (s : ℕ) → Greatest b x most s → mayReplace b x (cleared (suc most) x) ≡ false → (t : ℕ) → s < t → t ≤ suc most → mayReplace b x (cleared t x) ≡ false
     above s G e t h k = by-last (leb t most) refl
       where
-        by-last : (test : Bool) → leb t most ≡ test → standsFor b x (cleared t x) ≡ false
+        by-last : (test : Bool) → leb t most ≡ test → mayReplace b x (cleared t x) ≡ false
         by-last true l = G .noneAbove t h (leb-true t most l)
         by-last false l =
             let last : t ≡ suc most = omega (arith, leb-false t most l) in
-            ap (λ (n : ℕ). standsFor b x (cleared n x)) last ∙ e
+            ap (λ (n : ℕ). mayReplace b x (cleared n x)) last ∙ e
 
-    by-test : (test : Bool) → standsFor b x (cleared (suc most) x) ≡ test → (s : ℕ) × (shortened b most x ≡ cleared s x) × Greatest b x most s
+    by-test : (test : Bool) → mayReplace b x (cleared (suc most) x) ≡ test → (s : ℕ) × (shortened b most x ≡ cleared s x) × Greatest b x most s
         → (s : ℕ) × (shortened b (suc most) x ≡ cleared s x) × Greatest b x (suc most) s
     by-test true e G = (suc most, rw e, record { atMost = omega arith; stays = e; noneAbove = λ t h k. absurd (omega arith) })
     by-test false e G =

@@ -15,7 +15,7 @@ use Rattle.bits.specs.Bits.{field, fieldAt, bitsOf}
 use Rattle.bits.proofs.Bytes.{length-bitsOf}
 use Rattle.bits.proofs.Counts.{xor-undo}
 use Rattle.bits.proofs.Fields.{length-field, field-split}
-use Rattle.coding.specs.Ahead.{repeated, AtTop, RepeatsAt, IsAhead, IsWord}
+use Rattle.coding.specs.inner.Ahead.{repeated, AtTop, RepeatsAt, IsAhead, IsWord}
 use Rattle.coding.specs.declared.decode.Ahead.{Ahead}
 use Rattle.coding.proofs.Words.{bits-in-long, moved, ahead-of-more}
 

@@ -1,4 +1,3 @@
 -- What the contracts of `coding` cite.
 pub mod Keep
-pub mod Code
-pub mod Ahead
+pub mod inner

@@ -1,7 +1,8 @@
 // The bits of one value, by the exclusive or with the last kept one.
 ghost use mathlib.Core.Path.{_≡_};
 ghost use Prim.Native.Nat.{_+_, _*_, _^_, _<_, _≤_};
-ghost use Rattle.coding.specs.Code.{windowIn, Coded, CodedXor};
+ghost use Rattle.stream.specs.Format.{windowIn};
+ghost use Rattle.coding.specs.inner.Code.{Coded, CodedXor};
 
 // The `width` lowest binary digits of `bits`, the most significant first, and the window after them.
 pub struct Code {

@@ -1,14 +1,12 @@
 // One value from the bits ahead of a place: raw, or by its code.
 ghost use mathlib.Core.Path.{_≡_};
-ghost use mathlib.Core.Bool.{true, false};
+ghost use mathlib.Core.Bool.{true, false, not};
 ghost use Prim.Native.Nat.{_+_, _-_, _*_, _/_, _^_, _<_, _≤_};
 ghost use lib.ListN.{length};
 ghost use Rattle.bits.specs.Bits.{field, fieldAt};
-ghost use Rattle.stream.specs.Format.{macaque};
+ghost use Rattle.stream.specs.Format.{macaque, windowIn, unset};
 ghost use Rattle.stream.specs.Read.{readOne};
-ghost use Rattle.coding.specs.Code.{windowIn};
-ghost use Rattle.coding.specs.Ahead.{Held, bitsIn, IsPart, IsAhead, IsWord, AtTop, saysStep};
-use models::Refusal;
+ghost use Rattle.coding.specs.inner.Ahead.{WindowSound, bitsIn, IsPart, IsAhead, IsWord, AtTop, saysDecoded};
 
 // ---- the bits ahead
 
@@ -96,6 +94,13 @@ pub fn at_top(word: u64) -> usize
 
 // ---- one value
 
+// Why there is no value: the stream ends inside it, it keeps a window and none is set, or its own window is not allowed.
+pub enum Stop {
+    EndsEarly,
+    NoWindow,
+    WindowNotAllowed,
+}
+
 // The value, the window after it and how many bits it takes; or why there is none.
 pub enum Decoded {
     Got {
@@ -104,25 +109,33 @@ pub enum Decoded {
         trail: u32,
         used: usize,
     },
-    Refused(Refusal),
+    Stopped(Stop),
 }
 
-// The value that the first `left` bits of `word` begin with, after the last value and its window.
-pub fn decode(raw: bool, word: u64, left: usize, lead: u32, trail: u32, last: u32) -> Decoded
-    requires { ⌜ (left ≤ 45) × Held lead trail ⌝ }
-    ensures { λ r. ⌜ saysStep r ≡ readOne macaque raw (windowIn lead trail) last (bitsIn word left) ⌝ }
+// The value that the first `left` bits of `word` begin with, after the last value and its window, where `set` says whether it has one.
+pub fn decode(
+    raw: bool,
+    word: u64,
+    left: usize,
+    set: bool,
+    lead: u32,
+    trail: u32,
+    last: u32,
+) -> Decoded
+    requires { ⌜ (left ≤ 45) × (unset (windowIn lead trail) ≡ not set) × WindowSound lead trail ⌝ }
+    ensures { λ r. ⌜ saysDecoded r ≡ readOne macaque raw (windowIn lead trail) last (bitsIn word left) ⌝ }
 {
     if raw {
         return in_full(word, left, lead, trail, last);
     }
     if left < 1 {
-        return Decoded::Refused(Refusal::EndsEarly);
+        return Decoded::Stopped(Stop::EndsEarly);
     }
     if part(word, 0, 1) == 0 {
-        return in_window(word, left, lead, trail, last);
+        return in_window(word, left, set, lead, trail, last);
     }
     if left < 2 {
-        return Decoded::Refused(Refusal::EndsEarly);
+        return Decoded::Stopped(Stop::EndsEarly);
     }
     if part(word, 1, 1) == 0 {
         return Decoded::Got {
@@ -138,10 +151,10 @@ pub fn decode(raw: bool, word: u64, left: usize, lead: u32, trail: u32, last: u3
 // A first value: its 32 bits.
 fn in_full(word: u64, left: usize, lead: u32, trail: u32, last: u32) -> Decoded
     requires { ⌜ left ≤ 45 ⌝ }
-    ensures { λ r. ⌜ saysStep r ≡ readOne macaque true (windowIn lead trail) last (bitsIn word left) ⌝ }
+    ensures { λ r. ⌜ saysDecoded r ≡ readOne macaque true (windowIn lead trail) last (bitsIn word left) ⌝ }
 {
     if left < 32 {
-        return Decoded::Refused(Refusal::EndsEarly);
+        return Decoded::Stopped(Stop::EndsEarly);
     }
     Decoded::Got {
         value: part(word, 0, 32),
@@ -152,16 +165,16 @@ fn in_full(word: u64, left: usize, lead: u32, trail: u32, last: u32) -> Decoded
 }
 
 // `0`, then the bits in the window.
-fn in_window(word: u64, left: usize, lead: u32, trail: u32, last: u32) -> Decoded
-    requires { ⌜ (1 ≤ left) × (left ≤ 45) × Held lead trail × (fieldAt 0 1 (field 64 word) ≡ 0) ⌝ }
-    ensures { λ r. ⌜ saysStep r ≡ readOne macaque false (windowIn lead trail) last (bitsIn word left) ⌝ }
+fn in_window(word: u64, left: usize, set: bool, lead: u32, trail: u32, last: u32) -> Decoded
+    requires { ⌜ (1 ≤ left) × (left ≤ 45) × (unset (windowIn lead trail) ≡ not set) × WindowSound lead trail × (fieldAt 0 1 (field 64 word) ≡ 0) ⌝ }
+    ensures { λ r. ⌜ saysDecoded r ≡ readOne macaque false (windowIn lead trail) last (bitsIn word left) ⌝ }
 {
-    if lead == 255 {
-        return Decoded::Refused(Refusal::NoWindow);
+    if !set {
+        return Decoded::Stopped(Stop::NoWindow);
     }
     let width = (32 - lead - trail) as usize;
     if left < 1 + width {
-        return Decoded::Refused(Refusal::EndsEarly);
+        return Decoded::Stopped(Stop::EndsEarly);
     }
     Decoded::Got {
         value: (part(word, 1, width) << trail) ^ last,
@@ -174,22 +187,22 @@ fn in_window(word: u64, left: usize, lead: u32, trail: u32, last: u32) -> Decode
 // `11`, a header that sets a new window, then the bits in it.
 fn with_window(word: u64, left: usize, lead: u32, trail: u32, last: u32) -> Decoded
     requires { ⌜ (2 ≤ left) × (left ≤ 45) × ¬ (fieldAt 0 1 (field 64 word) ≡ 0) × ¬ (fieldAt 1 1 (field 64 word) ≡ 0) ⌝ }
-    ensures { λ r. ⌜ saysStep r ≡ readOne macaque false (windowIn lead trail) last (bitsIn word left) ⌝ }
+    ensures { λ r. ⌜ saysDecoded r ≡ readOne macaque false (windowIn lead trail) last (bitsIn word left) ⌝ }
 {
     if left < 13 {
-        return Decoded::Refused(Refusal::EndsEarly);
+        return Decoded::Stopped(Stop::EndsEarly);
     }
     let zeros = part(word, 2, 5);
     let meaningful = part(word, 7, 6);
     if meaningful == 0 {
-        return Decoded::Refused(Refusal::WindowNotAllowed);
+        return Decoded::Stopped(Stop::WindowNotAllowed);
     }
     if 32 < zeros + meaningful {
-        return Decoded::Refused(Refusal::WindowNotAllowed);
+        return Decoded::Stopped(Stop::WindowNotAllowed);
     }
     let width = meaningful as usize;
     if left < 13 + width {
-        return Decoded::Refused(Refusal::EndsEarly);
+        return Decoded::Stopped(Stop::EndsEarly);
     }
     let ends = 32 - zeros - meaningful;
     Decoded::Got {

@@ -1,51 +1,48 @@
 -- The values of a stream from a cursor on, block by block, and what they leave in lent memory. Assumes nothing.
 use mathlib.Core.Path.{_≡_, refl, sym, ap, ap₂, _∙_}
-use mathlib.Core.Bool.{Bool, false}
+use mathlib.Core.Bool.{Bool}
 use mathlib.Core.List.{List, [], _++_, append-assoc, append-nil}
 use Prim.Native.Nat.{ℕ, _+_, _-_, _≤_}
 use native.Mathlib.Omega.{arith}
 use lib.ListN.{length, take, drop, length-append, take-append-drop}
 use lib.Seq.{take-take, take-append-le, drop-at, length-take-le}
 use Rattle.bits.specs.Bits.{bitsOf}
-use Rattle.models.specs.Answers.{Said, Done, answered, refused}
-use Rattle.models.specs.Refusals.{number}
+use Rattle.models.specs.Answers.{Fault, Said, Done, answered, refused}
+use Rattle.models.specs.Refusals.{faultOf}
 use Rattle.models.specs.declared.Refusal.{Refusal}
-use Rattle.stream.specs.Format.{Stream}
+use Rattle.models.proofs.Judged.{not-answered, not-refused}
+use Rattle.stream.specs.Format.{Stream, bare}
 use Rattle.stream.specs.Read.{Reading, done, stopped, ended}
-use Rattle.stream.specs.Cases.{plain}
 use Rattle.stream.proofs.Reading.{prepend, thenRead, read-then}
 use Rattle.macaque_v.specs.State.{modeOf}
-use Rattle.macaque_v.specs.ReadRun.{stateAt, Stands, readFrom, Reads, StopsBy, leftBehind}
-use Rattle.macaque_v.specs.Read.{valuesRead, valuesFrom, drawn, drawnIn, drawnAt}
+use Rattle.macaque_v.specs.ReadRun.{stateAt, endSaid}
+use Rattle.macaque_v.specs.inner.ReadRun.{ReadableAt, readFrom, Reads, StopsBy}
+use Rattle.macaque_v.specs.Read.{valuesRead, drawn, drawnIn}
+use Rattle.macaque_v.specs.inner.Read.{valuesFrom, drawnAt, afterBlock, Right}
 use Rattle.macaque_v.specs.declared.read_run.Cursor.{Cursor}
 use Rattle.macaque_v.proofs.ReadingRun.{reads-none, then-stops}
 use Rattle.macaque_v.proofs.ReadingEnd.{ends-right, ends-early}
 use Rattle.macaque_v.proofs.ReadingAll.{ended-prepend}
 
--- the values us, and those that follow
-abbrev pub behind : List ℕ → Said (List ℕ) → Said (List ℕ)
-behind us (answered vs) = answered (us ++ vs)
-behind us (refused n) = refused n
-
 -- ---- the values
 
 module _ (first : Bool) (bytes : List ℕ) (at : Cursor) where
-  pub from-wrong : (n : ℕ) (r : Refusal) → StopsBy (ended (readFrom first bytes at n)) r → valuesFrom first bytes at n ≡ refused (number r)
+  pub from-wrong : (n : ℕ) (r : Refusal) → StopsBy (ended (readFrom first bytes at n)) r → valuesFrom first bytes at n ≡ refused (faultOf r)
   from-wrong n r s = ap valuesRead (s .stops) ∙ ap refused (s .numbered)
 
   -- a block is not whole
-  pub from-early : (n k : ℕ) (r : Refusal) → Stands bytes at → k ≤ n → StopsBy (readFrom first bytes at k) r → valuesFrom first bytes at n ≡ refused (number r)
+  pub from-early : (n k : ℕ) (r : Refusal) → ReadableAt bytes at → k ≤ n → StopsBy (readFrom first bytes at k) r → valuesFrom first bytes at n ≡ refused (faultOf r)
   from-early n k r h le s =
       from-wrong n r (ends-early (then-stops first bytes (reads-none first bytes at h) k s n (omega arith)))
 
   module _ {k : ℕ} {us : List ℕ} {to : Cursor} (R : Reads first bytes at k us to) where
-    pub from-right : leftBehind bytes (to .place) ≡ false → valuesFrom first bytes at k ≡ answered us
+    pub from-right : endSaid bytes to ≡ answered tt → valuesFrom first bytes at k ≡ answered us
     from-right e = ap valuesRead (ends-right R e)
 
     -- a block, and what stands behind it
-    pub from-then : (n : ℕ) → k ≤ n → valuesFrom first bytes at n ≡ behind us (valuesFrom first bytes to (n - k))
+    pub from-then : (n : ℕ) → k ≤ n → valuesFrom first bytes at n ≡ afterBlock us (valuesFrom first bytes to (n - k))
     from-then n le =
-        let S : Stream Unit = plain (modeOf first) in
+        let S : Stream Unit = bare (modeOf first) in
         let whole : k + (n - k) ≡ n = omega arith in
         ap (λ (m : ℕ). valuesFrom first bytes at m) (sym whole)
         ∙ ap (λ (q : Reading Unit). valuesRead (ended q))
@@ -53,38 +50,25 @@ module _ (first : Bool) (bytes : List ℕ) (at : Cursor) where
         ∙ ap valuesRead (ended-prepend us (readFrom first bytes to (n - k)))
         ∙ go (ended (readFrom first bytes to (n - k)))
       where
-        go : (q : Reading Unit) → valuesRead (prepend us q) ≡ behind us (valuesRead q)
+        go : (q : Reading Unit) → valuesRead (prepend us q) ≡ afterBlock us (valuesRead q)
         go (done vs s b) = refl
         go (stopped f) = refl
 
 -- ---- in lent memory
 
-pub drawn-behind : (us : List ℕ) (q : Said (List ℕ)) → drawn (behind us q) ≡ drawn q
+pub drawn-behind : (us : List ℕ) (q : Said (List ℕ)) → drawn (afterBlock us q) ≡ drawn q
 drawn-behind us (answered vs) = refl
 drawn-behind us (refused n) = refl
 
 -- a refusal behind a block leaves what was held
-pub refused-behind : (us : List ℕ) (i j : ℕ) (old : List ℕ) (n : ℕ) (q : Said (List ℕ)) → _≡_ {A = Said Done} (refused n) (drawn q) → drawnAt j old q ≡ drawnAt i old (behind us q)
-refused-behind us i j old n (answered vs) e = absurd (never (cc))
-  where
-    never : _≡_ {A = ℕ} 0 1 → ⊥
-    never f = omega arith
+pub refused-behind : (us : List ℕ) (i j : ℕ) (old : List ℕ) (n : Fault) (q : Said (List ℕ)) → _≡_ {A = Said Done} (refused n) (drawn q) → drawnAt j old q ≡ drawnAt i old (afterBlock us q)
+refused-behind us i j old n (answered vs) e = absurd (not-answered e)
 refused-behind us i j old n (refused m) e = refl
 
--- what stands behind the block us is right, and drawn from place j on
-pub record Right (us : List ℕ) (all : Said (List ℕ)) (j : ℕ) (old new : List ℕ) : Type 0 where
-  pub rest : List ℕ
-  pub are : all ≡ answered (us ++ rest)
-  pub drawn-there : new ≡ drawnAt j old (answered rest)
-  pub long : length new ≡ length old
-
 module _ (us : List ℕ) (j : ℕ) (old new : List ℕ) {all : Said (List ℕ)} where
-  pub right-rest : (q : Said (List ℕ)) → all ≡ behind us q → _≡_ {A = Said Done} (answered tt) (drawn q) → new ≡ drawnAt j old q → length new ≡ length old → Right us all j old new
+  pub right-rest : (q : Said (List ℕ)) → all ≡ afterBlock us q → _≡_ {A = Said Done} (answered tt) (drawn q) → new ≡ drawnAt j old q → length new ≡ length old → Right us all j old new
   right-rest (answered vs) e d f long = record { rest = vs; are = e; drawn-there = f; long = long }
-  right-rest (refused n) e d f long = absurd (never (cc))
-    where
-      never : _≡_ {A = ℕ} 0 1 → ⊥
-      never g = omega arith
+  right-rest (refused n) e d f long = absurd (not-refused d)
 
   -- nothing stands there
   pub right-none : all ≡ answered us → new ≡ old → Right us all j old new

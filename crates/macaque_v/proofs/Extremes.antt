@@ -10,8 +10,8 @@ use lib.Ieee as Ieee
 use lib.Ieee.{Float, nan, inf, fin, binary32, up, down, neg, isNan, ofBits, toBits}
 use lib.Ieee.Bits.{toBits-ofBits}
 use Rattle.models.specs.Floats.{better, minBits, maxBits}
-use Rattle.macaque_v.specs.State.{Ends, taken}
-use Rattle.macaque_v.specs.Span.{orInfinite, lesserOf, isNumber, spanFrom, spanWith, saidBits, endsSaid}
+use Rattle.macaque_v.specs.State.{MinMax, minMaxWith}
+use Rattle.macaque_v.specs.inner.Span.{orInfinite, lesserOf, isNumber, spanFrom, spanWith, saidBits, minMaxSaid, Extreme, turned, MinMaxHeld}
 use Rattle.macaque_v.specs.declared.span.Span.{Span}
 
 -- ---- a turned sign
@@ -120,13 +120,7 @@ lesser-held nan (fin s m e) = refl
 lesser-held (inf s) y = is-itself (cond (Ieee.lt y (inf s)) y (inf s)) (lesser-number (inf s) y refl)
 lesser-held (fin s m e) y = is-itself (cond (Ieee.lt y (fin s m e)) y (fin s m e)) (lesser-number (fin s m e) y refl)
 
--- ---- one end: n values behind the pattern `start`, the last of them `last`. Of the best pattern, `bits`, x is held; `some` says that a number came
-
-pub record Extreme (read : ℕ → Float) (start n bits : ℕ) (x : Float) (some : Bool) (last : ℕ) : Type 0 where
-  value : x ≡ orInfinite (read bits)
-  came : (some || not (isNan (read start))) ≡ not (isNan (read bits))
-  small : bits < 2 ^ 32
-  newest : 0 < n → isNan (read bits) ≡ true → bits ≡ last
+-- ---- one end
 
 -- a number is there where one was, or the next is one
 one-came : (some p a b : Bool) → (some || not p) ≡ not a → ((some || not b) || not p) ≡ not (a && b)
@@ -163,9 +157,6 @@ module _ {read : ℕ → Float} {start n bits last : ℕ} {x : Float} {some : Bo
 
 -- ---- both at once
 
-abbrev turned : ℕ → Float
-turned bits = neg (ofBits binary32 bits)
-
 -- the greatest is the least by the turned sign
 greatest-is : (a b : ℕ) → better Ieee.lt turned a b ≡ maxBits a b
 unfolding maxBits
@@ -175,17 +166,12 @@ greatest-is a b =
 written-back : (bits : ℕ) → bits < 2 ^ 32 → isNan (ofBits binary32 bits) ≡ false → toBits binary32 (ofBits binary32 bits) ≡ bits
 written-back bits fits h = toBits-ofBits binary32 bits fits (subst (λ (t : Bool). T (not t)) (sym h) tt)
 
--- n values behind the ends b, the last of them `last`, the ends are e, and a span holds them
-pub record EndsHeld (b : Ends) (n : ℕ) (e : Ends) (s : Span) (last : ℕ) : Type 0 where
-  least : Extreme (ofBits binary32) (b .min) n (e .min) (s .low) (s .some) last
-  greatest : Extreme turned (b .max) n (e .max) (s .turned) (s .some) last
-
 -- before any of the n
-pub span-none : (b : Ends) (last : ℕ) → b .min < 2 ^ 32 → b .max < 2 ^ 32 → EndsHeld b 0 b (spanFrom (b .min) (b .max)) last
+pub span-none : (b : MinMax) (last : ℕ) → b .min < 2 ^ 32 → b .max < 2 ^ 32 → MinMaxHeld b 0 b (spanFrom (b .min) (b .max)) last
 span-none b last s t = record { least = none-yet (ofBits binary32) (b .min) last s; greatest = none-yet turned (b .max) last t }
 
-module _ {b : Ends} {n last : ℕ} {e : Ends} {s : Span} (H : EndsHeld b n e s last) where
-  pub span-more : (v : ℕ) → v < 2 ^ 32 → EndsHeld b (n + 1) (taken e v) (spanWith s v) v
+module _ {b : MinMax} {n last : ℕ} {e : MinMax} {s : Span} (H : MinMaxHeld b n e s last) where
+  pub span-more : (v : ℕ) → v < 2 ^ 32 → MinMaxHeld b (n + 1) (minMaxWith e v) (spanWith s v) v
   unfolding isNumber minBits
   span-more v fits =
       record {
@@ -196,7 +182,7 @@ module _ {b : Ends} {n last : ℕ} {e : Ends} {s : Span} (H : EndsHeld b n e s l
             (one-more (H .greatest) v fits));
       }
 
-  pub span-bits : 0 < n → endsSaid s b last ≡ e
+  pub span-bits : 0 < n → minMaxSaid s b last ≡ e
   unfolding saidBits isNumber
   span-bits some =
       let low = bits-are (H .least) some (toBits binary32) (written-back (e .min) (H .least .small)) in

@@ -4,7 +4,6 @@ pub mod Held
 pub mod Extremes
 pub mod Stepping
 pub mod Writing
-pub mod Near
 pub mod Accepting
 pub mod ReadingRun
 pub mod Repeating

@@ -1,6 +1,6 @@
 -- A whole stream in lent bytes, as the calls speak of it: the values of the theory's stream, and the state that reopening answers. Assumes nothing.
 use mathlib.Core.Path.{_≡_, refl, sym, ap, ap₂, _∙_, subst}
-use mathlib.Core.Bool.{Bool, false}
+use mathlib.Core.Bool.{Bool, false, false≢true}
 use mathlib.Core.List.{List, _++_}
 use mathlib.Core.Option.{Option, none, some}
 use Prim.Native.Nat.{ℕ, _+_, _-_, _^_, _≤_, _<_}
@@ -8,16 +8,18 @@ use native.Mathlib.Omega.{arith}
 use lib.ListN.{drop}
 use Rattle.bits.specs.Bits.{bitsOf}
 use Rattle.models.specs.Answers.{answered, refused}
-use Rattle.models.specs.Refusals.{number}
+use Rattle.models.specs.Refusals.{faultOf}
 use Rattle.models.specs.declared.Refusal.{Refusal}
-use Rattle.stream.specs.Format.{Gather, gatherFrom, Stream, State}
-use Rattle.stream.specs.Read.{Reading, done, stopped, readN, leftover, judged, ended, readAll, Reopened, reopened, stateOf, checked, reopen}
-use Rattle.stream.specs.Cases.{plain}
+use Rattle.stream.specs.Format.{Gather, gatherFrom, Stream, State, bare}
+use Rattle.stream.specs.Read.{Reading, done, stopped, readN, leftover, endedBy, ended, readAll, Reopened, reopened, stateRead, checked, reopen}
+use Rattle.stream.specs.Calls.{faultAt}
 use Rattle.stream.proofs.Reading.{prepend, thenRead, read-then}
 use Rattle.stream.proofs.Gathered.{SeenIn, seen-read, instead, holding, Alike, read-any}
-use Rattle.macaque_v.specs.State.{Ends, gatherEnds, modeOf, streamIn, isFirst, opened}
-use Rattle.macaque_v.specs.ReadRun.{stateAt, Stands, readFrom, Reads, StopsBy, leftBehind}
-use Rattle.macaque_v.specs.Read.{valuesRead, valuesIn, valuesFrom, startOf, reopening, stateWith, Unopened}
+use Rattle.macaque_v.specs.State.{Known, gatherKnown, modeOf, streamIn, isFirst, opened}
+use Rattle.macaque_v.specs.ReadRun.{stateAt, endSaid}
+use Rattle.macaque_v.specs.inner.ReadRun.{ReadableAt, readFrom, Reads, StopsBy}
+use Rattle.macaque_v.specs.Read.{valuesRead, valuesIn, startOf}
+use Rattle.macaque_v.specs.inner.Read.{valuesFrom, reopening, stateWith, Unopened}
 use Rattle.macaque_v.specs.declared.Opening.{Opening}
 use Rattle.macaque_v.specs.declared.read_run.Cursor.{Cursor}
 use Rattle.macaque_v.proofs.ReadingRun.{reads-none, reads-then, then-stops}
@@ -34,7 +36,7 @@ module _ {A B : Type 0} (S : Stream A) (G : Gather B) where
       (subst (λ (z : List Bool). Alike S G (ended (done vs s r)) (ended (done vs (holding S G (t .seen) s) z))) (e .2)
       (go (leftover (s .place) r))))
     where
-      go : (o : Option ℕ) → Alike S G (judged vs s r o) (judged vs (holding S G (t .seen) s) r o)
+      go : (o : Option ℕ) → Alike S G (endedBy vs s r o) (endedBy vs (holding S G (t .seen) s) r o)
       go none = (refl, refl, refl)
       go (some p) = refl
   alike-ended (done vs s r) (stopped f) e = absurd e
@@ -45,7 +47,7 @@ module _ {A B : Type 0} (S : Stream A) (G : Gather B) where
   alike-values (done vs s r) (done us t b) e = ap answered (e .0)
   alike-values (done vs s r) (stopped f) e = absurd e
   alike-values (stopped f) (done us t b) e = absurd e
-  alike-values (stopped f) (stopped g) e = ap (λ (h : _). refused (h .no)) e
+  alike-values (stopped f) (stopped g) e = ap (λ (h : _). refused (faultAt h)) e
 
   alike-stops : (p : Reading A) (q : Reading B) (r : Refusal) → Alike S G p q → StopsBy p r → StopsBy q r
   alike-stops p q r e s = go q (subst (λ (z : Reading A). Alike S G z q) (s .stops) e)
@@ -83,36 +85,36 @@ pub ended-prepend : (us : List ℕ) (q : Reading Unit) → ended (prepend us q) 
 unfolding ended
 ended-prepend us (done vs s b) = go (leftover (s .place) b)
   where
-    go : (p : Option ℕ) → judged (us ++ vs) s b p ≡ prepend us (judged vs s b p)
+    go : (p : Option ℕ) → endedBy (us ++ vs) s b p ≡ prepend us (endedBy vs s b p)
     go none = refl
     go (some p) = refl
 ended-prepend us (stopped f) = refl
 
 -- ---- from the start
 
-pub start-stands : (bytes : List ℕ) (o : Opening) → (startOf o) .last < 2 ^ 32 → Stands bytes (startOf o)
-start-stands bytes o h = record { within = omega arith; near = omega arith; small = h; held = λ set. absurd (set refl) }
+pub start-readable : (bytes : List ℕ) (o : Opening) → (startOf o) .last < 2 ^ 32 → ReadableAt bytes (startOf o)
+start-readable bytes o h = record { within = omega arith; near = omega arith; small = h; held = λ set. absurd (false≢true (sym set)) }
 
-pub starts : (bytes : List ℕ) (o : Opening) (at : Cursor) → (at ≡ startOf o) × (at .last < 2 ^ 32) → Stands bytes at × (at .count ≡ 0)
+pub starts : (bytes : List ℕ) (o : Opening) (at : Cursor) → (at ≡ startOf o) × (at .last < 2 ^ 32) → ReadableAt bytes at × (at .count ≡ 0)
 starts bytes o at h =
-    (subst (Stands bytes) (sym (h .0)) (start-stands bytes o (subst (λ (c : Cursor). c .last < 2 ^ 32) (h .0) (h .1))), ap (λ (c : Cursor). c .count) (h .0))
+    (subst (ReadableAt bytes) (sym (h .0)) (start-readable bytes o (subst (λ (c : Cursor). c .last < 2 ^ 32) (h .0) (h .1))), ap (λ (c : Cursor). c .count) (h .0))
 
 module _ (bytes : List ℕ) (o : Opening) where
-  all-alike : (n : ℕ) → Alike (plain (modeOf (isFirst o))) gatherEnds (ended (readFrom (isFirst o) bytes (startOf o) n)) (readAll (streamIn (isFirst o)) n (opened o) (bitsOf bytes))
+  all-alike : (n : ℕ) → Alike (bare (modeOf (isFirst o))) gatherKnown (ended (readFrom (isFirst o) bytes (startOf o) n)) (readAll (streamIn (isFirst o)) n (opened o) (bitsOf bytes))
   all-alike n =
-      let S : Stream Unit = plain (modeOf (isFirst o)) in
-      alike-ended S gatherEnds (readFrom (isFirst o) bytes (startOf o) n) (readN (streamIn (isFirst o)) n (opened o) (bitsOf bytes))
-      (read-any S gatherEnds n (stateAt (startOf o)) (gatherEnds .none) (bitsOf bytes))
+      let S : Stream Unit = bare (modeOf (isFirst o)) in
+      alike-ended S gatherKnown (readFrom (isFirst o) bytes (startOf o) n) (readN (streamIn (isFirst o)) n (opened o) (bitsOf bytes))
+      (read-any S gatherKnown n (stateAt (startOf o)) (gatherKnown .none) (bitsOf bytes))
 
   -- ---- the values
 
   pub same-values : (n : ℕ) → valuesIn bytes n o ≡ valuesFrom (isFirst o) bytes (startOf o) n
-  same-values n = sym (alike-values (plain (modeOf (isFirst o))) gatherEnds (ended (readFrom (isFirst o) bytes (startOf o) n)) _ (all-alike n))
+  same-values n = sym (alike-values (bare (modeOf (isFirst o))) gatherKnown (ended (readFrom (isFirst o) bytes (startOf o) n)) _ (all-alike n))
 
-  pub values-right : {n : ℕ} {vs : List ℕ} {to : Cursor} → Reads (isFirst o) bytes (startOf o) n vs to → leftBehind bytes (to .place) ≡ false → valuesIn bytes n o ≡ answered vs
+  pub values-right : {n : ℕ} {vs : List ℕ} {to : Cursor} → Reads (isFirst o) bytes (startOf o) n vs to → endSaid bytes to ≡ answered tt → valuesIn bytes n o ≡ answered vs
   values-right {n} R e = same-values n ∙ ap valuesRead (ends-right R e)
 
-  pub values-wrong : (n : ℕ) (r : Refusal) → StopsBy (ended (readFrom (isFirst o) bytes (startOf o) n)) r → valuesIn bytes n o ≡ refused (number r)
+  pub values-wrong : (n : ℕ) (r : Refusal) → StopsBy (ended (readFrom (isFirst o) bytes (startOf o) n)) r → valuesIn bytes n o ≡ refused (faultOf r)
   values-wrong n r s = same-values n ∙ ap valuesRead (s .stops) ∙ ap refused (s .numbered)
 
   -- ---- the state after k of n values
@@ -124,23 +126,23 @@ module _ (bytes : List ℕ) (o : Opening) where
     stops-unopened : {r : Refusal} → StopsBy (ended (readFrom (isFirst o) bytes (startOf o) n)) r → Unopened (reopening bytes n k o) r
     unfolding reopen
     stops-unopened {r} s =
-        let S : Stream Unit = plain (modeOf (isFirst o)) in
-        let t = alike-stops S gatherEnds (ended (readFrom (isFirst o) bytes (startOf o) n)) (readAll (streamIn (isFirst o)) n (opened o) (bitsOf bytes)) r (all-alike n) s in
+        let S : Stream Unit = bare (modeOf (isFirst o)) in
+        let t = alike-stops S gatherKnown (ended (readFrom (isFirst o) bytes (startOf o) n)) (readAll (streamIn (isFirst o)) n (opened o) (bitsOf bytes)) r (all-alike n) s in
         record {
           fault = t .fault;
-          opens = ap (λ (q : Reading Ends). checked q (stateOf (readN (streamIn (isFirst o)) k (opened o) (bitsOf bytes)))) (t .stops);
+          opens = ap (λ (q : Reading Known). checked q (stateRead (readN (streamIn (isFirst o)) k (opened o) (bitsOf bytes)))) (t .stops);
           numbered = t .numbered;
         }
 
     -- it stops among the first k values
-    pub early-unopened : {r : Refusal} → Stands bytes (startOf o) → StopsBy (readFrom (isFirst o) bytes (startOf o) k) r → Unopened (reopening bytes n k o) r
+    pub early-unopened : {r : Refusal} → ReadableAt bytes (startOf o) → StopsBy (readFrom (isFirst o) bytes (startOf o) k) r → Unopened (reopening bytes n k o) r
     early-unopened h s = stops-unopened (ends-early (then-stops (isFirst o) bytes (reads-none (isFirst o) bytes (startOf o) h) k s n (omega arith)))
 
     module _ {us : List ℕ} {at : Cursor} (R : Reads (isFirst o) bytes (startOf o) k us at) where
       -- it stops behind them
       pub late-unopened : {r : Refusal} → StopsBy (ended (readFrom (isFirst o) bytes at (n - k))) r → Unopened (reopening bytes n k o) r
       late-unopened {r} s =
-          let S : Stream Unit = plain (modeOf (isFirst o)) in
+          let S : Stream Unit = bare (modeOf (isFirst o)) in
           stops-unopened
           (record {
             fault = s .fault;
@@ -152,12 +154,12 @@ module _ (bytes : List ℕ) (o : Opening) where
             numbered = s .numbered;
           })
 
-      pub right-reopened : {vs : List ℕ} {to : Cursor} → Reads (isFirst o) bytes at (n - k) vs to → leftBehind bytes (to .place) ≡ false
-          → reopening bytes n k o ≡ reopened (stateWith at (gatherFrom gatherEnds (modeOf (isFirst o)) 0 (gatherEnds .none) us))
+      pub right-reopened : {vs : List ℕ} {to : Cursor} → Reads (isFirst o) bytes at (n - k) vs to → endSaid bytes to ≡ answered tt
+          → reopening bytes n k o ≡ reopened (stateWith at (gatherFrom gatherKnown (modeOf (isFirst o)) 0 (gatherKnown .none) us))
       unfolding reopen
       right-reopened {vs} {to} Q e =
-          let S : Stream Unit = plain (modeOf (isFirst o)) in
+          let S : Stream Unit = bare (modeOf (isFirst o)) in
           let all : Reads (isFirst o) bytes (startOf o) n (us ++ vs) to = subst (λ (m : ℕ). Reads (isFirst o) bytes (startOf o) m (us ++ vs) to) whole (reads-then (isFirst o) bytes R Q) in
-          alike-checked S gatherEnds (ended (readFrom (isFirst o) bytes (startOf o) n)) (readAll (streamIn (isFirst o)) n (opened o) (bitsOf bytes))
-          (us ++ vs) (stateAt to) (drop (to .place) (bitsOf bytes)) (all-alike n) (ends-right all e) (stateOf (readN (streamIn (isFirst o)) k (opened o) (bitsOf bytes)))
-          ∙ ap stateOf (read-gathering S gatherEnds k (stateAt (startOf o)) (gatherEnds .none) (bitsOf bytes) us (stateAt at) (drop (at .place) (bitsOf bytes)) (R .values))
+          alike-checked S gatherKnown (ended (readFrom (isFirst o) bytes (startOf o) n)) (readAll (streamIn (isFirst o)) n (opened o) (bitsOf bytes))
+          (us ++ vs) (stateAt to) (drop (to .place) (bitsOf bytes)) (all-alike n) (ends-right all e) (stateRead (readN (streamIn (isFirst o)) k (opened o) (bitsOf bytes)))
+          ∙ ap stateRead (read-gathering S gatherKnown k (stateAt (startOf o)) (gatherKnown .none) (bitsOf bytes) us (stateAt at) (drop (at .place) (bitsOf bytes)) (R .values))

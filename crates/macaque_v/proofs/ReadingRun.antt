@@ -11,116 +11,111 @@ use lib.ListN.{length, take, drop, getD, set, length-append, length-take, length
 use lib.Seq.{take-suc, take-suc-set, drop-cons, drop-drop, set-at, append-snoc, length-take-le}
 use Rattle.bits.specs.Bits.{bitsOf}
 use Rattle.bits.proofs.Bytes.{length-bitsOf}
-use Rattle.models.specs.Refusals.{number}
+use Rattle.models.specs.Answers.{answered, refused}
+use Rattle.models.specs.Refusals.{faultOf}
 use Rattle.models.specs.declared.Refusal.{Refusal}
-use Rattle.stream.specs.Format.{macaque, Window, rawNext, advance}
-use Rattle.stream.specs.Read.{Step, got, refused, done, push, follow, stepAt, readOne, readN}
-use Rattle.stream.specs.Cases.{plain}
-use Rattle.stream.proofs.Formats.{macaque-good}
+use Rattle.models.proofs.Judged.{not-answered, not-refused, same-answer, same-fault}
+use Rattle.stream.specs.Format.{macaque, Window, windowIn, unset, rawNext, advance, bare}
+use Rattle.stream.specs.Read.{Step, got, halt, done, push, follow, stepAt, readOne, readN}
+use Rattle.stream.proofs.Formats.{macaque-good, Framed}
 use Rattle.stream.proofs.OwnBits.{Own, own}
 use Rattle.stream.proofs.Reading.{prepend, thenRead, read-then}
 use Rattle.stream.proofs.Steps.{read-stopped}
 use Rattle.macaque_v.specs.State.{modeOf}
-use Rattle.coding.specs.Code.{windowIn}
-use Rattle.coding.specs.Ahead.{Held}
-use Rattle.macaque_v.specs.ReadRun.{stateAt, Stands, readFrom, Reads, ReadsOn, StopsBy}
+use Rattle.coding.specs.inner.Ahead.{WindowSound}
+use Rattle.macaque_v.specs.ReadRun.{stateAt, ahead, movedBy, nextFrom}
+use Rattle.macaque_v.specs.inner.ReadRun.{ReadableAt, readFrom, Reads, ReadsOn, StopsBy}
 use Rattle.macaque_v.specs.declared.read_run.Cursor.{Cursor}
 use Rattle.coding.proofs.Words.{read-of-45}
-
--- where reading stands behind one more value
-abbrev pub moved : Cursor → ℕ → ℕ → ℕ → ℕ → Cursor
-moved at v lead trail used = record { last = v; lead = lead; trail = trail; place = at .place + used; count = at .count + 1 }
 
 module _ (first : Bool) (bytes : List ℕ) where
   -- ---- one value, by the 45 bits ahead
 
-  module _ (at : Cursor) (s : Stands bytes at) (raw : Bool) (is : raw ≡ rawNext (modeOf first) (at .count)) where
+  module _ (at : Cursor) (s : ReadableAt bytes at) (raw : Bool) (is : raw ≡ rawNext (modeOf first) (at .count)) where
     abbrev rest : List Bool
-    rest = drop (at .place) (bitsOf bytes)
+    rest = ahead bytes at
 
-    rest-long : length rest ≡ 8 * length bytes - at .place
-    rest-long = length-drop (at .place) (bitsOf bytes) ∙ ap (λ (n : ℕ). n - at .place) (length-bitsOf bytes)
+    abbrev win : Window
+    win = windowIn (at .lead) (at .trail)
 
-    step-is : (q : Step) → readOne macaque raw (windowIn (at .lead) (at .trail)) (at .last) (take 45 rest) ≡ q
-        → stepAt (plain (modeOf first)) (stateAt at) rest ≡ q
-    step-is q e =
-        let win : Window = windowIn (at .lead) (at .trail) in
-        ap (λ (r : Bool). readOne macaque r win (at .last) rest) (sym is) ∙ sym (read-of-45 raw win (at .last) rest) ∙ e
+    pub next-is : (q : Step) → readOne macaque raw win (at .last) (take 45 rest) ≡ q → nextFrom first bytes at ≡ movedBy at q
+    next-is q e = ap (movedBy at) (ap (λ (r : Bool). readOne macaque r win (at .last) rest) (sym is) ∙ sym (read-of-45 raw win (at .last) rest) ∙ e)
 
-    -- one value's answer, by its step
-    one-by : (q : Step) → readOne macaque raw (windowIn (at .lead) (at .trail)) (at .last) (take 45 rest) ≡ q
-        → readFrom first bytes at 1 ≡ follow (stateAt at) q (λ v w u. done (v ∷ []) (advance (plain (modeOf first)) (stateAt at) v w u) (drop u rest))
-    unfolding readN
-    one-by q e =
-        ap (λ (t : Step). follow (stateAt at) t (λ v w u. push v (readN (plain (modeOf first)) 0 (advance (plain (modeOf first)) (stateAt at) v w u) (drop u rest)))) (step-is q e)
-        ∙ go q
-      where
-        go : (t : Step) → follow (stateAt at) t (λ v w u. push v (readN (plain (modeOf first)) 0 (advance (plain (modeOf first)) (stateAt at) v w u) (drop u rest)))
-            ≡ follow (stateAt at) t (λ v w u. done (v ∷ []) (advance (plain (modeOf first)) (stateAt at) v w u) (drop u rest))
-        go (got v w u) = refl
-        go (refused n) = refl
+    module _ (v lead trail used : ℕ) (e : readOne macaque raw win (at .last) (take 45 rest) ≡ got v (windowIn lead trail) used) where
+      its-bits : Own macaque raw win (at .last) (take 45 rest) v (windowIn lead trail) used
+      its-bits = own macaque macaque-good win (at .last) (s .small) (take 45 rest) v (windowIn lead trail) used raw e
 
-    pub one-stops : (r : Refusal) → readOne macaque raw (windowIn (at .lead) (at .trail)) (at .last) (take 45 rest) ≡ refused (number r)
-        → StopsBy (readFrom first bytes at 1) r
-    one-stops r e =
-        record {
-          fault = record { no = number r; value = at .count; place = at .place };
-          stops = one-by (refused (number r)) e;
-          numbered = refl;
-        }
-
-    module _ (v lead trail used : ℕ) (e : readOne macaque raw (windowIn (at .lead) (at .trail)) (at .last) (take 45 rest) ≡ got v (windowIn lead trail) used) where
-      its-bits : Own macaque raw (windowIn (at .lead) (at .trail)) (at .last) (take 45 rest) v (windowIn lead trail) used
-      its-bits = own macaque macaque-good (windowIn (at .lead) (at .trail)) (at .last) (s .small) (take 45 rest) v (windowIn lead trail) used raw e
-
-      used-most : used ≤ 45
+      pub used-most : used ≤ 45
       used-most = omega (arith, its-bits .there, length-take 45 rest, min-le-left 45 (length rest))
 
-      used-there : used ≤ length rest
-      used-there = omega (arith, its-bits .there, length-take 45 rest, min-le-right 45 (length rest))
-
-      still-held : (windowIn lead trail ≡ windowIn (at .lead) (at .trail)) ⊎ (lead + trail < 32) → Held lead trail
+      still-held : (windowIn lead trail ≡ win) ⊎ Framed macaque (windowIn lead trail) → WindowSound lead trail
       still-held (inl f) there =
           let a : lead ≡ at .lead = ap (λ (w : Window). w .lead) f in
           let t : trail ≡ at .trail = ap (λ (w : Window). w .trail) f in
-          omega (arith, s .held (λ z. there (a ∙ z)))
-      still-held (inr h) there = h
+          omega (arith, a, t, s .held (ap unset (sym f) ∙ there))
+      still-held (inr h) there = h .some
 
-      pub one-read : Reads first bytes at 1 (v ∷ []) (moved at v lead trail used)
-      one-read =
+      pub readable-next : ReadableAt bytes (record { last = v; lead = lead; trail = trail; place = at .place + used; count = at .count + 1 })
+      readable-next =
+          let long : length rest ≡ 8 * length bytes - at .place = length-drop (at .place) (bitsOf bytes) ∙ ap (λ (n : ℕ). n - at .place) (length-bitsOf bytes) in
           record {
-            values =
-                one-by (got v (windowIn lead trail) used) e
-                ∙ ap₂ (λ (n : ℕ) (b : List Bool). done (v ∷ []) (record { last = v; win = windowIn lead trail; place = at .place + used; count = n; seen = tt }) b)
-                (sym (add-one (at .count))) (drop-drop used (at .place) (bitsOf bytes));
-            long = refl;
-            counted = refl;
-            stands =
-                record {
-                  within = omega (arith, s .within, used-there, rest-long);
-                  near = omega (arith, s .near, used-most);
-                  small = its-bits .small;
-                  held = still-held (its-bits .frame);
-                };
+            within = omega (arith, s .within, its-bits .there, length-take 45 rest, min-le-right 45 (length rest), long);
+            near = omega (arith, s .near, used-most);
+            small = its-bits .small;
+            held = still-held (its-bits .frame);
           }
+
+  -- ---- one value, by the step
+
+  module _ (at : Cursor) where
+    by-step : (q : Step) → stepAt (bare (modeOf first)) (stateAt at) (ahead bytes at) ≡ q
+        → readFrom first bytes at 1
+        ≡ follow (stateAt at) q (λ v w u. push v (done [] (advance (bare (modeOf first)) (stateAt at) v w u) (drop u (ahead bytes at))))
+    unfolding readN
+    by-step q e = ap (λ (t : Step). follow (stateAt at) t (λ v w u. push v (readN (bare (modeOf first)) 0 (advance (bare (modeOf first)) (stateAt at) v w u) (drop u (ahead bytes at))))) e
+
+    pub one-stops : (r : Refusal) → refused (faultOf r) ≡ nextFrom first bytes at → StopsBy (readFrom first bytes at 1) r
+    one-stops r h = go (stepAt (bare (modeOf first)) (stateAt at) (ahead bytes at)) refl
+      where
+        go : (q : Step) → stepAt (bare (modeOf first)) (stateAt at) (ahead bytes at) ≡ q → StopsBy (readFrom first bytes at 1) r
+        go (got v w u) e = absurd (not-answered (h ∙ ap (movedBy at) e))
+        go (halt n) e = record { fault = _; stops = by-step (halt n) e; numbered = sym (same-fault (h ∙ ap (movedBy at) e)) }
+
+    pub one-read : (to : Cursor) → answered to ≡ nextFrom first bytes at → ReadableAt bytes to → Reads first bytes at 1 (to .last ∷ []) to
+    one-read to h R = go (stepAt (bare (modeOf first)) (stateAt at) (ahead bytes at)) refl
+      where
+        go : (q : Step) → stepAt (bare (modeOf first)) (stateAt at) (ahead bytes at) ≡ q → Reads first bytes at 1 (to .last ∷ []) to
+        go (halt n) e = absurd (not-refused (h ∙ ap (movedBy at) e))
+        go (got v w u) e =
+            let is = same-answer (h ∙ ap (movedBy at) e) in
+            record {
+              values =
+                  by-step (got v w u) e
+                  ∙ ap₂ (λ (n : ℕ) (b : List Bool). done (v ∷ []) (record { last = v; win = w; place = at .place + u; count = n; seen = tt }) b)
+                  (sym (add-one (at .count))) (drop-drop u (at .place) (bitsOf bytes))
+                  ∙ ap (λ (c : Cursor). done (c .last ∷ []) (stateAt c) (ahead bytes c)) (sym is);
+              long = refl;
+              counted = ap (λ (c : Cursor). c .count) is;
+              readable = R;
+            }
 
   -- ---- some, and then more
 
-  pub reads-none : (from : Cursor) → Stands bytes from → Reads first bytes from 0 [] from
+  pub reads-none : (from : Cursor) → ReadableAt bytes from → Reads first bytes from 0 [] from
   unfolding readN
-  reads-none from s = record { values = refl; long = refl; counted = omega arith; stands = s }
+  reads-none from s = record { values = refl; long = refl; counted = omega arith; readable = s }
 
   module _ {from mid : Cursor} {i : ℕ} {us : List ℕ} (R : Reads first bytes from i us mid) where
     pub reads-then : {to : Cursor} {j : ℕ} {vs : List ℕ} → Reads first bytes mid j vs to → Reads first bytes from (i + j) (us ++ vs) to
     reads-then {to} {j} {vs} Q =
         record {
           values =
-              read-then (plain (modeOf first)) i j (stateAt from) (drop (from .place) (bitsOf bytes))
-              ∙ ap (thenRead (plain (modeOf first)) j) (R .values)
+              read-then (bare (modeOf first)) i j (stateAt from) (drop (from .place) (bitsOf bytes))
+              ∙ ap (thenRead (bare (modeOf first)) j) (R .values)
               ∙ ap (prepend us) (Q .values);
           long = omega (arith, length-append us vs, R .long, Q .long);
           counted = omega (arith, R .counted, Q .counted);
-          stands = Q .stands;
+          readable = Q .readable;
         }
 
     -- a refusal stands, however many values were asked for
@@ -132,8 +127,8 @@ module _ (first : Bool) (bytes : List ℕ) where
           fault = Q .fault;
           stops =
               ap (λ (m : ℕ). readFrom first bytes from m) (sym e)
-              ∙ read-stopped (plain (modeOf first)) (i + j) (n - (i + j)) (stateAt from) rest (Q .fault)
-              (read-then (plain (modeOf first)) i j (stateAt from) rest ∙ ap (thenRead (plain (modeOf first)) j) (R .values) ∙ ap (prepend us) (Q .stops));
+              ∙ read-stopped (bare (modeOf first)) (i + j) (n - (i + j)) (stateAt from) rest (Q .fault)
+              (read-then (bare (modeOf first)) i j (stateAt from) rest ∙ ap (thenRead (bare (modeOf first)) j) (R .values) ∙ ap (prepend us) (Q .stops));
           numbered = Q .numbered;
         }
 

@@ -9,8 +9,9 @@ use native.Mathlib.Omega.{arith}
 use lib.ListN.{length, take, getD}
 use lib.Seq.{take-suc, length-take-le}
 use Rattle.stream.specs.Format.{Gather, Mode, gathered, rawNext, gatherFrom}
-use Rattle.macaque_v.specs.State.{Ends, taken, gatherEnds, modeOf}
-use Rattle.macaque_v.specs.ReadRun.{Stands, Reads, gatherSum, endsIn, freshTally, withSum, withEnds, tallied, Walked}
+use Rattle.macaque_v.specs.State.{MinMax, minMaxWith, gatherMinMax, modeOf}
+use Rattle.macaque_v.specs.ReadRun.{gatherSum}
+use Rattle.macaque_v.specs.inner.ReadRun.{ReadableAt, Reads, minMaxIn, freshTally, withSum, withMinMax, tallied, Walked}
 use Rattle.macaque_v.specs.declared.read_run.Aim.{Aim}
 use Rattle.macaque_v.specs.declared.read_run.Aim.the-variants as OfAim
 use Rattle.macaque_v.specs.declared.read_run.Tally.{Tally}
@@ -37,11 +38,11 @@ module _ {A : Type 0} (G : Gather A) (mode : Mode) where
       ∙ ap (λ (m : ℕ). gathered G (rawNext mode (n + m)) b (getD vs i 0)) long
 
 -- a raw value enters the least and the greatest as any other
-pub ends-more : (mode : Mode) (n : ℕ) (e : Ends) (vs : List ℕ) (i : ℕ) → i < length vs
-    → gatherFrom gatherEnds mode n e (take (i + 1) vs) ≡ taken (gatherFrom gatherEnds mode n e (take i vs)) (getD vs i 0)
-ends-more mode n e vs i h = gather-more gatherEnds mode n e vs i h ∙ go (rawNext mode (n + i)) (gatherFrom gatherEnds mode n e (take i vs))
+pub ends-more : (mode : Mode) (n : ℕ) (e : MinMax) (vs : List ℕ) (i : ℕ) → i < length vs
+    → gatherFrom gatherMinMax mode n e (take (i + 1) vs) ≡ minMaxWith (gatherFrom gatherMinMax mode n e (take i vs)) (getD vs i 0)
+ends-more mode n e vs i h = gather-more gatherMinMax mode n e vs i h ∙ go (rawNext mode (n + i)) (gatherFrom gatherMinMax mode n e (take i vs))
   where
-    go : (raw : Bool) (b : Ends) → gathered gatherEnds raw b (getD vs i 0) ≡ taken b (getD vs i 0)
+    go : (raw : Bool) (b : MinMax) → gathered gatherMinMax raw b (getD vs i 0) ≡ minMaxWith b (getD vs i 0)
     go true b = refl
     go false b = refl
 
@@ -49,19 +50,19 @@ pub tallied-append : (aim : Aim) (mode : Mode) (n : ℕ) (t : Tally) (us vs : Li
     → tallied aim mode n t (us ++ vs) ≡ tallied aim mode (n + length us) (tallied aim mode n t us) vs
 tallied-append OfAim.Nothing mode n t us vs = refl
 tallied-append OfAim.Sum mode n t us vs = ap (withSum t) (gather-append gatherSum mode n (t .sum) us vs)
-tallied-append OfAim.Ends mode n t us vs = ap (withEnds t) (gather-append gatherEnds mode n (endsIn t) us vs)
+tallied-append OfAim.MinMax mode n t us vs = ap (withMinMax t) (gather-append gatherMinMax mode n (minMaxIn t) us vs)
 
 tallied-none : (aim : Aim) (mode : Mode) (n : ℕ) (t : Tally) → t ≡ tallied aim mode n t []
 unfolding gatherFrom
 tallied-none OfAim.Nothing mode n t = refl
 tallied-none OfAim.Sum mode n t = refl
-tallied-none OfAim.Ends mode n t = refl
+tallied-none OfAim.MinMax mode n t = refl
 
 -- ---- on the way through the values
 
 module _ (first : Bool) (bytes : List ℕ) (from : Cursor) (aim : Aim) where
-  pub walked-none : Stands bytes from → Walked first bytes from 0 aim from freshTally
-  walked-none s = record { values = []; reads = reads-none first bytes from s; taken = tallied-none aim (modeOf first) (from .count) freshTally }
+  pub walked-none : ReadableAt bytes from → Walked first bytes from 0 aim from freshTally
+  walked-none s = record { values = []; reads = reads-none first bytes from s; tally = tallied-none aim (modeOf first) (from .count) freshTally }
 
   pub walked-more : (i k : ℕ) (at to : Cursor) (t u : Tally) (vs : List ℕ) → Walked first bytes from i aim at t → Reads first bytes at k vs to
       → u ≡ tallied aim (modeOf first) (at .count) t vs → Walked first bytes from (i + k) aim to u
@@ -70,7 +71,7 @@ module _ (first : Bool) (bytes : List ℕ) (from : Cursor) (aim : Aim) where
       record {
         values = W .values ++ vs;
         reads = reads-then first bytes (W .reads) R;
-        taken =
-            e ∙ ap₂ (λ (n : ℕ) (s : Tally). tallied aim (modeOf first) n s vs) long (W .taken)
+        tally =
+            e ∙ ap₂ (λ (n : ℕ) (s : Tally). tallied aim (modeOf first) n s vs) long (W .tally)
             ∙ sym (tallied-append aim (modeOf first) (from .count) freshTally (W .values) vs);
       }

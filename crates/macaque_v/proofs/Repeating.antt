@@ -8,16 +8,14 @@ use lib.Bits.{bitXor}
 use lib.ListN.{length, take, drop, getD, set, replicate, length-append, length-drop, length-replicate, length-set, replicate-append-replicate, take-append-drop}
 use lib.Seq.{take-at, take-suc-set, drop-drop, drop-cons, set-at, length-take-le, take-append-add}
 use Rattle.bits.specs.Bits.{field, fieldAt, starts, bitsOf}
-use Rattle.stream.specs.Format.{macaque, Window, Mode, withFirst, withoutFirst, rawNext, State, advance}
+use Rattle.stream.specs.Format.{macaque, Window, Mode, withFirst, withoutFirst, rawNext, State, advance, windowIn, unset, bare}
 use Rattle.stream.specs.Read.{Step, got, done, push, follow, readWord, readBody, readOne, readN}
-use Rattle.stream.specs.Cases.{plain}
-use Rattle.coding.specs.Code.{windowIn}
-use Rattle.coding.specs.Ahead.{repeated, RepeatsAt, IsWord}
+use Rattle.coding.specs.inner.Ahead.{repeated, RepeatsAt, IsWord}
 use Rattle.coding.proofs.Decoding.{kept-says}
 use Rattle.macaque_v.specs.State.{modeOf}
-use Rattle.macaque_v.specs.ReadRun.{Stands, Reads, onward, AtOnce, ReadsOn}
+use Rattle.macaque_v.specs.inner.ReadRun.{ReadableAt, Reads, onward, AtOnce, ReadsOn, bareState}
 use Rattle.macaque_v.specs.declared.read_run.Cursor.{Cursor}
-use Rattle.macaque_v.proofs.ReadingRun.{one-read, reads-none, reads-then}
+use Rattle.macaque_v.proofs.ReadingRun.{next-is, readable-next, one-read, reads-none, reads-then}
 
 -- ---- reading
 
@@ -31,40 +29,37 @@ same-step : (win : Window) (l : ℕ) (r : List Bool) → readOne macaque false w
 unfolding readOne readBody readWord starts
 same-step win l r = refl
 
-abbrev standing : ℕ → Window → ℕ → ℕ → State Unit
-standing l win p n = record { last = l; win = win; place = p; count = n; seen = tt }
-
 -- k repeats at the front of the bits are k times the last value
 pub repeats-read : (m : Mode) (l : ℕ) (win : Window) (r : List Bool) (k p n : ℕ) → 0 < n
-    → readN (plain m) k (standing l win p n) (repeated k ++ r) ≡ done (replicate k l) (standing l win (p + 2 * k) (n + k)) r
+    → readN (bare m) k (bareState l win p n) (repeated k ++ r) ≡ done (replicate k l) (bareState l win (p + 2 * k) (n + k)) r
 unfolding readN repeated
 repeats-read m l win r zero p n h =
     let e : p ≡ p + 2 * 0 = omega arith in
     let f : n ≡ n + 0 = omega arith in
-    ap₂ (λ (a b : ℕ). done [] (standing l win a b) r) e f
+    ap₂ (λ (a b : ℕ). done [] (bareState l win a b) r) e f
 repeats-read m l win r (suc k) p n h =
     let e : (p + 2) + 2 * k ≡ p + 2 * suc k = omega arith in
     let f : suc n + k ≡ n + suc k = omega arith in
-    let s : State Unit = standing l win p n in
+    let s : State Unit = bareState l win p n in
     let rest : List Bool = repeated k ++ r in
-    ap (λ (raw : Bool). follow s (readOne macaque raw win l (true ∷ false ∷ rest)) (λ v w u. push v (readN (plain m) k (advance (plain m) s v w u) (drop u (true ∷ false ∷ rest))))) (later-coded m n h)
-    ∙ ap (λ (q : Step). follow s q (λ v w u. push v (readN (plain m) k (advance (plain m) s v w u) (drop u (true ∷ false ∷ rest))))) (same-step win l rest)
+    ap (λ (raw : Bool). follow s (readOne macaque raw win l (true ∷ false ∷ rest)) (λ v w u. push v (readN (bare m) k (advance (bare m) s v w u) (drop u (true ∷ false ∷ rest))))) (later-coded m n h)
+    ∙ ap (λ (q : Step). follow s q (λ v w u. push v (readN (bare m) k (advance (bare m) s v w u) (drop u (true ∷ false ∷ rest))))) (same-step win l rest)
     ∙ ap (push l) (repeats-read m l win r k (p + 2) (suc n) (omega arith))
-    ∙ ap₂ (λ (a b : ℕ). done (l ∷ replicate k l) (standing l win a b) r) e f
+    ∙ ap₂ (λ (a b : ℕ). done (l ∷ replicate k l) (bareState l win a b) r) e f
 
-pub reads-repeats : (first : Bool) (bytes : List ℕ) (at : Cursor) → Stands bytes at → 0 < at .count → (k : ℕ) → RepeatsAt bytes (at .place) k
+pub reads-repeats : (first : Bool) (bytes : List ℕ) (at : Cursor) → ReadableAt bytes at → 0 < at .count → (k : ℕ) → RepeatsAt bytes (at .place) k
     → Reads first bytes at k (replicate k (at .last)) (onward at (at .last) (at .place + 2 * k) k)
 reads-repeats first bytes at s h k R =
     let rest : List Bool = drop (at .place) (bitsOf bytes) in
     let win : Window = windowIn (at .lead) (at .trail) in
     record {
       values =
-          ap (readN (plain (modeOf first)) k (standing (at .last) win (at .place) (at .count))) (sym (take-append-drop (2 * k) rest) ∙ ap (λ (z : List Bool). z ++ drop (2 * k) rest) (R .bits))
+          ap (readN (bare (modeOf first)) k (bareState (at .last) win (at .place) (at .count))) (sym (take-append-drop (2 * k) rest) ∙ ap (λ (z : List Bool). z ++ drop (2 * k) rest) (R .bits))
           ∙ repeats-read (modeOf first) (at .last) win (drop (2 * k) rest) k (at .place) (at .count) h
-          ∙ ap (done (replicate k (at .last)) (standing (at .last) win (at .place + 2 * k) (at .count + k))) (drop-drop (2 * k) (at .place) (bitsOf bytes));
+          ∙ ap (done (replicate k (at .last)) (bareState (at .last) win (at .place + 2 * k) (at .count + k))) (drop-drop (2 * k) (at .place) (bitsOf bytes));
       long = length-replicate k (at .last);
       counted = refl;
-      stands = record { within = R .there; near = omega (arith, s .near); small = s .small; held = s .held };
+      readable = record { within = R .there; near = omega (arith, s .near); small = s .small; held = s .held };
     }
 
 -- ---- places
@@ -106,7 +101,7 @@ module _ (old : List ℕ) (i v : ℕ) (h : i + 28 ≤ length old) where
   spread-long =
       omega (arith, length-append (take i old) (replicate 28 v ++ drop (i + 28) old), length-append (replicate 28 v) (drop (i + 28) old), at-i, length-replicate 28 v, length-drop (i + 28) old)
 
-pub on-repeats : (first : Bool) (bytes : List ℕ) (at : Cursor) (i n : ℕ) (old new : List ℕ) → Stands bytes at → 0 < at .count → i + 28 ≤ length old
+pub on-repeats : (first : Bool) (bytes : List ℕ) (at : Cursor) (i n : ℕ) (old new : List ℕ) → ReadableAt bytes at → 0 < at .count → i + 28 ≤ length old
     → (k : ℕ) → i + k ≤ n → RepeatsAt bytes (at .place) k → new ≡ take i old ++ (replicate 28 (at .last) ++ drop (i + 28) old) → ReadsOn first bytes at i n old new (onward at (at .last) (at .place + 2 * k) k)
 on-repeats first bytes at i n old new s some h k most R e =
     record {
@@ -125,7 +120,7 @@ pub record Reached (first : Bool) (bytes : List ℕ) (from : Cursor) (i n : ℕ)
   pub on : ReadsOn first bytes from i n old new at
   pub here : i + on .many ≡ j
 
-pub reached-none : (first : Bool) (bytes : List ℕ) (at : Cursor) (i n : ℕ) (out : List ℕ) → Stands bytes at → i ≤ n → Reached first bytes at i n out out at i
+pub reached-none : (first : Bool) (bytes : List ℕ) (at : Cursor) (i n : ℕ) (out : List ℕ) → ReadableAt bytes at → i ≤ n → Reached first bytes at i n out out at i
 reached-none first bytes at i n out s h =
     let e : i + 0 ≡ i = omega arith in
     record {
@@ -141,7 +136,7 @@ reached-none first bytes at i n out s h =
       here = e;
     }
 
-pub reached-start : (first : Bool) (bytes : List ℕ) (from : Cursor) (i n : ℕ) (out : List ℕ) → Stands bytes from → i ≤ n
+pub reached-start : (first : Bool) (bytes : List ℕ) (from : Cursor) (i n : ℕ) (out : List ℕ) → ReadableAt bytes from → i ≤ n
     → Reached first bytes from i n out out (onward from (from .last) (from .place) (i - i)) i
 reached-start first bytes from i n out s h =
     let e : from .count ≡ from .count + (i - i) = omega arith in
@@ -200,17 +195,20 @@ module _ (first : Bool) (bytes : List ℕ) (from : Cursor) (some : 0 < from .cou
   here = onward from last place (j - i)
 
   -- a value in the window
-  pub reached-kept : j < n → word < 2 ^ 63 → ¬ (from .lead ≡ 255) → (y : ℕ) → y ≡ fieldAt 1 (32 - from .lead - from .trail) (field 64 word) * 2 ^ from .trail
+  pub reached-kept : j < n → word < 2 ^ 63 → unset (windowIn (from .lead) (from .trail)) ≡ false → (y : ℕ) → y ≡ fieldAt 1 (32 - from .lead - from .trail) (field 64 word) * 2 ^ from .trail
       → Reached first bytes from i n old (set new j (bitXor last y)) (onward from (bitXor last y) (place + (33 - from .lead - from .trail)) (j + 1 - i)) (j + 1)
   reached-kept h small set-there y is =
-      let s : Stands bytes here = R .on .reads .stands in
+      let s : ReadableAt bytes here = R .on .reads .readable in
       let v : ℕ = bitXor last y in
       let used : ℕ = 33 - from .lead - from .trail in
+      let win : Window = windowIn (from .lead) (from .trail) in
+      let coded : false ≡ rawNext (modeOf first) (here .count) = sym (later-coded (modeOf first) (here .count) (omega arith)) in
+      let says : readOne macaque false win last (take 45 (drop place (bitsOf bytes))) ≡ got v win used =
+      kept-says word (from .lead) (from .trail) small (s .held set-there) bytes place last y W set-there is in
       let e : from .count + (j - i) + 1 ≡ from .count + (j + 1 - i) = omega (arith, R .here) in
       subst (λ (m : ℕ). Reached first bytes from i n old (set new j v) (record { last = v; lead = from .lead; trail = from .trail; place = place + used; count = m }) (j + 1)) e
       (reached-more first bytes i n old new j R h g
-      (one-read first bytes here s false (sym (later-coded (modeOf first) (here .count) (omega arith))) v (from .lead) (from .trail) used
-      (kept-says word (from .lead) (from .trail) small (s .held set-there) bytes place last y W set-there is)))
+      (one-read first bytes here _ (sym (next-is first bytes here s false coded (got v win used) says)) (readable-next first bytes here s false coded v (from .lead) (from .trail) used says)))
 
   -- repeats
   pub reached-repeats : (k : ℕ) → AtOnce word (length new - j) (n - j) k → 0 < k → (new′ : List ℕ) → new′ ≡ take j new ++ (replicate 28 last ++ drop (j + 28) new)
@@ -220,4 +218,4 @@ module _ (first : Bool) (bytes : List ℕ) (from : Cursor) (some : 0 < from .cou
       let e : from .count + (j - i) + k ≡ from .count + (j + k - i) = omega (arith, R .here) in
       subst (λ (m : ℕ). Reached first bytes from i n old new′ (record { last = last; lead = from .lead; trail = from .trail; place = place + 2 * k; count = m }) (j + k)) e
       (reached-on first bytes i n old new j R
-      (on-repeats first bytes here j n new new′ (R .on .reads .stands) (omega arith) (omega (arith, room)) k (omega (arith, A .wanted, R .here, R .on .fits)) (W .same k (A .top)) is) (j + k) (omega arith))
+      (on-repeats first bytes here j n new new′ (R .on .reads .readable) (omega arith) (omega (arith, room)) k (omega (arith, A .wanted, R .here, R .on .fits)) (W .same k (A .top)) is) (j + k) (omega arith))

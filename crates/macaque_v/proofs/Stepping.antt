@@ -9,16 +9,17 @@ use lib.Dec.{eqb}
 use lib.ListN.{length}
 use Rattle.bits.specs.Bits.{field}
 use Rattle.bits.proofs.Fields.{length-field}
-use Rattle.stream.specs.Format.{macaque, Window, gathered, rawNext, State, isRaw, bitsFor, windowFor}
+use Rattle.stream.specs.Format.{macaque, Window, gathered, rawNext, State, isRaw, bitsFor, windowFor, windowIn}
 use Rattle.stream.specs.Write.{keptOne, bitsOne, next}
-use Rattle.coding.specs.Code.{windowIn}
-use Rattle.macaque_v.specs.State.{Ends, taken, gatherEnds, modeOf, stateOf}
-use Rattle.macaque_v.specs.Write.{streamBy, ruleBy, stateBy, Stepped}
+use Rattle.macaque_v.specs.State.{Known, MinMax, minMaxWith, gatherMinMax, modeOf, stateOf}
+use Rattle.macaque_v.specs.Write.{streamBy, ruleBy}
+use Rattle.macaque_v.specs.inner.Write.{stateBy, StrokeSays}
 use Rattle.macaque_v.specs.declared.MacaqueV.{MacaqueV}
 use Rattle.macaque_v.specs.declared.span.Span.{Span}
 use Rattle.macaque_v.specs.declared.write.Pen.{Pen}
-use Rattle.macaque_v.specs.declared.write.Step.{Step}
-use Rattle.macaque_v.proofs.Extremes.{EndsHeld, span-more}
+use Rattle.macaque_v.specs.declared.write.Stroke.{Stroke}
+use Rattle.macaque_v.specs.inner.Span.{MinMaxHeld}
+use Rattle.macaque_v.proofs.Extremes.{span-more}
 
 -- the next value is stored raw
 pub raw-is : (first : Bool) (n : ℕ) → (first && eqb n 0) ≡ rawNext (modeOf first) n
@@ -55,18 +56,18 @@ raw-none first len n e i h =
     ne-eqb i n no ∙ ap (λ (b : Bool). b && eqb i 0) (sym e) ∙ raw-at first len i
 
 -- a raw value enters the least and the greatest as any other
-taken-is : (raw : Bool) (e : Ends) (v : ℕ) → taken e v ≡ gathered gatherEnds raw e v
+taken-is : (raw : Bool) (e : MinMax) (v : ℕ) → minMaxWith e v ≡ gathered gatherMinMax raw e v
 taken-is true e v = refl
 taken-is false e v = refl
 
 -- the pen stands in the state s, n values behind the writer m
-pub record PenAt (m : MacaqueV) (s : State Ends) (n : ℕ) (p : Pen) : Type 0 where
-  pub stands : s ≡ stateBy p (s .count) (s .seen)
-  pub ends : EndsHeld ((stateOf m) .seen) n (s .seen) (p .span) (p .last)
+pub record PenAt (m : MacaqueV) (s : State Known) (n : ℕ) (p : Pen) : Type 0 where
+  pub state : s ≡ stateBy p (s .count) (s .seen)
+  pub ends : MinMaxHeld ((stateOf m) .seen) n (s .seen) (p .span) (p .last)
 
-module _ (m : MacaqueV) {s : State Ends} {n : ℕ} {p : Pen} (P : PenAt m s n p) (raw : Bool) (same : raw ≡ isRaw (streamBy m) s) (x : ℕ) (r : Step) (S : Stepped raw (m .«error_bound») p x r) where
+module _ (m : MacaqueV) {s : State Known} {n : ℕ} {p : Pen} (P : PenAt m s n p) (raw : Bool) (same : raw ≡ isRaw (streamBy m) s) (x : ℕ) (r : Stroke) (S : StrokeSays raw (m .«error_bound») p x r) where
   -- the state as the pen has it
-  abbrev t : State Ends
+  abbrev t : State Known
   t = stateBy p (s .count) (s .seen)
 
   abbrev v : ℕ
@@ -83,19 +84,19 @@ module _ (m : MacaqueV) {s : State Ends} {n : ℕ} {p : Pen} (P : PenAt m s n p)
 
   -- what is kept, and its bits
   kept-is : v ≡ keptOne (ruleBy m) (isRaw (streamBy m) s) (s .last) x
-  kept-is = S .kept ∙ ap₂ (λ (b : Bool) (l : ℕ). keptOne (ruleBy m) b l x) same (ap (λ (u : State Ends). u .last) (sym (P .stands)))
+  kept-is = S .kept ∙ ap₂ (λ (b : Bool) (l : ℕ). keptOne (ruleBy m) b l x) same (ap (λ (u : State Known). u .last) (sym (P .state)))
 
   pub digits-are : field (r .width) (r .bits) ≡ bitsOne (streamBy m) s (keptOne (ruleBy m) (isRaw (streamBy m) s) (s .last) x)
-  digits-are = digits-here ∙ ap₂ (λ (u : State Ends) (z : ℕ). bitsOne (streamBy m) u z) (sym (P .stands)) kept-is
+  digits-are = digits-here ∙ ap₂ (λ (u : State Known) (z : ℕ). bitsOne (streamBy m) u z) (sym (P .state)) kept-is
 
   pub pen-next : v < 2 ^ 32 → PenAt m (next (streamBy m) s (keptOne (ruleBy m) (isRaw (streamBy m) s) (s .last) x)) (n + 1) (r .pen)
   pen-next fits =
       let here : PenAt m (next (streamBy m) t v) (n + 1) (r .pen) =
       record {
-        stands = ap₂ (λ (w : Window) (k : ℕ). record { last = v; win = w; place = k; count = suc (s .count); seen = gathered gatherEnds (isRaw (streamBy m) t) (s .seen) v }) (sym window-here) (sym place-here);
+        state = ap₂ (λ (w : Window) (k : ℕ). record { last = v; win = w; place = k; count = suc (s .count); seen = gathered gatherMinMax (isRaw (streamBy m) t) (s .seen) v }) (sym window-here) (sym place-here);
         ends =
-            subst (λ (e : Ends). EndsHeld ((stateOf m) .seen) (n + 1) e (r .pen .span) v) (taken-is (isRaw (streamBy m) t) (s .seen) v)
-            (subst (λ (z : Span). EndsHeld ((stateOf m) .seen) (n + 1) (taken (s .seen) v) z v) (sym (S .span)) (span-more (P .ends) v fits));
+            subst (λ (e : MinMax). MinMaxHeld ((stateOf m) .seen) (n + 1) e (r .pen .span) v) (taken-is (isRaw (streamBy m) t) (s .seen) v)
+            (subst (λ (z : Span). MinMaxHeld ((stateOf m) .seen) (n + 1) (minMaxWith (s .seen) v) z v) (sym (S .span)) (span-more (P .ends) v fits));
       } in
       subst (λ (z : ℕ). PenAt m (next (streamBy m) s z) (n + 1) (r .pen)) kept-is
-      (subst (λ (u : State Ends). PenAt m (next (streamBy m) u v) (n + 1) (r .pen)) (sym (P .stands)) here)
+      (subst (λ (u : State Known). PenAt m (next (streamBy m) u v) (n + 1) (r .pen)) (sym (P .state)) here)

@@ -1,8 +1,8 @@
 -- What the contracts of `macaque_v` cite.
 pub mod State
-pub mod Span
 pub mod Write
 pub mod Calls
 pub mod Made
 pub mod ReadRun
 pub mod Read
+pub mod inner

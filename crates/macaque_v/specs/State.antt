@@ -4,22 +4,30 @@ use mathlib.Core.Bool.{Bool, true, false}
 use Prim.Native.Nat.{ℕ}
 use Rattle.models.specs.Floats.{minBits, maxBits, freshBits}
 use Rattle.models.specs.declared.ErrorBound.{ErrorBound}
-use Rattle.stream.specs.Format.{Window, Gather, Mode, withFirst, withoutFirst, Stream, macaqueOf, State, fresh}
+use Rattle.stream.specs.Format.{Gather, Mode, withFirst, withoutFirst, Stream, macaqueOf, State, fresh}
 use Rattle.macaque_v.specs.declared.MacaqueV.{MacaqueV}
 use Rattle.macaque_v.specs.declared.Opening.{Opening}
 use Rattle.macaque_v.specs.declared.Opening.the-variants.{First, On}
 
--- ---- what a state gathers: the least and the greatest kept value
+-- ---- the least and the greatest kept value
 
-pub record Ends : Type 0 where
+pub record MinMax : Type 0 where
   pub min : ℕ
   pub max : ℕ
 
-abbrev pub taken : Ends → ℕ → Ends
-taken e v = record { min = minBits (e .min) v; max = maxBits (e .max) v }
+abbrev pub minMaxWith : MinMax → ℕ → MinMax
+minMaxWith e v = record { min = minBits (e .min) v; max = maxBits (e .max) v }
 
-abbrev pub gatherEnds : Gather Ends
-gatherEnds = record { none = record { min = freshBits; max = freshBits }; byFirst = taken; byNext = taken }
+abbrev pub gatherMinMax : Gather MinMax
+gatherMinMax = record { none = record { min = freshBits; max = freshBits }; byFirst = minMaxWith; byNext = minMaxWith }
+
+-- ---- what a state gathers; a further thing stands beside it by `both` of stream/specs/Format
+
+abbrev pub Known : Type 0
+Known = MinMax
+
+abbrev pub gatherKnown : Gather Known
+gatherKnown = gatherMinMax
 
 -- ---- the stream of a mode, and the state in it
 
@@ -27,10 +35,10 @@ abbrev pub modeOf : Bool → Mode
 modeOf true = withFirst
 modeOf false = withoutFirst
 
-abbrev pub streamIn : Bool → Stream Ends
-streamIn first = macaqueOf (modeOf first) gatherEnds
+abbrev pub streamIn : Bool → Stream Known
+streamIn first = macaqueOf (modeOf first) gatherKnown
 
-abbrev pub stateOf : MacaqueV → State Ends
+abbrev pub stateOf : MacaqueV → State Known
 stateOf m =
     record {
       last = m .«last_value»;
@@ -40,7 +48,7 @@ stateOf m =
       seen = record { min = m .«min_value»; max = m .«max_value» };
     }
 
-abbrev pub writerOf : ErrorBound → Bool → State Ends → MacaqueV
+abbrev pub writerOf : ErrorBound → Bool → State Known → MacaqueV
 writerOf b first s =
     record {
       «error_bound» = b;
@@ -65,5 +73,5 @@ abbrev pub openingValue : Opening → ℕ
 openingValue First = 0
 openingValue (On v) = v
 
-abbrev pub opened : Opening → State Ends
+abbrev pub opened : Opening → State Known
 opened o = fresh (streamIn (isFirst o)) (openingValue o)

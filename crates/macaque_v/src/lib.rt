@@ -33,7 +33,7 @@ pub struct MacaqueV {
 
 impl MacaqueV {
     // The most values of a stream, and of a segment's residuals.
-    pub const MOST_VALUES: usize = 65536;
+    pub const MOST_VALUES: usize = models::MOST_VALUES;
 
     pub const MOST_RESIDUALS: usize = 255;
 

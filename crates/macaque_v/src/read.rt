@@ -5,11 +5,14 @@ ghost use Prim.Native.Nat.{_+_, _^_, _≤_, _<_};
 ghost use lib.ListN.{length, take};
 ghost use Rattle.models.specs.Answers.{verdict};
 ghost use Rattle.models.specs.Calls.{saysVerdict, saysGrid, saysValue};
+ghost use Rattle.models.specs.Limits.{mostValues};
 ghost use Rattle.stream.specs.Read.{bufferAfter};
 ghost use Rattle.macaque_v.specs.State.{isFirst};
-ghost use Rattle.macaque_v.specs.ReadRun.{Stands};
-ghost use Rattle.macaque_v.specs.Read.{startOf, gridCauses, valuesFrom, drawn, drawnAt, gridAnswer, gridMemory, sumAnswer};
-ghost use Rattle.macaque_v.specs.Read.{reopenCauses, reopening, resumed, StateSays, reopenAnswer, reopenMemory, saysOpen};
+ghost use Rattle.macaque_v.specs.inner.ReadRun.{ReadableAt};
+ghost use Rattle.macaque_v.specs.Read.{startOf, gridCauses, drawn, gridAnswer, gridMemory, sumAnswer};
+ghost use Rattle.macaque_v.specs.inner.Read.{valuesFrom, drawnAt};
+ghost use Rattle.macaque_v.specs.Read.{reopenCauses, reopenAnswer, reopenMemory, saysOpen};
+ghost use Rattle.macaque_v.specs.inner.Read.{reopening, resumed, StateSays};
 use crate::MacaqueV;
 use crate::Opening;
 use crate::read_run;
@@ -139,7 +142,7 @@ pub fn start(opening: Opening) -> Cursor
 // The next n values, to the places of `out` from i on, a block at a time: what stands behind a block is read and found right before the block
 // is copied. The array has 28 places more than a block takes.
 fn draw(bytes: &[u8], first: bool, at: Cursor, n: usize, i: usize, out: &mut [u32]) -> GridAnswer
-    requires { ⌜ Stands (now bytes) at × (at .count + n ≤ 65536) × (i + n ≤ length (now out)) ⌝ }
+    requires { ⌜ ReadableAt (now bytes) at × (at .count + n ≤ mostValues) × (i + n ≤ length (now out)) ⌝ }
     ensures answer { λ r. ⌜ saysGrid r ≡ drawn (valuesFrom first (now (bytes .entry)) at n) ⌝ }
     ensures values { λ r. ⌜ now (out .exit) ≡ drawnAt i (now (out .entry)) (valuesFrom first (now (bytes .entry)) at n) ⌝ }
 {
@@ -155,8 +158,13 @@ fn draw(bytes: &[u8], first: bool, at: Cursor, n: usize, i: usize, out: &mut [u3
                     }
                     GridAnswer::Drawn => {}
                 }
-            } else if read_run::left_behind(bytes, to.place) {
-                return GridAnswer::Refused(Refusal::Leftover);
+            } else {
+                match read_run::judge_end(bytes, to) {
+                    Verdict::Refused(r) => {
+                        return GridAnswer::Refused(r);
+                    }
+                    Verdict::Passed => {}
+                }
             }
             read_run::copy(&values, k, i, out);
             GridAnswer::Drawn
@@ -168,11 +176,11 @@ fn draw(bytes: &[u8], first: bool, at: Cursor, n: usize, i: usize, out: &mut [u3
 
 // The state after the first k values, with the least and the greatest of them. The values behind them are read too.
 fn state_at(bytes: &[u8], count: usize, k: usize, opening: Opening) -> Walk
-    requires { ⌜ (k ≤ count) × (count ≤ 65536) ⌝ }
+    requires { ⌜ (k ≤ count) × (count ≤ mostValues) ⌝ }
     ensures { λ r. ⌜ StateSays (now (bytes .entry)) count k opening r ⌝ }
 {
     let first = is_first(opening);
-    match read_run::go_through(bytes, first, start(opening), k, Aim::Ends) {
+    match read_run::go_through(bytes, first, start(opening), k, Aim::MinMax) {
         Walk::Refused(r) => Walk::Refused(r),
         Walk::To(at, ends) => {
             match read_run::go_to_end(bytes, first, at, count - k, Aim::Nothing) {
@@ -191,7 +199,7 @@ fn resume(
     opening: Opening,
     error_bound: ErrorBound,
 ) -> OpenAnswer
-    requires { ⌜ (k ≤ count) × (count ≤ 65536) × (used ≤ length (now buffer)) ⌝ }
+    requires { ⌜ (k ≤ count) × (count ≤ mostValues) × (used ≤ length (now buffer)) ⌝ }
     ensures answer { λ r. ⌜ saysOpen r ≡ resumed «error_bound» (isFirst opening) (reopening (take used (now (buffer .entry))) count k opening) ⌝ }
     ensures bytes { λ r. ⌜ now (buffer .exit) ≡ bufferAfter (reopening (take used (now (buffer .entry))) count k opening) (now (buffer .entry)) ⌝ }
 {

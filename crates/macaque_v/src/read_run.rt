@@ -3,14 +3,23 @@ ghost use mathlib.Core.Path.{_≡_};
 ghost use mathlib.Core.List.{_++_};
 ghost use Prim.Native.Nat.{_+_, _-_, _*_, _/_, _^_, _<_, _≤_};
 ghost use lib.ListN.{length, take, drop, replicate};
+ghost use Rattle.models.specs.Limits.{mostValues};
+ghost use Rattle.bits.specs.Bits.{bitsOf};
+ghost use Rattle.models.specs.Calls.{saysVerdict};
+ghost use Rattle.models.specs.Refusals.{number};
 ghost use Rattle.stream.specs.Format.{gathered, gatherFrom};
-ghost use Rattle.coding.specs.Ahead.{RepeatsAt};
+ghost use Rattle.stream.specs.Read.{leftover};
+ghost use Rattle.coding.specs.inner.Ahead.{RepeatsAt, stopNumber};
 ghost use Rattle.macaque_v.specs.State.{modeOf};
-ghost use Rattle.macaque_v.specs.ReadRun.{Stands, NextSays, AtOnce, onward, ReadsOn, FillSays, WalkSays, WholeSays, gatherSum, tallied, IsStretched, leftBehind};
+ghost use Rattle.macaque_v.specs.ReadRun.{gatherSum, endSaid};
+ghost use Rattle.macaque_v.specs.inner.ReadRun.{ReadableAt, NextSays, AtOnce, onward, ReadsOn, FillSays, WalkSays, WholeSays, tallied, IsStretched, saysBehind};
+use crate::MacaqueV;
 use crate::span;
 use coding::decode;
 use coding::decode::Decoded;
+use coding::decode::Stop;
 use models::Refusal;
+use models::Verdict;
 
 // Where reading stands: behind so many values and bits, with the last value and its window.
 pub struct Cursor {
@@ -29,15 +38,16 @@ pub enum Run {
 
 // ---- into an array
 
-// One value more.
-fn next(bytes: &[u8], first: bool, at: Cursor) -> Run
-    requires { ⌜ Stands (now bytes) at × (at .count < 65536) ⌝ }
+// One value more, by its code: the step of every reading call. (`read_on` and `repeats` take what follows in the same window at once.)
+pub fn next(bytes: &[u8], first: bool, at: Cursor) -> Run
+    requires { ⌜ ReadableAt (now bytes) at × (at .count < mostValues) ⌝ }
     ensures { λ r. ⌜ NextSays first (now (bytes .entry)) at r ⌝ }
 {
     let raw = first & (at.count == 0);
+    let set = at.lead != MacaqueV::OPENING_LEADING;
     let ahead = decode::look(bytes, at.place);
-    match decode::decode(raw, ahead.word, ahead.left, at.lead, at.trail, at.last) {
-        Decoded::Refused(r) => Run::Refused(r),
+    match decode::decode(raw, ahead.word, ahead.left, set, at.lead, at.trail, at.last) {
+        Decoded::Stopped(s) => Run::Refused(refusal_of(s)),
         Decoded::Got {
             value,
             lead,
@@ -53,9 +63,20 @@ fn next(bytes: &[u8], first: bool, at: Cursor) -> Run
     }
 }
 
+// The refusal that a stop is.
+fn refusal_of(stop: Stop) -> Refusal
+    ensures { λ r. ⌜ number r ≡ stopNumber stop ⌝ }
+{
+    match stop {
+        Stop::EndsEarly => Refusal::EndsEarly,
+        Stop::NoWindow => Refusal::NoWindow,
+        Stop::WindowNotAllowed => Refusal::WindowNotAllowed,
+    }
+}
+
 // The next n values, into the first places of `out`. Those behind them may change too: callers hand over arrays of their own.
 pub fn fill(bytes: &[u8], first: bool, from: Cursor, n: usize, out: &mut [u32]) -> Run
-    requires { ⌜ Stands (now bytes) from × (from .count + n ≤ 65536) × (n ≤ length (now out)) ⌝ }
+    requires { ⌜ ReadableAt (now bytes) from × (from .count + n ≤ mostValues) × (n ≤ length (now out)) ⌝ }
     ensures { λ r. ⌜ FillSays first (now (bytes .entry)) from n (now (out .entry)) (now (out .exit)) r ⌝ }
 {
     let mut at = from;
@@ -86,7 +107,7 @@ fn go_on(
     n: usize,
     out: &mut [u32],
 ) -> Cursor
-    requires { ⌜ Stands (now bytes) from × (0 < from .count) × (from .count + n ≤ 65536 + i) × (i ≤ n) × (n ≤ length (now out)) ⌝ }
+    requires { ⌜ ReadableAt (now bytes) from × (0 < from .count) × (from .count + n ≤ mostValues + i) × (i ≤ n) × (n ≤ length (now out)) ⌝ }
     ensures { λ r. ⌜ ReadsOn first (now (bytes .entry)) from i n (now (out .entry)) (now (out .exit)) r ⌝ }
 {
     if same & (bytes.len() - from.place / 8 < 8) {
@@ -97,12 +118,12 @@ fn go_on(
 
 // The values in the last window and the repeats that stand behind a value, as long as they come, into the places from i on.
 fn read_on(bytes: &[u8], first: bool, from: Cursor, i: usize, n: usize, out: &mut [u32]) -> Cursor
-    requires { ⌜ Stands (now bytes) from × (0 < from .count) × (from .count + n ≤ 65536 + i) × (i ≤ n) × (n ≤ length (now out)) ⌝ }
+    requires { ⌜ ReadableAt (now bytes) from × (0 < from .count) × (from .count + n ≤ mostValues + i) × (i ≤ n) × (n ≤ length (now out)) ⌝ }
     ensures { λ r. ⌜ ReadsOn first (now (bytes .entry)) from i n (now (out .entry)) (now (out .exit)) r ⌝ }
 {
     let lead = from.lead;
     let trail = from.trail;
-    if lead == 255 {
+    if lead == MacaqueV::OPENING_LEADING {
         return repeats(bytes, first, from, i, n, out);
     }
     let step = (33 - lead - trail) as usize;
@@ -131,7 +152,7 @@ fn read_on(bytes: &[u8], first: bool, from: Cursor, i: usize, n: usize, out: &mu
 
 // Where reading stands behind so many values more in the same window.
 fn further(from: Cursor, last: u32, place: usize, more: usize) -> Cursor
-    requires { ⌜ from .count + more ≤ 65536 ⌝ }
+    requires { ⌜ from .count + more ≤ mostValues ⌝ }
     ensures { λ r. ⌜ r ≡ onward from last place more ⌝ }
 {
     Cursor {
@@ -145,7 +166,7 @@ fn further(from: Cursor, last: u32, place: usize, more: usize) -> Cursor
 
 // The repeats that stand behind a value, 28 at most and where `out` has room for so many, into the places from i on.
 fn repeats(bytes: &[u8], first: bool, at: Cursor, i: usize, n: usize, out: &mut [u32]) -> Cursor
-    requires { ⌜ Stands (now bytes) at × (0 < at .count) × (at .count + n ≤ 65536 + i) × (i ≤ n) × (n ≤ length (now out)) ⌝ }
+    requires { ⌜ ReadableAt (now bytes) at × (0 < at .count) × (at .count + n ≤ mostValues + i) × (i ≤ n) × (n ≤ length (now out)) ⌝ }
     ensures { λ r. ⌜ ReadsOn first (now (bytes .entry)) at i n (now (out .entry)) (now (out .exit)) r ⌝ }
 {
     let k = at_once(decode::word_ahead(bytes, at.place), out.len() - i, n - i);
@@ -161,7 +182,7 @@ fn last_repeats(
     n: usize,
     out: &mut [u32],
 ) -> Cursor
-    requires { ⌜ Stands (now bytes) at × (0 < at .count) × (at .count + n ≤ 65536 + i) × (i ≤ n) × (n ≤ length (now out)) × (length (now bytes) < at .place / 8 + 8) ⌝ }
+    requires { ⌜ ReadableAt (now bytes) at × (0 < at .count) × (at .count + n ≤ mostValues + i) × (i ≤ n) × (n ≤ length (now out)) × (length (now bytes) < at .place / 8 + 8) ⌝ }
     ensures { λ r. ⌜ ReadsOn first (now (bytes .entry)) at i n (now (out .entry)) (now (out .exit)) r ⌝ }
 {
     let ahead = decode::look_at_end(bytes, at.place);
@@ -179,7 +200,7 @@ fn take_repeats(
     n: usize,
     out: &mut [u32],
 ) -> Cursor
-    requires { ⌜ Stands (now bytes) at × (0 < at .count) × (at .count + n ≤ 65536 + i) × (i + k ≤ n) × RepeatsAt (now bytes) (at .place) k × (0 < k → i + 28 ≤ length (now out)) ⌝ }
+    requires { ⌜ ReadableAt (now bytes) at × (0 < at .count) × (at .count + n ≤ mostValues + i) × (i + k ≤ n) × RepeatsAt (now bytes) (at .place) k × (0 < k → i + 28 ≤ length (now out)) ⌝ }
     ensures { λ r. ⌜ ReadsOn first (now (bytes .entry)) at i n (now (out .entry)) (now (out .exit)) r ⌝ }
 {
     if k == 0 {
@@ -233,7 +254,7 @@ pub fn copy(values: &[u32], n: usize, i: usize, out: &mut [u32])
 pub enum Aim {
     Nothing,
     Sum,
-    Ends,
+    MinMax,
 }
 
 pub struct Tally {
@@ -250,7 +271,7 @@ pub enum Walk {
 
 // The next n values, and what is taken in of them. The array has 28 places more than are asked for, so that repeats are taken at once up to the last.
 pub fn go_through(bytes: &[u8], first: bool, from: Cursor, n: usize, aim: Aim) -> Walk
-    requires { ⌜ Stands (now bytes) from × (from .count + n ≤ 65536) ⌝ }
+    requires { ⌜ ReadableAt (now bytes) from × (from .count + n ≤ mostValues) ⌝ }
     ensures { λ r. ⌜ WalkSays first (now (bytes .entry)) from n aim r ⌝ }
 {
     let mut values = [0u32; 1052];
@@ -279,30 +300,50 @@ pub fn go_through(bytes: &[u8], first: bool, from: Cursor, n: usize, aim: Aim) -
 
 // A stream's last n values: nothing may follow them.
 pub fn go_to_end(bytes: &[u8], first: bool, from: Cursor, n: usize, aim: Aim) -> Walk
-    requires { ⌜ Stands (now bytes) from × (from .count + n ≤ 65536) ⌝ }
+    requires { ⌜ ReadableAt (now bytes) from × (from .count + n ≤ mostValues) ⌝ }
     ensures { λ r. ⌜ WholeSays first (now (bytes .entry)) from n aim r ⌝ }
 {
     match go_through(bytes, first, from, n, aim) {
         Walk::Refused(r) => Walk::Refused(r),
         Walk::To(to, tally) => {
-            if left_behind(bytes, to.place) {
-                return Walk::Refused(Refusal::Leftover);
+            match judge_end(bytes, to) {
+                Verdict::Refused(r) => Walk::Refused(r),
+                Verdict::Passed => Walk::To(to, tally),
             }
-            Walk::To(to, tally)
         }
     }
 }
 
-// Whether a set padding bit or a further byte follows the place.
-pub fn left_behind(bytes: &[u8], place: usize) -> bool
-    requires { ⌜ (place ≤ 8 * length (now bytes)) × (place ≤ 2 ^ 63) ⌝ }
-    ensures { λ r. ⌜ r ≡ leftBehind (now (bytes .entry)) place ⌝ }
+// Whether the stream ends where reading stands.
+pub fn judge_end(bytes: &[u8], at: Cursor) -> Verdict
+    requires { ⌜ ReadableAt (now bytes) at × (at .count ≤ mostValues) ⌝ }
+    ensures { λ r. ⌜ saysVerdict r ≡ endSaid (now (bytes .entry)) at ⌝ }
+{
+    match left_behind(bytes, at.place) {
+        Behind::Nothing => Verdict::Passed,
+        Behind::From(_) => Verdict::Refused(Refusal::Leftover),
+    }
+}
+
+// What follows a place: nothing, or something from a further place on, the first set padding bit, else the first further byte's first bit.
+pub enum Behind {
+    Nothing,
+    From(usize),
+}
+
+fn left_behind(bytes: &[u8], place: usize) -> Behind
+    requires { ⌜ (place ≤ 8 * length (now bytes)) × (place + 7 < 2 ^ 64) ⌝ }
+    ensures { λ r. ⌜ saysBehind r ≡ leftover place (drop place (bitsOf (now (bytes .entry)))) ⌝ }
 {
     let whole = (place + 7) / 8;
-    if whole < bytes.len() {
-        return true;
+    let padding = bits::get(bytes, place, 8 * whole - place);
+    if padding != 0 {
+        return Behind::From(8 * whole - ((64 - u64::leading_zeros(padding)) as usize));
     }
-    bits::get(bytes, place, 8 * whole - place) != 0
+    if whole < bytes.len() {
+        return Behind::From(8 * whole);
+    }
+    Behind::Nothing
 }
 
 // The smaller of the two.
@@ -314,7 +355,7 @@ pub fn smaller(a: usize, b: usize) -> usize
 
 // The first k values, behind `count` others.
 fn taken_in(aim: Aim, first: bool, count: usize, tally: Tally, values: &[u32], k: usize) -> Tally
-    requires { ⌜ (k ≤ length (now values)) × (count + k ≤ 65536) ⌝ }
+    requires { ⌜ (k ≤ length (now values)) × (count + k ≤ mostValues) ⌝ }
     ensures { λ r. ⌜ r ≡ tallied aim (modeOf first) count tally (take k (now (values .entry))) ⌝ }
 {
     match aim {
@@ -324,7 +365,7 @@ fn taken_in(aim: Aim, first: bool, count: usize, tally: Tally, values: &[u32], k
             min: tally.min,
             max: tally.max,
         },
-        Aim::Ends => stretched(tally, values, k),
+        Aim::MinMax => stretched(tally, values, k),
     }
 }
 
@@ -340,7 +381,7 @@ fn plus(raw: bool, sum: f32, value: u32) -> f32
 }
 
 fn added(first: bool, count: usize, sum: f32, values: &[u32], k: usize) -> f32
-    requires { ⌜ (k ≤ length (now values)) × (count + k ≤ 65536) ⌝ }
+    requires { ⌜ (k ≤ length (now values)) × (count + k ≤ mostValues) ⌝ }
     ensures { λ r. ⌜ r ≡ gatherFrom gatherSum (modeOf first) count sum (take k (now (values .entry))) ⌝ }
 {
     let mut total = sum;
@@ -362,7 +403,7 @@ fn stretched(tally: Tally, values: &[u32], k: usize) -> Tally
     let mut ends = span::begun(tally.min, tally.max);
     let mut i: usize = 0;
     while i < k {
-        ends = span::taken(ends, values[i]);
+        ends = span::joined(ends, values[i]);
         i += 1;
     }
     let last = values[k - 1];

@@ -1,7 +1,7 @@
 // The least and the greatest of some values, held as numbers while many are taken in: the greatest with its sign turned,
 // so that both are found by the same test. Where no number is there yet they are infinite, and no number is above that.
 ghost use mathlib.Core.Path.{_≡_};
-ghost use Rattle.macaque_v.specs.Span.{orInfinite, lesserOf, isNumber, spanFrom, spanWith, saidBits, leastIn, greatestIn};
+ghost use Rattle.macaque_v.specs.inner.Span.{orInfinite, lesserOf, isNumber, spanFrom, spanWith, saidBits, leastIn, greatestIn};
 
 pub struct Span {
     pub low: f32,
@@ -22,7 +22,7 @@ pub fn begun(min: u32, max: u32) -> Span
 }
 
 // One value more.
-pub fn taken(span: Span, bits: u32) -> Span
+pub fn joined(span: Span, bits: u32) -> Span
     ensures { λ r. ⌜ r ≡ spanWith span bits ⌝ }
 {
     let number = numbers::value_of_f32(bits);

@@ -5,12 +5,12 @@ use mathlib.Core.List.{List, [], _∷_}
 use Prim.Native.Nat.{ℕ, zero, suc, _<_}
 use native.Mathlib.Omega.{arith}
 use lib.ListN.{length, drop}
-use Rattle.stream.specs.Format.{Stream, State, advance}
-use Rattle.stream.specs.Read.{Step, got, refused, Reading, done, stopped, push, follow, stepAt, readN}
+use Rattle.stream.specs.Format.{Stream, State, advance, bare}
+use Rattle.stream.specs.Read.{Step, got, halt, Reading, done, stopped, push, follow, stepAt, readN}
 use Rattle.bits.specs.Bits.{bitsOf}
-use Rattle.stream.specs.Cases.{plain}
 use Rattle.macaque_v.specs.State.{modeOf}
-use Rattle.macaque_v.specs.ReadRun.{stateAt, Reads}
+use Rattle.macaque_v.specs.ReadRun.{stateAt}
+use Rattle.macaque_v.specs.inner.ReadRun.{Reads}
 use Rattle.macaque_v.specs.declared.read_run.Cursor.{Cursor}
 use Rattle.reader.specs.Run.{lastIn}
 
@@ -31,7 +31,7 @@ last-read {A} S (suc n) s bs = go (stepAt S s bs) (λ t b. last-read S n t b)
     go : (q : Step) → ((t : State A) (b : List Bool) → LastIs (t .last) (readN S n t b))
         → LastIs (s .last) (follow s q (λ v win used. push v (readN S n (advance S s v win used) (drop used bs))))
     go (got v win used) ih = last-push (s .last) v (readN S n (advance S s v win used) (drop used bs)) (ih (advance S s v win used) (drop used bs))
-    go (refused m) ih = tt
+    go (halt m) ih = tt
 
 -- it is not the one before
 from-any : (l m : ℕ) (vs : List ℕ) → 0 < length vs → lastIn l vs ≡ lastIn m vs
@@ -45,4 +45,4 @@ last-of-none first bytes from to (v ∷ vs) R = absurd (omega (arith, R .long))
 pub last-of-some : (first : Bool) (bytes : List ℕ) (from to : Cursor) (n : ℕ) (vs : List ℕ) → 0 < n → Reads first bytes from n vs to → lastIn 0 vs ≡ to .last
 last-of-some first bytes from to n vs h R =
     from-any 0 (from .last) vs (omega (arith, R .long))
-    ∙ subst (LastIs (from .last)) (R .values) (last-read (plain (modeOf first)) n (stateAt from) (drop (from .place) (bitsOf bytes)))
+    ∙ subst (LastIs (from .last)) (R .values) (last-read (bare (modeOf first)) n (stateAt from) (drop (from .place) (bitsOf bytes)))

@@ -3,16 +3,16 @@ ghost use mathlib.Core.Path.{_≡_};
 ghost use Prim.Native.Nat.{_<_};
 ghost use Rattle.models.specs.Answers.{verdict};
 ghost use Rattle.models.specs.Calls.{saysVerdict};
-ghost use Rattle.reader.specs.Calls.{openedAt, mayUse, Ready, nextCauses, nextRead, nextAnswer, saysStep, endAnswer};
-use coding::decode;
-use coding::decode::Decoded;
+ghost use Rattle.models.specs.Limits.{mostValues};
+ghost use Rattle.macaque_v.specs.inner.ReadRun.{ReadableAt};
+ghost use Rattle.reader.specs.Calls.{openedAt, mayUse, nextCauses, nextRead, nextAnswer, saysMoved, endAnswer};
 use macaque_v::MacaqueV;
 use macaque_v::Opening;
 use macaque_v::read;
 use macaque_v::read_run;
 use macaque_v::read_run::Cursor;
+use macaque_v::read_run::Run;
 use macaque_v::write;
-use models::ErrorBound;
 use models::Refusal;
 use models::ValueAnswer;
 use models::Verdict;
@@ -26,7 +26,7 @@ pub struct Position {
 
 // What a next answers, and where the reader stands after it: behind the value or, where it is refused,
 // where it stood.
-pub struct Step {
+pub struct Moved {
     pub answer: ValueAnswer,
     pub after: Position,
 }
@@ -43,11 +43,11 @@ pub fn start(opening: Opening) -> Position
 }
 
 // One value more.
-pub fn step_from(stream: &[u8], from: Position) -> Step
-    ensures { λ r. ⌜ saysStep r ≡ nextAnswer (now (stream .entry)) from ⌝ }
+pub fn step_from(stream: &[u8], from: Position) -> Moved
+    ensures { λ r. ⌜ saysMoved r ≡ nextAnswer (now (stream .entry)) from ⌝ }
 {
     match judge_next(stream.len(), from.at) {
-        Verdict::Refused(r) => Step {
+        Verdict::Refused(r) => Moved {
             answer: ValueAnswer::Refused(r),
             after: from,
         },
@@ -63,8 +63,7 @@ pub fn end_from(stream: &[u8], from: Position) -> Verdict
     if !may_use(stream.len(), at) {
         return Verdict::Refused(Refusal::StateNotAllowed);
     }
-    let left = read_run::left_behind(stream, at.place);
-    models::when(Refusal::Leftover, left, Verdict::Passed)
+    read_run::judge_end(stream, at)
 }
 
 // ---- the causes of refusal
@@ -80,60 +79,36 @@ fn judge_next(bytes: usize, at: Cursor) -> Verdict
     models::when(Refusal::StateNotAllowed, !may_use(bytes, at), full)
 }
 
-// Whether a reader may stand there: a writer in that place, with that length and window, may be used.
+// Whether a reader may be there: a writer in that place, with that length and window, may be used.
 fn may_use(bytes: usize, at: Cursor) -> bool
     ensures { λ r. ⌜ r ≡ mayUse bytes at ⌝ }
 {
-    let writer = MacaqueV {
-        error_bound: ErrorBound::Lossless,
-        min_value: models::FRESH_BITS,
-        max_value: models::FRESH_BITS,
-        last_value: at.last,
-        last_leading_zero_bits: at.lead,
-        last_trailing_zero_bits: at.trail,
-        with_first: false,
-        place: at.place,
-        length: at.count,
-    };
-    writer.usable(write::lent_bytes(bytes))
+    write::keeps_rule(
+        write::lent_bytes(bytes),
+        at.lead,
+        at.trail,
+        at.place,
+        at.count,
+    )
 }
 
 // ---- the value
 
-fn take_one(stream: &[u8], here: Position) -> Step
-    requires { ⌜ Ready (now stream) (here .at) ⌝ }
-    ensures { λ r. ⌜ saysStep r ≡ nextRead (now (stream .entry)) here ⌝ }
+fn take_one(stream: &[u8], here: Position) -> Moved
+    requires { ⌜ ReadableAt (now stream) (here .at) × (here .at .count < mostValues) ⌝ }
+    ensures { λ r. ⌜ saysMoved r ≡ nextRead (now (stream .entry)) here ⌝ }
 {
-    let at = here.at;
-    let raw = here.with_first & (at.count == 0);
-    let ahead = decode::look(stream, at.place);
-    match decode::decode(raw, ahead.word, ahead.left, at.lead, at.trail, at.last) {
-        Decoded::Refused(r) => Step {
+    match read_run::next(stream, here.with_first, here.at) {
+        Run::Refused(r) => Moved {
             answer: ValueAnswer::Refused(r),
             after: here,
         },
-        Decoded::Got {
-            value,
-            lead,
-            trail,
-            used,
-        } => {
-            let place = at.place + used;
-            let count = at.count + 1;
-            let next = Cursor {
-                last: value,
-                lead,
-                trail,
-                place,
-                count,
-            };
-            Step {
-                answer: ValueAnswer::Answered(value),
-                after: Position {
-                    with_first: here.with_first,
-                    at: next,
-                },
-            }
-        }
+        Run::To(to) => Moved {
+            answer: ValueAnswer::Answered(to.last),
+            after: Position {
+                with_first: here.with_first,
+                at: to,
+            },
+        },
     }
 }

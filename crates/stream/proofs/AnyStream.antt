@@ -1,19 +1,20 @@
 -- Any stream in lent bytes that reading accepts, even one that this writer would not write: reopened at k of its n values it goes on from the first k.
 -- Assumes nothing.
 use mathlib.Core.Path.{_≡_, sym, ap, _∙_, subst}
-use mathlib.Core.Bool.{Bool, true, false}
+use mathlib.Core.Bool.{Bool}
 use mathlib.Core.List.{List, _++_}
 use Prim.Native.Nat.{ℕ, _+_, _*_, _^_, _≤_, _<_}
 use native.Mathlib.Omega.{arith}
-use lib.ListN.{length, take, replicate, length-append}
+use lib.ListN.{length, take, length-append}
 use lib.Seq.{length-take-le}
-use Rattle.bits.specs.Bits.{Below, bitsOf, wholeBytes, padding, padded, laidIn, cutIn}
+use Rattle.bits.specs.Bits.{bitsOf, wholeBytes, padded, laidIn, cutIn}
 use Rattle.bits.proofs.Bytes.{length-bitsOf}
 use Rattle.bits.proofs.InBytes.{cutIn-laidIn-used, take-bits}
-use Rattle.stream.specs.Format.{gatherFrom, Stream, State, fresh, mostValues, usable}
-use Rattle.stream.specs.Write.{kept, Keeps, written, wrote, wroteIn}
-use Rattle.stream.specs.Read.{done, readAll, reopened, reopen, bufferAfter}
-use Rattle.stream.proofs.Formats.{Good}
+use Rattle.stream.specs.Format.{Stream, State, fresh, mostValues}
+use Rattle.stream.specs.Write.{kept, Keeps, written, wrote}
+use Rattle.stream.specs.Read.{done, readAll}
+use Rattle.stream.specs.Needs.{Good}
+use Rattle.stream.specs.Made.{Resumed}
 use Rattle.stream.proofs.Writing.{fresh-small, place-after}
 use Rattle.stream.proofs.Reading.{Whole, WholeOf, whole}
 use Rattle.stream.proofs.Rule.{RuledIn, fresh-ruled, read-ruled, usable-if}
@@ -21,28 +22,12 @@ use Rattle.stream.proofs.Gathered.{SeenIn, seen-read}
 use Rattle.stream.proofs.Reopen.{any-opened, goes-on}
 use Rattle.stream.proofs.Holds.{padded-back}
 
--- what reopening answers where the first `used` bytes of buf hold a stream of n values that reads as vs
-pub record Resumed {A : Type 0} (rule : ℕ → ℕ → ℕ) (S : Stream A) (l n k used : ℕ) (buf vs : List ℕ) : Type 0 where
-  pub state : State A
-  pub opens : reopen S n k (fresh S l) (bitsOf (take used buf)) ≡ reopened state
-  -- it may be used, its place is within the stream, and its count is k
-  pub mayBeUsed : usable (S .form) (length buf) state ≡ true
-  pub placed : state .place ≤ 8 * used
-  pub counted : state .count ≡ k
-  -- it has gathered over the first k values
-  pub seen : state .seen ≡ gatherFrom (S .gather) (S .mode) 0 (S .gather .none) (take k vs)
-  -- cut, and ys written on: the bytes in use read as the first k values and then the newly kept ones
-  pub reads : (ys : List ℕ) → Below (S .form .width) ys → (wrote rule S state ys) .place ≤ 8 * length buf
-      → readAll S (k + length ys) (fresh S l)
-      (bitsOf (take (wholeBytes ((wrote rule S state ys) .place)) (wroteIn rule S state ys (bufferAfter (reopened state) buf))))
-      ≡ done (take k vs ++ kept rule S state ys) (wrote rule S state ys) (replicate (padding ((wrote rule S state ys) .place)) false)
-
-pub any-resumed : {A : Type 0} (rule : ℕ → ℕ → ℕ) (S : Stream A) → Good (S .form) → Keeps (S .form .width) rule → (l : ℕ) → l < 2 ^ S .form .width
+pub any-resumed : {A : Type 0} (rule : ℕ → ℕ → ℕ) (S : Stream A) → Good (S .format) → Keeps (S .format .width) rule → (l : ℕ) → l < 2 ^ S .format .width
     → (n k used : ℕ) (buf : List ℕ) → k ≤ n → n ≤ mostValues → used ≤ length buf → (vs : List ℕ) (t : State A) (r : List Bool)
     → readAll S n (fresh S l) (bitsOf (take used buf)) ≡ done vs t r → Resumed rule S l n k used buf vs
 any-resumed {A} rule S good K l hl n k used buf le most fits vs t r h =
     let f : State A = fresh S l in
-    let hf : f .last < 2 ^ S .form .width = fresh-small S (S .form .width) l hl in
+    let hf : f .last < 2 ^ S .format .width = fresh-small S (S .format .width) l hl in
     let bits : List Bool = bitsOf (take used buf) in
     let o = any-opened S good l hl n k le bits vs t r h in
     let m : State A = o .state in
@@ -53,7 +38,7 @@ any-resumed {A} rule S good K l hl n k used buf le most fits vs t r h =
     record {
       state = m;
       opens = o .opens;
-      mayBeUsed = usable-if (S .form) good (length buf) m (omega arith) (omega arith) (subst (RuledIn (S .form)) (o .reads) (read-ruled S good k f bits hf (fresh-ruled S l)));
+      mayBeUsed = usable-if (S .format) good (length buf) m (omega arith) (omega arith) (subst (RuledIn (S .format)) (o .reads) (read-ruled S good k f bits hf (fresh-ruled S l)));
       placed = p;
       counted = c;
       seen = subst (SeenIn S f) (o .reads) (seen-read S k f bits);

@@ -11,7 +11,7 @@ use Rattle.stream.specs.Format.{Stream, State, fresh, mostValues, usable
 use Rattle.stream.specs.Write.{lossless, keptFrom, kept, Keeps, encode, after, written, wrote, wroteIn, streamOf}
 use Rattle.stream.specs.Read.{done, readAll, Reopened, reopened, reopen, bufferAfter}
 use Rattle.stream.specs.Made.{Made}
-use Rattle.stream.proofs.Formats.{Good}
+use Rattle.stream.specs.Needs.{Good}
 use Rattle.stream.proofs.Writing.{fresh-small, place-after, count-after, length-kept, kept-below, written-append, wrote-append, kept-lossless, lossless-keeps}
 use Rattle.stream.proofs.Reopen.{fresh-read, fresh-reopen}
 use Rattle.stream.proofs.Holds.{Holds, holds-room, holds-bits, holds-laid, holds-cut}
@@ -57,17 +57,17 @@ module _ {A : Type 0} (rule : ℕ → ℕ → ℕ) (S : Stream A) (l : ℕ) wher
         }
 
     -- a state that was made may be used, with the buffer that holds it
-    pub made-usable : Good (S .form) → Keeps (S .form .width) rule → l < 2 ^ S .form .width → Below (S .form .width) xs → length xs ≤ mostValues
-        → usable (S .form) (length buf) s ≡ true
+    pub made-usable : Good (S .format) → Keeps (S .format .width) rule → l < 2 ^ S .format .width → Below (S .format .width) xs → length xs ≤ mostValues
+        → usable (S .format) (length buf) s ≡ true
     made-usable good K hl bx n =
         let f : State A = fresh S l in
         let vs : List ℕ = kept rule S f xs in
-        let hf : f .last < 2 ^ S .form .width = fresh-small S (S .form .width) l hl in
+        let hf : f .last < 2 ^ S .format .width = fresh-small S (S .format .width) l hl in
         let c : s .count ≡ length xs = ap (λ (t : State A). t .count) (M .state) ∙ count-after S f vs ∙ omega (arith, length-kept S rule f xs) in
-        usable-if (S .form) good (length buf) s (omega (arith, made-room)) (omega arith)
-        (subst (λ (t : State A). Ruled (S .form) t) (sym (M .state)) (after-ruled S good f vs hf (kept-below S (S .form .width) rule K f xs hf bx) (fresh-ruled S l)))
+        usable-if (S .format) good (length buf) s (omega (arith, made-room)) (omega arith)
+        (subst (λ (t : State A). Ruled (S .format) t) (sym (M .state)) (after-ruled S good f vs hf (kept-below S (S .format .width) rule K f xs hf bx) (fresh-ruled S l)))
 
-    module _ (good : Good (S .form)) (K : Keeps (S .form .width) rule) (hl : l < 2 ^ S .form .width) (bx : Below (S .form .width) xs) where
+    module _ (good : Good (S .format)) (K : Keeps (S .format .width) rule) (hl : l < 2 ^ S .format .width) (bx : Below (S .format .width) xs) where
       whole : bitsOf (take (wholeBytes (s .place)) buf) ≡ padded (written rule S (fresh S l) xs)
       whole = ap (λ (n : ℕ). bitsOf (take (wholeBytes n) buf)) stands ∙ holds-bits buf (written rule S (fresh S l) xs) holds
 
@@ -104,8 +104,8 @@ module _ {A : Type 0} (rule : ℕ → ℕ → ℕ) (S : Stream A) (l : ℕ) wher
 
 -- lossless: as the inputs
 pub made-read-lossless : {A : Type 0} (S : Stream A) (l : ℕ) {xs buf : List ℕ} {s : State A} → Made lossless S l xs buf s
-    → Good (S .form) → l < 2 ^ S .form .width → Below (S .form .width) xs
+    → Good (S .format) → l < 2 ^ S .format .width → Below (S .format .width) xs
     → readAll S (length xs) (fresh S l) (bitsOf (take (wholeBytes (s .place)) buf)) ≡ done xs s (replicate (padding (s .place)) false)
 made-read-lossless S l {xs} {buf} {s} M good hl bx =
-    made-read lossless S l M good (lossless-keeps (S .form .width)) hl bx
+    made-read lossless S l M good (lossless-keeps (S .format .width)) hl bx
     ∙ ap (λ (vs : List ℕ). done vs s (replicate (padding (s .place)) false)) (kept-lossless S (fresh S l) xs)

@@ -6,24 +6,25 @@ use mathlib.Core.List.{List, [], _∷_, _++_, append-nil, foldl}
 use Prim.Native.Nat.{ℕ, _+_, _*_, _^_, _≤_, _<_}
 use native.Mathlib.Nat.{add-zero}
 use native.Mathlib.Omega.{arith}
-use lib.ListN.{length, take, drop, replicate}
+use lib.ListN.{length, take, replicate}
 use Rattle.bits.specs.Bits.{Below, field, bitsOf, wholeBytes, up, padding, padded, laidIn, cutIn}
 use Rattle.bits.proofs.Bytes.{length-bitsOf}
 use Rattle.bits.proofs.Writes.{laid-used, cut-used}
 use Rattle.bits.proofs.InBytes.{bits-laidIn, length-laidIn, laidIn-nothing, laidIn-before, laidIn-after, bits-cutIn, length-cutIn, cutIn-before, cutIn-after}
-use Rattle.stream.specs.Format.{macaque, gorilla, bitsFor, Gather, gatherFrom, Mode, withFirst, withoutFirst, Stream, macaqueOf, State, fresh, mostValues, usable}
+use Rattle.stream.specs.Format.{Format, macaque, gorilla, bitsFor, Gather, gatherFrom, Mode, withFirst, withoutFirst, Stream, State, fresh, mostValues, usable}
 use Rattle.stream.specs.Write.{lossless, keptFrom, kept, Keeps, written, wrote, wroteIn}
 use Rattle.stream.specs.Read.{StreamRefusal, done, stopped, readAll, Reopened, reopened, unopened, reopen, bufferAfter}
-use Rattle.stream.specs.Made.{Made}
+use Rattle.stream.specs.Made.{Made, Resumed, Rewritten}
 use Rattle.stream.specs.Cases.{cases, AllRight}
-use Rattle.stream.proofs.Formats.{Good, macaque-good, gorilla-good}
+use Rattle.stream.specs.Needs.{Good}
+use Rattle.stream.proofs.Formats.{macaque-good, gorilla-good}
 use Rattle.stream.proofs.Writing.{place-after, wrote-append}
 use Rattle.stream.proofs.Rule.{wrote-usable}
 use Rattle.stream.proofs.Gathered.{seen-after, gather-folds}
 use Rattle.stream.proofs.Steps.{written-one, laid-append}
 use Rattle.stream.proofs.Reopen.{refused-reopen}
 use Rattle.stream.proofs.Made as spine
-use Rattle.stream.proofs.AnyStream.{Resumed, any-resumed}
+use Rattle.stream.proofs.AnyStream.{any-resumed}
 use Rattle.stream.proofs.Marked.{marked}
 
 -- ---- demand 2: what was written reads back. And demand 3: a stream that is stopped and resumed is the stream of one fresh run.
@@ -39,7 +40,7 @@ module _ {A : Type 0} (rule : ℕ → ℕ → ℕ) (S : Stream A) (l : ℕ) wher
         → Made rule S l (xs ++ ys) (wroteIn rule S s ys buf) (wrote rule S s ys)
     a-write-goes-on = spine.made-write rule S l M
 
-    module _ (good : Good (S .form)) (K : Keeps (S .form .width) rule) (hl : l < 2 ^ S .form .width) (bx : Below (S .form .width) xs) where
+    module _ (good : Good (S .format)) (K : Keeps (S .format .width) rule) (hl : l < 2 ^ S .format .width) (bx : Below (S .format .width) xs) where
       -- the bytes in use read back as exactly the kept values, and reading ends in the writer's own state
       pub reads-back : readAll S (length xs) (fresh S l) (bitsOf (take (wholeBytes (s .place)) buf))
           ≡ done (kept rule S (fresh S l) xs) s (replicate (padding (s .place)) false)
@@ -64,13 +65,13 @@ module _ {A : Type 0} (rule : ℕ → ℕ → ℕ) (S : Stream A) (l : ℕ) wher
           spine.made-write rule S l (back .1) ys (omega (arith, long))
 
       -- such a state may be used, so that a write is never refused for it
-      pub its-state-may-be-used : length xs ≤ mostValues → usable (S .form) (length buf) s ≡ true
+      pub its-state-may-be-used : length xs ≤ mostValues → usable (S .format) (length buf) s ≡ true
       its-state-may-be-used = spine.made-usable rule S l M good K hl bx
 
 -- an accepted write hands back a state that may be used, from any state that may, handed in or made
-pub a-write-hands-back-a-usable-state : {A : Type 0} (rule : ℕ → ℕ → ℕ) (S : Stream A) → Good (S .form) → Keeps (S .form .width) rule
-    → (bytes : ℕ) (s : State A) (xs : List ℕ) → usable (S .form) bytes s ≡ true → s .last < 2 ^ S .form .width → Below (S .form .width) xs
-    → s .count + length xs ≤ mostValues → (wrote rule S s xs) .place ≤ 8 * bytes → usable (S .form) bytes (wrote rule S s xs) ≡ true
+pub a-write-hands-back-a-usable-state : {A : Type 0} (rule : ℕ → ℕ → ℕ) (S : Stream A) → Good (S .format) → Keeps (S .format .width) rule
+    → (bytes : ℕ) (s : State A) (xs : List ℕ) → usable (S .format) bytes s ≡ true → s .last < 2 ^ S .format .width → Below (S .format .width) xs
+    → s .count + length xs ≤ mostValues → (wrote rule S s xs) .place ≤ 8 * bytes → usable (S .format) bytes (wrote rule S s xs) ≡ true
 a-write-hands-back-a-usable-state = wrote-usable
 
 -- two writes are one, from any state, handed in or made: the state after, and the bytes where the first has room
@@ -84,27 +85,29 @@ two-writes-leave-the-bytes-of-one rule S = laid-append S rule
 
 -- "Lossless keeps the input": a lossless stream reads back as the inputs
 pub lossless-reads-back : {A : Type 0} (S : Stream A) (l : ℕ) {xs buf : List ℕ} {s : State A} → Made lossless S l xs buf s
-    → Good (S .form) → l < 2 ^ S .form .width → Below (S .form .width) xs
+    → Good (S .format) → l < 2 ^ S .format .width → Below (S .format .width) xs
     → readAll S (length xs) (fresh S l) (bitsOf (take (wholeBytes (s .place)) buf)) ≡ done xs s (replicate (padding (s .place)) false)
 lossless-reads-back = spine.made-read-lossless
 
--- "A fresh with-first state holds +0 as its last value", and without a first value it holds the opening value
-pub with-first-opens-on-zero : {A : Type 0} (G : Gather A) (l : ℕ) → (fresh (macaqueOf withFirst G) l) .last ≡ 0
-with-first-opens-on-zero G l = refl
+module _ {A : Type 0} (F : Format) (G : Gather A) (l : ℕ) where
+  abbrev in-mode : Mode → Stream A
+  in-mode m = record { format = F; mode = m; gather = G }
 
-pub without-first-opens-on-the-value : {A : Type 0} (G : Gather A) (l : ℕ) → (fresh (macaqueOf withoutFirst G) l) .last ≡ l
-without-first-opens-on-the-value G l = refl
+  -- "A fresh with-first state holds +0 as its last value", and without a first value it holds the opening value
+  pub with-first-opens-on-zero : (fresh (in-mode withFirst) l) .last ≡ 0
+  with-first-opens-on-zero = refl
 
--- "With-first mode stores the first value's 32 bits raw": by any rule, and the first value is kept as it is
-pub a-first-value-is-stored-raw : {A : Type 0} (rule : ℕ → ℕ → ℕ) (G : Gather A) (l x : ℕ)
-    → written rule (macaqueOf withFirst G) (fresh (macaqueOf withFirst G) l) (x ∷ []) ≡ field 32 x
-unfolding bitsFor
-a-first-value-is-stored-raw rule G l x = written-one (macaqueOf withFirst G) rule (fresh (macaqueOf withFirst G) l) x
+  pub without-first-opens-on-the-value : (fresh (in-mode withoutFirst) l) .last ≡ l
+  without-first-opens-on-the-value = refl
 
-pub a-first-value-is-kept : {A : Type 0} (rule : ℕ → ℕ → ℕ) (G : Gather A) (l x : ℕ)
-    → kept rule (macaqueOf withFirst G) (fresh (macaqueOf withFirst G) l) (x ∷ []) ≡ x ∷ []
-unfolding keptFrom
-a-first-value-is-kept rule G l x = refl
+  -- "With-first mode stores the first value's 32 bits raw", or as many as the format has: by any rule, and the first value is kept as it is
+  pub a-first-value-is-stored-raw : (rule : ℕ → ℕ → ℕ) (x : ℕ) → written rule (in-mode withFirst) (fresh (in-mode withFirst) l) (x ∷ []) ≡ field (F .width) x
+  unfolding bitsFor
+  a-first-value-is-stored-raw rule x = written-one (in-mode withFirst) rule (fresh (in-mode withFirst) l) x
+
+  pub a-first-value-is-kept : (rule : ℕ → ℕ → ℕ) (x : ℕ) → kept rule (in-mode withFirst) (fresh (in-mode withFirst) l) (x ∷ []) ≡ x ∷ []
+  unfolding keptFrom
+  a-first-value-is-kept rule x = refl
 
 -- "Minimum and maximum start fresh and take in each kept value from the left, the raw first one too, and never an input that was not kept";
 -- `gathers-each-value-once` says that this is a plain fold
@@ -120,7 +123,7 @@ gathers-each-value-once = gather-folds
 -- ---- "On any accepted stream, even one this writer would not write, reopening at k and writing reads back as the first k values and then the newly
 -- kept ones": `Resumed` names the state, that it may be used, where it stands, what it gathered, and the reading after any write
 
-pub any-stream-resumes : {A : Type 0} (rule : ℕ → ℕ → ℕ) (S : Stream A) → Good (S .form) → Keeps (S .form .width) rule → (l : ℕ) → l < 2 ^ S .form .width
+pub any-stream-resumes : {A : Type 0} (rule : ℕ → ℕ → ℕ) (S : Stream A) → Good (S .format) → Keeps (S .format .width) rule → (l : ℕ) → l < 2 ^ S .format .width
     → (n k used : ℕ) (buf : List ℕ) → k ≤ n → n ≤ mostValues → used ≤ length buf → (vs : List ℕ) (t : State A) (r : List Bool)
     → readAll S n (fresh S l) (bitsOf (take used buf)) ≡ done vs t r → Resumed rule S l n k used buf vs
 any-stream-resumes = any-resumed
@@ -136,13 +139,6 @@ pub a-refused-reopening-leaves-the-buffer : {A : Type 0} (S : Stream A) (n k : �
 a-refused-reopening-leaves-the-buffer {A} S n k s bits f h buf = ap (λ (q : Reopened A). bufferAfter q buf) (refused-reopen S n k s bits f h)
 
 -- ---- what the calls do to lent bytes
-
--- the bits before p stay, `new` follows them, then zeros to the end of the byte, and the bytes behind stay
-pub record Rewritten (old now : List ℕ) (p : ℕ) (new : List Bool) : Type 0 where
-  pub long : length now ≡ length old
-  pub before : take p (bitsOf now) ≡ take p (bitsOf old)
-  pub filled : take (up (p + length new)) (bitsOf now) ≡ padded (take p (bitsOf old) ++ new)
-  pub behind : drop (wholeBytes (p + length new)) now ≡ drop (wholeBytes (p + length new)) old
 
 -- "An accepted write of one value or more keeps every bit before the place, and zeroes the rest of its last byte; later bytes stay."
 pub a-write-changes-only-its-bytes : (buf : List ℕ) (p : ℕ) (new : List Bool) → Below 8 buf → p + length new ≤ 8 * length buf → 0 < length new

@@ -11,12 +11,6 @@ use borrow.Author.Needs.{needs}
 use Rattle.bits.proofs.word_at.Statement.{statement}
 use Rattle.bits.proofs.word_at.Tie as tie
 
-eight-requires : tie.Need-eight-requires
-eight-requires c κs = search needs
-
-shl-result : tie.Need-shl-result
-shl-result c = search needs
-
 returns : tie.Need-returns
 returns c =
     let a = c .before .before .args in
@@ -35,4 +29,4 @@ returns c =
     ∙ ap (λ (k : ℕ). fieldAt k rest bits * 2 ^ skew) here
 
 pub word-at-spec : {M : Type 1} → statement M
-word-at-spec = tie.close (tie.spec eight-requires shl-result returns)
+word-at-spec = tie.close (tie.spec (λ c κs. search needs) (λ c. search needs) returns)

@@ -8,7 +8,7 @@ use borrow.Author.Tests.{lt-ltb, le-ltb}
 use Rattle.models.specs.Answers.{answered, judge}
 use Rattle.models.specs.Limits.{mostValues}
 use Rattle.macaque_v.specs.State.{isFirst}
-use Rattle.macaque_v.specs.ReadRun.{WholeSays, Reads}
+use Rattle.macaque_v.specs.inner.ReadRun.{WholeSays, Reads}
 use Rattle.macaque_v.specs.Read.{valuesIn, startOf}
 use Rattle.macaque_v.specs.declared.read_run.Cursor.{Cursor}
 use Rattle.macaque_v.specs.declared.read_run.Aim.the-variants as OfAim
@@ -37,22 +37,10 @@ returns : tie.Need-returns
 unfolding lastAnswer judge
 returns c = rw (lt-ltb mostValues (c .before .before .args .count) (c .if1 .taken))
 
-is-first-requires : tie.Need-is-first-requires
-is-first-requires c κs = search needs
-
-start-requires : tie.Need-start-requires
-start-requires c κs = search needs
-
 go-to-end-requires : tie.Need-go-to-end-requires
 go-to-end-requires c κs =
     let s = starts (c .before .before .before .before .args .stream .now) (c .before .before .before .before .args .opening) (c .start .result) (c .start .ensures) in
     (s .0, omega (arith, s .1))
-
-enum-known-r : tie.Need-enum-known-r
-enum-known-r c = search needs
-
-enum-known-to : tie.Need-enum-known-to
-enum-known-to c = search needs
 
 returns-2 : tie.Need-returns-2
 returns-2 c =
@@ -84,11 +72,11 @@ last-value-spec =
     tie.close
     (tie.spec
     returns
-    is-first-requires
-    start-requires
+    (λ c κs. search needs)
+    (λ c κs. search needs)
     go-to-end-requires
-    enum-known-r
-    enum-known-to
+    (λ c. search needs)
+    (λ c. search needs)
     returns-2
     returns-3
     returns-4)

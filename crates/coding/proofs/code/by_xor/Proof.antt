@@ -28,9 +28,6 @@ sub-t10 c = omega (arith, kept c, apart (c .before))
 sub-t11 : tie.Need-sub-t11
 sub-t11 c = omega (arith, kept c, apart (c .before))
 
-cast-t12 : tie.Need-cast-t12
-cast-t12 c = search needs
-
 shr-t13 : tie.Need-shr-t13
 shr-t13 c = omega (arith, kept c, apart (c .before))
 
@@ -47,12 +44,6 @@ sub-meaningful c = omega (arith, apart (c .before))
 
 sub-meaningful-2 : tie.Need-sub-meaningful-2
 sub-meaningful-2 c = omega (arith, apart (c .before))
-
-add-t15 : tie.Need-add-t15
-add-t15 c = search needs
-
-cast-t16 : tie.Need-cast-t16
-cast-t16 c = search needs
 
 shr-with-header : tie.Need-shr-with-header
 shr-with-header c = omega (arith, apart (c .before))
@@ -77,14 +68,14 @@ by-xor-spec =
     returns
     sub-t10
     sub-t11
-    cast-t12
+    (λ c. search needs)
     shr-t13
     cast-t14
     returns-2
     sub-meaningful
     sub-meaningful-2
-    add-t15
-    cast-t16
+    (λ c. search needs)
+    (λ c. search needs)
     shr-with-header
     cast-with-header
     with-header-requires

@@ -6,22 +6,10 @@ use Rattle.coding.proofs.Coding.{header-is}
 use Rattle.coding.proofs.code.with_header.Statement.{statement}
 use Rattle.coding.proofs.code.with_header.Tie as tie
 
-mul-head : tie.Need-mul-head
-mul-head c = search needs
-
-add-head : tie.Need-add-head
-add-head c = search needs
-
-add-head-2 : tie.Need-add-head-2
-add-head-2 c = search needs
-
-shl-result : tie.Need-shl-result
-shl-result c = search needs
-
 returns : tie.Need-returns
 returns c =
     let a = c .args in
     header-is (6144 + a .lead * 64 + a .meaningful) (a .lead) (a .meaningful) (a .low) (c .pre .0) (c .pre .1) (c .pre .2) (omega arith)
 
 pub with-header-spec : {M : Type 1} → statement M
-with-header-spec = tie.close (tie.spec mul-head add-head add-head-2 shl-result returns)
+with-header-spec = tie.close (tie.spec (λ c. search needs) (λ c. search needs) (λ c. search needs) (λ c. search needs) returns)

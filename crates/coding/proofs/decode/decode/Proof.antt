@@ -4,10 +4,9 @@ use mathlib.Core.Path.{_≡_, sym, ap, _∙_}
 use mathlib.Core.Bool.{Bool, false}
 use native.Mathlib.Omega.{arith}
 use Rattle.bits.specs.Bits.{field, fieldAt}
-use Rattle.stream.specs.Format.{macaque}
+use Rattle.stream.specs.Format.{macaque, windowIn}
 use Rattle.stream.specs.Read.{Step, readOne}
-use Rattle.coding.specs.Code.{windowIn}
-use Rattle.coding.specs.Ahead.{bitsIn}
+use Rattle.coding.specs.inner.Ahead.{bitsIn}
 use Rattle.coding.proofs.Decoding.{at-end, word-cut, is-same}
 use Rattle.coding.proofs.decode.decode.Statement.{statement}
 use Rattle.coding.proofs.decode.decode.Tie as tie
@@ -24,9 +23,6 @@ coded c e =
 no-keep : (c : tie.Else3) → ¬ (fieldAt 0 1 (field 64 (c .before .before .before .before .args .word)) ≡ 0)
 no-keep c z = c .if3 .left (c .before .part .ensures .is ∙ z)
 
-in-full-requires : tie.Need-in-full-requires
-in-full-requires c κs = search needs
-
 returns : tie.Need-returns
 returns c =
     let a = c .before .before .args in
@@ -37,12 +33,6 @@ returns-2 c =
     let a = c .before .before .args in
     coded (c .before) (at-end (a .word) (a .left) (omega arith) (windowIn (a .lead) (a .trail)) (a .last) (omega arith))
 
-part-requires : tie.Need-part-requires
-part-requires c κs = search needs
-
-in-window-requires : tie.Need-in-window-requires
-in-window-requires c κs = search needs
-
 returns-3 : tie.Need-returns-3
 returns-3 c = coded (c .before .before .before .before) (c .in-window .ensures)
 
@@ -51,16 +41,10 @@ returns-4 c =
     let a = c .before .before .before .before .before .args in
     coded (c .before .before .before .before) (word-cut (a .word) (a .left) (omega arith) (windowIn (a .lead) (a .trail)) (a .last) (no-keep (c .before)) (omega arith) (omega arith))
 
-part-requires-2 : tie.Need-part-requires-2
-part-requires-2 c κs = search needs
-
 returns-5 : tie.Need-returns-5
 returns-5 c =
     let a = c .before .before .before .before .before .before .before .args in
     coded (c .before .before .before .before .before .before) (is-same (a .word) (a .left) (omega arith) (windowIn (a .lead) (a .trail)) (a .last) (no-keep (c .before .before .before)) (omega arith) (sym (c .before .part2 .ensures .is) ∙ c .if5 .taken))
-
-with-window-requires : tie.Need-with-window-requires
-with-window-requires c κs = search needs
 
 returns-6 : tie.Need-returns-6
 returns-6 c = coded (c .before .before .before .before .before .before .before) (c .with-window .ensures)
@@ -69,14 +53,14 @@ pub decode-spec : {M : Type 1} → statement M
 decode-spec =
     tie.close
     (tie.spec
-    in-full-requires
+    (λ c κs. search needs)
     returns
     returns-2
-    part-requires
-    in-window-requires
+    (λ c κs. search needs)
+    (λ c κs. search needs)
     returns-3
     returns-4
-    part-requires-2
+    (λ c κs. search needs)
     returns-5
-    with-window-requires
+    (λ c κs. search needs)
     returns-6)

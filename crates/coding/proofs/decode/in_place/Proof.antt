@@ -8,20 +8,8 @@ use Rattle.coding.proofs.Decoding.{one-up, shifted-fits, in-place-is}
 use Rattle.coding.proofs.decode.in_place.Statement.{statement}
 use Rattle.coding.proofs.decode.in_place.Tie as tie
 
-add-x : tie.Need-add-x
-add-x c = search needs
-
-cast-x : tie.Need-cast-x
-cast-x c = search needs
-
-shr-x : tie.Need-shr-x
-shr-x c = search needs
-
 cast-x-2 : tie.Need-cast-x-2
 cast-x-2 c = record { fits = shifted-fits (c .args .word) (c .args .lead) (c .args .trail) (omega arith) (omega arith) }
-
-shl-result : tie.Need-shl-result
-shl-result c = search needs
 
 sub-result : tie.Need-sub-result
 sub-result c = omega (arith, one-up (c .args .trail) (omega arith), pow-pos (c .args .trail))
@@ -34,4 +22,4 @@ returns c = in-place-is (c .args .word) (c .args .lead) (c .args .trail) (omega 
 
 pub in-place-spec : {M : Type 1} → statement M
 in-place-spec =
-    tie.close (tie.spec add-x cast-x shr-x cast-x-2 shl-result sub-result sub-result-2 returns)
+    tie.close (tie.spec (λ c. search needs) (λ c. search needs) (λ c. search needs) cast-x-2 (λ c. search needs) sub-result sub-result-2 returns)

@@ -8,18 +8,6 @@ use Rattle.coding.proofs.Words.{ahead-of-more}
 use Rattle.coding.proofs.decode.look.Statement.{statement}
 use Rattle.coding.proofs.decode.look.Tie as tie
 
-sub-if1 : tie.Need-sub-if1
-sub-if1 c = search needs
-
-look-at-end-requires : tie.Need-look-at-end-requires
-look-at-end-requires c κs = search needs
-
-returns : tie.Need-returns
-returns c = search needs
-
-word-at-requires : tie.Need-word-at-requires
-word-at-requires c κs = search needs
-
 returns-2 : tie.Need-returns-2
 returns-2 c =
     let a = c .before .before .before .args in
@@ -29,4 +17,4 @@ returns-2 c =
     (c .word-at .ensures ∙ ap (λ (k : ℕ). fieldAt (a .place) n (bitsOf (a .bytes .now)) * 2 ^ k) up) (omega arith)
 
 pub look-spec : {M : Type 1} → statement M
-look-spec = tie.close (tie.spec sub-if1 look-at-end-requires returns word-at-requires returns-2)
+look-spec = tie.close (tie.spec (λ c. search needs) (λ c κs. search needs) (λ c. search needs) (λ c κs. search needs) returns-2)

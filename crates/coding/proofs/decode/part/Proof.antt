@@ -16,15 +16,6 @@ small c =
     let a = c .args in
     subst (λ (n : ℕ). n < 2 ^ a .width) (sym (part-is (a .word) (a .skip) (a .width) (omega arith))) (fieldAt-lt (a .skip) (a .width) (field 64 (a .word)))
 
-shl-result : tie.Need-shl-result
-shl-result c = search needs
-
-sub-result : tie.Need-sub-result
-sub-result c = search needs
-
-shr-result : tie.Need-shr-result
-shr-result c = search needs
-
 cast-result : tie.Need-cast-result
 cast-result c = record { fits = lt-of-lt-of-le (small c) (pow-mono {i = c .args .width} {j = 32} (omega arith)) }
 
@@ -32,4 +23,4 @@ returns : tie.Need-returns
 returns c = record { is = part-is (c .args .word) (c .args .skip) (c .args .width) (omega arith); small = small c }
 
 pub part-spec : {M : Type 1} → statement M
-part-spec = tie.close (tie.spec shl-result sub-result shr-result cast-result returns)
+part-spec = tie.close (tie.spec (λ c. search needs) (λ c. search needs) (λ c. search needs) cast-result returns)

@@ -8,14 +8,8 @@ use Rattle.coding.proofs.Repeats.{word-ahead, no-word-ahead}
 use Rattle.coding.proofs.decode.word_ahead.Statement.{statement}
 use Rattle.coding.proofs.decode.word_ahead.Tie as tie
 
-sub-if1 : tie.Need-sub-if1
-sub-if1 c = search needs
-
 returns : tie.Need-returns
 returns c = no-word-ahead (c .before .before .args .bytes .now) (c .before .before .args .place) (omega arith)
-
-word-at-requires : tie.Need-word-at-requires
-word-at-requires c κs = search needs
 
 returns-2 : tie.Need-returns-2
 returns-2 c =
@@ -26,4 +20,4 @@ returns-2 c =
     (c .word-at .ensures ∙ ap (λ (k : ℕ). fieldAt (a .place) n (bitsOf (a .bytes .now)) * 2 ^ k) up)
 
 pub word-ahead-spec : {M : Type 1} → statement M
-word-ahead-spec = tie.close (tie.spec sub-if1 returns word-at-requires returns-2)
+word-ahead-spec = tie.close (tie.spec (λ c. search needs) returns (λ c κs. search needs) returns-2)

@@ -6,21 +6,6 @@ use Rattle.coding.specs.Keep.{keepRule}
 use Rattle.coding.proofs.keep.kept.Statement.{statement}
 use Rattle.coding.proofs.keep.kept.Tie as tie
 
-enum-told : tie.Need-enum-told
-enum-told c = search needs
-
-enum-known-error-bound : tie.Need-enum-known-error-bound
-enum-known-error-bound c = search needs
-
-lossy-requires : tie.Need-lossy-requires
-lossy-requires c κs = search needs
-
-enum-known-error-bound-2 : tie.Need-enum-known-error-bound-2
-enum-known-error-bound-2 c = search needs
-
-lossy-requires-2 : tie.Need-lossy-requires-2
-lossy-requires-2 c κs = search needs
-
 returns : tie.Need-returns
 unfolding keepRule
 returns c =
@@ -40,4 +25,4 @@ returns-3 c =
     c .lossy2 .ensures ∙ sym (ap (λ (b : ErrorBound). keepRule b (a .last) (a .value)) (c .before .before .error-bound2 .given .1))
 
 pub kept-spec : {M : Type 1} → statement M
-kept-spec = tie.close (tie.spec enum-told enum-known-error-bound lossy-requires enum-known-error-bound-2 lossy-requires-2 returns returns-2 returns-3)
+kept-spec = tie.close (tie.spec (λ c. search needs) (λ c. search needs) (λ c κs. search needs) (λ c. search needs) (λ c κs. search needs) returns returns-2 returns-3)

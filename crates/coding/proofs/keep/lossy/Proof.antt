@@ -4,17 +4,11 @@ use mathlib.Core.Path.{sym, _∙_}
 use Rattle.coding.proofs.keep.lossy.Statement.{statement}
 use Rattle.coding.proofs.keep.lossy.Tie as tie
 
-stands-for-requires : tie.Need-stands-for-requires
-stands-for-requires c κs = search needs
-
 returns : tie.Need-returns
-returns c = rw (sym (c .before .stands-for .ensures) ∙ c .if1 .taken)
-
-shortest-requires : tie.Need-shortest-requires
-shortest-requires c κs = search needs
+returns c = rw (sym (c .before .may-replace .ensures) ∙ c .if1 .taken)
 
 returns-2 : tie.Need-returns-2
-returns-2 c = rw (sym (c .before .before .stands-for .ensures) ∙ c .before .if1 .left) (c .shortest .ensures)
+returns-2 c = rw (sym (c .before .before .may-replace .ensures) ∙ c .before .if1 .left) (c .shortest .ensures)
 
 pub lossy-spec : {M : Type 1} → statement M
-lossy-spec = tie.close (tie.spec stands-for-requires returns shortest-requires returns-2)
+lossy-spec = tie.close (tie.spec (λ c κs. search needs) returns (λ c κs. search needs) returns-2)

@@ -1,18 +1,17 @@
 -- `macaque_v::MacaqueV::compress_values` meets its contract: refused by the first cause that holds, else written. Assumes nothing.
 use borrow.Author.Needs.{needs}
-use mathlib.Core.Path.{_≡_, sym, ap, ap₂, _∙_}
-use mathlib.Core.List.{List}
+use mathlib.Core.Path.{_≡_, sym, ap, _∙_}
 use Prim.Native.Nat.{ℕ}
 use lib.ListN.{length}
 use Rattle.bits.specs.Bits.{laidIn}
-use Rattle.models.specs.Answers.{answered, answeredOn, refusedOn, refused, verdict}
-use Rattle.models.specs.Refusals.{number}
+use Rattle.models.specs.Answers.{answered, answeredOn, refused, verdict, refusing, keeping}
+use Rattle.models.specs.Refusals.{faultOf}
 use Rattle.models.specs.Calls.{saysVerdict}
 use Rattle.models.proofs.Judged.{none, turned-back}
 use Rattle.models.proofs.Judged as judging
-use Rattle.macaque_v.specs.Write.{writerAt, wroteBy, writtenBy}
+use Rattle.macaque_v.specs.Write.{writerAt, wroteBy}
+use Rattle.macaque_v.specs.inner.Write.{writtenBy}
 use Rattle.macaque_v.specs.Calls.{lentBytes, writeCauses, writeAnswer, writeMemory}
-use Rattle.macaque_v.specs.declared.MacaqueV.{MacaqueV}
 use Rattle.macaque_v.proofs.Accepting.{accepted}
 use Rattle.macaque_v.proofs.MacaqueV.compress_values.Statement.{statement}
 use Rattle.macaque_v.proofs.MacaqueV.compress_values.Tie as tie
@@ -31,18 +30,6 @@ clear : (c : tie.After-enum-told)
     ≡ answered tt
 clear c = sym (judged (c .before .before)) ∙ ap saysVerdict (c .enum-told .given .1)
 
-lent-bytes-requires : tie.Need-lent-bytes-requires
-lent-bytes-requires c κs = search needs
-
-judge-write-requires : tie.Need-judge-write-requires
-judge-write-requires c κs = search needs
-
-enum-known-r : tie.Need-enum-known-r
-enum-known-r c = search needs
-
-enum-told : tie.Need-enum-told
-enum-told c = search needs
-
 write-all-requires : tie.Need-write-all-requires
 write-all-requires c κs =
     let a = c .before .before .before .before .before .before .before .args in
@@ -54,14 +41,11 @@ unfolding writeAnswer writeMemory
 returns c =
     let a = c .before .before .before .before .before .before .before .args in
     let causes = writeCauses (a .self) (a .values .now) (lentBytes (length (a .buffer .now))) in
-    let n = number (c .before .r .given .0 .0) in
+    let n = faultOf (c .before .r .given .0 .0) in
     let h : verdict causes ≡ refused n = sym (judged (c .before .before .before)) ∙ ap saysVerdict (c .before .r .given .1) in (
-      (turned-back (λ (k : ℕ). refusedOn k (a .self)) (answeredOn (writerAt (a .self) (wroteBy (a .self) (a .values .now)))) causes n h),
-      (turned-back (λ (k : ℕ). a .buffer .now) (laidIn (a .buffer .now) (a .self .place) (writtenBy (a .self) (a .values .now))) causes n h),
+      (turned-back (refusing (a .self)) (answeredOn (writerAt (a .self) (wroteBy (a .self) (a .values .now)))) causes n h),
+      (turned-back (keeping (a .buffer .now)) (laidIn (a .buffer .now) (a .self .place) (writtenBy (a .self) (a .values .now))) causes n h),
     )
-
-same-length : tie.Need-same-length
-same-length c = search needs
 
 returns-2 : tie.Need-returns-2
 unfolding writeAnswer writeMemory
@@ -70,19 +54,19 @@ returns-2 c =
     let causes = writeCauses (a .self) (a .values .now) (lentBytes (length (a .buffer .now))) in
     let h = clear (c .before .before .before .before) in
     let w = c .before .before .write-all .ensures in (
-      ap answeredOn (w .0) ∙ judging.accepted (λ (k : ℕ). refusedOn k (a .self)) (answeredOn (writerAt (a .self) (wroteBy (a .self) (a .values .now)))) causes (none causes h),
-      w .1 ∙ judging.accepted (λ (k : ℕ). a .buffer .now) (laidIn (a .buffer .now) (a .self .place) (writtenBy (a .self) (a .values .now))) causes (none causes h),
+      ap answeredOn (w .0) ∙ judging.accepted (refusing (a .self)) (answeredOn (writerAt (a .self) (wroteBy (a .self) (a .values .now)))) causes (none causes h),
+      w .1 ∙ judging.accepted (keeping (a .buffer .now)) (laidIn (a .buffer .now) (a .self .place) (writtenBy (a .self) (a .values .now))) causes (none causes h),
     )
 
 pub compress-values-spec : {M : Type 1} → statement M
 compress-values-spec =
     tie.close
     (tie.spec
-    lent-bytes-requires
-    judge-write-requires
-    enum-known-r
-    enum-told
+    (λ c κs. search needs)
+    (λ c κs. search needs)
+    (λ c. search needs)
+    (λ c. search needs)
     write-all-requires
     returns
-    same-length
+    (λ c. search needs)
     returns-2)

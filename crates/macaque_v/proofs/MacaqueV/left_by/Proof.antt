@@ -3,28 +3,17 @@ use borrow.Author.Needs.{needs}
 use mathlib.Core.Path.{_≡_, refl, ap₂, _∙_}
 use Prim.Native.Nat.{ℕ, zero, suc, _+_}
 use Rattle.macaque_v.specs.State.{stateOf}
-use Rattle.macaque_v.specs.Span.{endsSaid}
-use Rattle.macaque_v.specs.Write.{writerAt, stateBy, leftBy}
+use Rattle.macaque_v.specs.inner.Span.{minMaxSaid}
+use Rattle.macaque_v.specs.Write.{writerAt}
+use Rattle.macaque_v.specs.inner.Write.{stateBy, leftBy}
 use Rattle.macaque_v.specs.declared.MacaqueV.{MacaqueV}
 use Rattle.macaque_v.specs.declared.write.Pen.{Pen}
 use Rattle.macaque_v.proofs.MacaqueV.left_by.Statement.{statement}
 use Rattle.macaque_v.proofs.MacaqueV.left_by.Tie as tie
 
-left-some : (m : MacaqueV) (p : Pen) (n : ℕ) → ¬ (n ≡ 0) → writerAt m (stateBy p (m .length + n) (endsSaid (p .span) ((stateOf m) .seen) (p .last))) ≡ leftBy m p n
+left-some : (m : MacaqueV) (p : Pen) (n : ℕ) → ¬ (n ≡ 0) → writerAt m (stateBy p (m .length + n) (minMaxSaid (p .span) ((stateOf m) .seen) (p .last))) ≡ leftBy m p n
 left-some m p zero h = absurd (h refl)
 left-some m p (suc n) h = refl
-
-returns : tie.Need-returns
-returns c = search needs
-
-least-requires : tie.Need-least-requires
-least-requires c κs = search needs
-
-greatest-requires : tie.Need-greatest-requires
-greatest-requires c κs = search needs
-
-add-t9 : tie.Need-add-t9
-add-t9 c = search needs
 
 returns-2 : tie.Need-returns-2
 returns-2 c =
@@ -33,4 +22,4 @@ returns-2 c =
     ∙ left-some (a .self) (a .pen) (a .n) (c .before .before .before .before .if1 .left)
 
 pub left-by-spec : {M : Type 1} → statement M
-left-by-spec = tie.close (tie.spec returns least-requires greatest-requires add-t9 returns-2)
+left-by-spec = tie.close (tie.spec (λ c. search needs) (λ c κs. search needs) (λ c κs. search needs) (λ c. search needs) returns-2)

@@ -5,22 +5,13 @@ use Rattle.macaque_v.specs.Calls.{newAnswer}
 use Rattle.macaque_v.proofs.MacaqueV.new.Statement.{statement}
 use Rattle.macaque_v.proofs.MacaqueV.new.Tie as tie
 
-bound-allowed-requires : tie.Need-bound-allowed-requires
-bound-allowed-requires c κs = search needs
-
 returns : tie.Need-returns
 unfolding judge newAnswer
 returns c = rw (← c .before .bound-allowed .ensures, c .if1 .taken)
-
-first-last-requires : tie.Need-first-last-requires
-first-last-requires c κs = search needs
-
-is-first-requires : tie.Need-is-first-requires
-is-first-requires c κs = search needs
 
 returns-2 : tie.Need-returns-2
 unfolding judge newAnswer
 returns-2 c = rw (← c .before .before .before .bound-allowed .ensures, c .before .before .if1 .left, c .before .first-last .ensures, c .is-first .ensures)
 
 pub new-spec : {M : Type 1} → statement M
-new-spec = tie.close (tie.spec bound-allowed-requires returns first-last-requires is-first-requires returns-2)
+new-spec = tie.close (tie.spec (λ c κs. search needs) returns (λ c κs. search needs) (λ c κs. search needs) returns-2)

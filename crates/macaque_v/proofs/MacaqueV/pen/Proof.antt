@@ -3,11 +3,8 @@ use borrow.Author.Needs.{needs}
 use Rattle.macaque_v.proofs.MacaqueV.pen.Statement.{statement}
 use Rattle.macaque_v.proofs.MacaqueV.pen.Tie as tie
 
-begun-requires : tie.Need-begun-requires
-begun-requires c κs = search needs
-
 returns : tie.Need-returns
 returns c = cc
 
 pub pen-spec : {M : Type 1} → statement M
-pen-spec = tie.close (tie.spec begun-requires returns)
+pen-spec = tie.close (tie.spec (λ c κs. search needs) returns)

@@ -2,13 +2,9 @@
 use borrow.Author.Needs.{needs}
 use mathlib.Core.Path.{_≡_, ap}
 use mathlib.Core.Bool.{true, false, false≢true}
-use native.Mathlib.Omega.{arith}
 use Rattle.macaque_v.specs.declared.MacaqueV.{MacaqueV}
 use Rattle.macaque_v.proofs.MacaqueV.place_after.Statement.{statement}
 use Rattle.macaque_v.proofs.MacaqueV.place_after.Tie as tie
-
-slice-aggregate-write-all : tie.Need-slice-aggregate-write-all
-slice-aggregate-write-all c = search needs
 
 write-all-requires : tie.Need-write-all-requires
 write-all-requires c κs = (search needs, (λ (e : false ≡ true). absurd (false≢true e)), search needs)
@@ -17,4 +13,4 @@ returns : tie.Need-returns
 returns c = ap (λ (w : MacaqueV). w .place) (c .before .write-all .ensures .0)
 
 pub place-after-spec : {M : Type 1} → statement M
-place-after-spec = tie.close (tie.spec slice-aggregate-write-all write-all-requires returns)
+place-after-spec = tie.close (tie.spec (λ c. search needs) write-all-requires returns)

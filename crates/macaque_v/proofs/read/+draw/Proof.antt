@@ -7,21 +7,21 @@ use native.Mathlib.Omega.{arith}
 use lib.ListN.{length, take, replicate}
 use borrow.Fn.Kinds.{In}
 use borrow.Fn.PlainCycle.{Measures, is, falls, and}
-use Rattle.models.specs.Calls.{saysGrid}
-use Rattle.models.specs.Refusals.{number}
-use Rattle.models.specs.declared.Refusal.the-variants.{Leftover}
-use Rattle.macaque_v.specs.ReadRun.{Reads, FillSays}
-use Rattle.macaque_v.specs.Read.{valuesFrom, drawn, drawnAt}
+use Rattle.models.specs.Calls.{saysVerdict, saysGrid}
+use Rattle.models.specs.Refusals.{faultOf}
+use Rattle.macaque_v.specs.inner.ReadRun.{Reads, FillSays}
+use Rattle.macaque_v.specs.Read.{drawn}
+use Rattle.macaque_v.specs.inner.Read.{valuesFrom, drawnAt, Right}
 use Rattle.macaque_v.specs.declared.read_run.Run.{Run}
 use Rattle.macaque_v.proofs.ReadingEnd.{ends-wrong}
-use Rattle.macaque_v.proofs.Drawing.{from-wrong, from-early, from-right, from-then, drawn-behind, refused-behind, Right, right-rest, right-none, right-copied}
+use Rattle.macaque_v.proofs.Drawing.{from-wrong, from-early, from-right, from-then, drawn-behind, refused-behind, right-rest, right-none, right-copied}
 use Rattle.macaque_v.proofs.read.draw.Reads as draw
 use Rattle.macaque_v.proofs.read.draw.Kinds as draw-kinds
 use Rattle.macaque_v.proofs.read.+draw.Lts-draw as draw-lts
 use Rattle.macaque_v.proofs.read_run.copy.Reads as copy-reads
 use Rattle.macaque_v.proofs.read_run.fill.Reads as fill-reads
 use Rattle.macaque_v.proofs.read_run.smaller.Reads as smaller-reads
-use Rattle.macaque_v.proofs.read_run.left_behind.Reads as left-behind-reads
+use Rattle.macaque_v.proofs.read_run.judge_end.Reads as judge-end-reads
 use Rattle.macaque_v.proofs.read.+draw.{statement}
 use Rattle.macaque_v.proofs.read.+draw.Tie.{close}
 
@@ -43,8 +43,8 @@ calls t = (
   fill-reads.Learnt,
   draw-below t,
   draw.Post,
-  left-behind-reads.Asked,
-  left-behind-reads.Learnt,
+  judge-end-reads.Asked,
+  judge-end-reads.Learnt,
   copy-reads.Asked,
   copy-reads.Learnt,
 )
@@ -79,7 +79,7 @@ right t c =
     (λ w.
     let e : k ≡ a .n = omega arith in
     right-none us (a .i + k) (a .out .now) (c .if1 .out)
-    (ap (valuesFrom (a .first) (a .bytes .now) (a .at)) (sym e) ∙ from-right (a .first) (a .bytes .now) (a .at) R (sym (w .1 .ensures) ∙ w .2 .left)) (w .3))
+    (ap (valuesFrom (a .first) (a .bytes .now) (a .at)) (sym e) ∙ from-right (a .first) (a .bytes .now) (a .at) R (sym (w .1 .ensures) ∙ ap saysVerdict (w .3 .given .1))) (w .4))
     (c .if1 .came)
 
 draw-smaller-requires : (t : ℕ) → draw-lts.Need-smaller-requires (calls t) (draw-at t) draw.Post
@@ -106,7 +106,7 @@ draw-add-draw t c = search needs
 draw-draw-requires : (t : ℕ) → draw-lts.Need-draw-requires (calls t) (draw-at t) draw.Post
 draw-draw-requires t c κs =
     let R = filled t (c .before .before .before) in
-    (omega arith, (R .stands, omega (arith, R .counted), omega arith))
+    (omega arith, (R .readable, omega (arith, R .counted), omega arith))
 
 draw-enum-known-r-2 : (t : ℕ) → draw-lts.Need-enum-known-r-2 (calls t) (draw-at t) draw.Post
 draw-enum-known-r-2 t c = search needs
@@ -126,23 +126,34 @@ draw-returns t c =
     let said : saysGrid (d .result) ≡ drawn rest = d .ensures .0 in
     let says = ap saysGrid (sym (c .before .r2 .given .1)) ∙ said in (
       says ∙ sym (ap drawn all ∙ drawn-behind us rest),
-      d .ensures .1 ∙ refused-behind us (a .i) (a .i + k) (a .out .now) (number (c .before .r2 .given .0 .0)) rest says ∙ sym (ap (drawnAt (a .i) (a .out .now)) all),
+      d .ensures .1 ∙ refused-behind us (a .i) (a .i + k) (a .out .now) (faultOf (c .before .r2 .given .0 .0)) rest says ∙ sym (ap (drawnAt (a .i) (a .out .now)) all),
     )
 
 draw-enum-told : (t : ℕ) → draw-lts.Need-enum-told (calls t) (draw-at t) draw.Post
 draw-enum-told t c = search needs
 
-draw-left-behind-requires : (t : ℕ) → draw-lts.Need-left-behind-requires (calls t) (draw-at t) draw.Post
-draw-left-behind-requires t c κs =
+draw-judge-end-requires : (t : ℕ) → draw-lts.Need-judge-end-requires (calls t) (draw-at t) draw.Post
+draw-judge-end-requires t c κs =
     let R = filled t (c .before .before) in
-    (R .stands .within, omega (arith, R .stands .near, R .counted))
+    (R .readable, omega (arith, R .counted))
+
+draw-enum-known-r-3 : (t : ℕ) → draw-lts.Need-enum-known-r-3 (calls t) (draw-at t) draw.Post
+draw-enum-known-r-3 t c = search needs
+
+draw-enum-told-2 : (t : ℕ) → draw-lts.Need-enum-told-2 (calls t) (draw-at t) draw.Post
+draw-enum-told-2 t c = search needs
 
 draw-returns-2 : (t : ℕ) → draw-lts.Need-returns-2 (calls t) (draw-at t) draw.Post
 draw-returns-2 t c =
-    let a = c .before .before .before .before .before .before .before .before .before .before .before .before .args in
-    let e : c .before .before .before .before .before .before .before .before .before .smaller .result ≡ a .n = omega arith in
-    let stops = ends-wrong (filled t (c .before .before .before .before)) (sym (c .before .left-behind .ensures) ∙ c .if2 .taken) in
-    let wrong = ap (valuesFrom (a .first) (a .bytes .now) (a .at)) (sym e) ∙ from-wrong (a .first) (a .bytes .now) (a .at) (c .before .before .before .before .before .before .before .before .before .smaller .result) Leftover stops in
+    let r = c .before in
+    let d = r .before .before in
+    let read = d .before .before .before in
+    let f = read .before .before .before in
+    let k = f .before .before .smaller .result in
+    let a = f .before .before .before .before .before .args in
+    let e : k ≡ a .n = omega arith in
+    let stops = ends-wrong (filled t read) (ap saysVerdict (sym (r .r3 .given .1)) ∙ d .judge-end .ensures) in
+    let wrong = ap (valuesFrom (a .first) (a .bytes .now) (a .at)) (sym e) ∙ from-wrong (a .first) (a .bytes .now) (a .at) k (r .r3 .given .0 .0) stops in
     (sym (ap drawn wrong), sym (ap (drawnAt (a .i) (a .out .now)) wrong))
 
 draw-slice-aggregate-copy : (t : ℕ) → draw-lts.Need-slice-aggregate-copy (calls t) (draw-at t) draw.Post
@@ -195,8 +206,10 @@ pub +draw-spec : {M : Type 1} → statement M
     (draw-same-length t)
     (draw-returns t)
     (draw-enum-told t)
-    (draw-left-behind-requires t)
+    (draw-judge-end-requires t)
+    (draw-enum-known-r-3 t)
     (draw-returns-2 t)
+    (draw-enum-told-2 t)
     (draw-slice-aggregate-copy t)
     (draw-copy-requires t)
     (draw-returns-3 t)

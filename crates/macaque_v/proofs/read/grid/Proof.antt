@@ -2,13 +2,15 @@
 use borrow.Author.Needs.{needs}
 use mathlib.Core.Path.{sym, ap, ap₂, _∙_}
 use mathlib.Core.Bool.{Bool}
-use Prim.Native.Nat.{ℕ, _≤_}
+use Prim.Native.Nat.{_≤_}
 use native.Mathlib.Omega.{arith}
 use borrow.Author.Tests.{ltb-false}
 use lib.ListN.{length}
-use Rattle.models.specs.Answers.{refused}
+use Rattle.models.specs.Answers.{refused, keeping}
+use Rattle.models.specs.Limits.{mostValues}
 use Rattle.models.proofs.Judged.{none-holds, when-passed, when-refused}
-use Rattle.macaque_v.specs.Read.{valuesIn, valuesFrom, gridCauses, drawn, drawnAt, gridAnswer, gridMemory}
+use Rattle.macaque_v.specs.Read.{valuesIn, gridCauses, drawn, gridAnswer, gridMemory}
+use Rattle.macaque_v.specs.inner.Read.{valuesFrom, drawnAt}
 use Rattle.macaque_v.specs.declared.read_run.Cursor.{Cursor}
 use Rattle.macaque_v.proofs.ReadingAll.{starts, same-values}
 use Rattle.macaque_v.proofs.Drawing.{drawn-from-start}
@@ -17,26 +19,11 @@ use Rattle.macaque_v.proofs.read.grid.Tie as tie
 
 -- neither too many values nor too little room
 room : (c : tie.After-enum-told)
-    → (c .before .before .before .before .before .args .count ≤ 65536) × (c .before .before .before .before .before .args .count ≤ length (c .before .before .before .before .before .args .out .now))
+    → (c .before .before .before .before .before .args .count ≤ mostValues) × (c .before .before .before .before .before .args .count ≤ length (c .before .before .before .before .before .args .out .now))
 room c =
     let a = c .before .before .before .before .before .args in
     let none = none-holds (gridCauses (a .count) (length (a .out .now))) _ (c .before .before .judge-grid .ensures) (c .enum-told .given .1) in
-    (ltb-false 65536 (a .count) (none .0), ltb-false (length (a .out .now)) (a .count) (none .1 .0))
-
-judge-grid-requires : tie.Need-judge-grid-requires
-judge-grid-requires c κs = search needs
-
-enum-known-r : tie.Need-enum-known-r
-enum-known-r c = search needs
-
-enum-told : tie.Need-enum-told
-enum-told c = search needs
-
-is-first-requires : tie.Need-is-first-requires
-is-first-requires c κs = search needs
-
-start-requires : tie.Need-start-requires
-start-requires c κs = search needs
+    (ltb-false mostValues (a .count) (none .0), ltb-false (length (a .out .now)) (a .count) (none .1 .0))
 
 draw-requires : tie.Need-draw-requires
 draw-requires c κs =
@@ -51,10 +38,7 @@ returns c =
     let a = c .before .before .before .before .before .before .args in
     let causes = gridCauses (a .count) (length (a .out .now)) in
     let says = c .before .before .before .judge-grid .ensures in
-    (when-refused causes _ says refused _ _ (c .before .r .given .1), when-refused causes _ says (λ (n : ℕ). a .out .now) _ _ (c .before .r .given .1))
-
-same-length : tie.Need-same-length
-same-length c = search needs
+    (when-refused causes _ says refused _ _ (c .before .r .given .1), when-refused causes _ says (keeping (a .out .now)) _ _ (c .before .r .given .1))
 
 returns-2 : tie.Need-returns-2
 unfolding gridAnswer gridMemory
@@ -71,19 +55,19 @@ returns-2 c =
       d .ensures .1
           ∙ ap (drawnAt 0 (a .out .now)) values
           ∙ drawn-from-start (a .out .now) (valuesIn (a .bytes .now) (a .count) (a .opening))
-          ∙ when-passed causes _ says (λ (n : ℕ). a .out .now) _ ok,
+          ∙ when-passed causes _ says (keeping (a .out .now)) _ ok,
     )
 
 pub grid-spec : {M : Type 1} → statement M
 grid-spec =
     tie.close
     (tie.spec
-    judge-grid-requires
-    enum-known-r
-    enum-told
-    is-first-requires
-    start-requires
+    (λ c κs. search needs)
+    (λ c. search needs)
+    (λ c. search needs)
+    (λ c κs. search needs)
+    (λ c κs. search needs)
     draw-requires
     returns
-    same-length
+    (λ c. search needs)
     returns-2)

@@ -7,9 +7,9 @@ use lib.ListN.{take}
 use lib.Seq.{length-take-le}
 use Rattle.models.specs.Answers.{answered, refused}
 use Rattle.stream.specs.Read.{Reopened, bufferAfter}
-use Rattle.macaque_v.specs.State.{Ends, writerOf, isFirst}
-use Rattle.macaque_v.specs.ReadRun.{endsIn}
-use Rattle.macaque_v.specs.Read.{stateWith, resumed, StateSays}
+use Rattle.macaque_v.specs.State.{Known, writerOf, isFirst}
+use Rattle.macaque_v.specs.inner.ReadRun.{minMaxIn}
+use Rattle.macaque_v.specs.inner.Read.{stateWith, resumed, StateSays}
 use Rattle.macaque_v.specs.declared.read_run.Walk.the-variants as OfWalk
 use Rattle.macaque_v.proofs.read.resume.Statement.{statement}
 use Rattle.macaque_v.proofs.read.resume.Tie as tie
@@ -21,42 +21,21 @@ told c =
     let a = c .before .before .before .before .before .args in
     subst (StateSays (take (a .used) (a .buffer .now)) (a .count) (a .k) (a .opening)) (c .at .given .1) (c .before .before .state-at .ensures)
 
-slice-reshare-prefix-state-at : tie.Need-slice-reshare-prefix-state-at
-slice-reshare-prefix-state-at c = search needs
-
 slice-aggregate-state-at : tie.Need-slice-aggregate-state-at
 slice-aggregate-state-at c = sym (length-take-le (c .before .before .args .used) (c .before .before .args .buffer .now) (c .before .before .pre .2))
-
-state-at-requires : tie.Need-state-at-requires
-state-at-requires c κs = search needs
-
-enum-known-r : tie.Need-enum-known-r
-enum-known-r c = search needs
-
-enum-known-at : tie.Need-enum-known-at
-enum-known-at c = search needs
 
 cut-requires : tie.Need-cut-requires
 cut-requires c κs =
     let a = c .before .before .before .before .before .before .before .args in
     omega (arith, (told (c .before .before)) .1, length-take-le (a .used) (a .buffer .now) (c .before .before .before .before .before .before .before .pre .2))
 
-is-first-requires : tie.Need-is-first-requires
-is-first-requires c κs = search needs
-
-same-length : tie.Need-same-length
-same-length c = search needs
-
 returns : tie.Need-returns
 returns c =
     let a = c .before .before .before .before .before .before .args in
     let says = subst (StateSays (take (a .used) (a .buffer .now)) (a .count) (a .k) (a .opening)) (c .before .r .given .1) (c .before .before .before .state-at .ensures) in (
       sym (ap (resumed (a .error-bound) (isFirst (a .opening))) (says .opens) ∙ ap refused (says .numbered)),
-      sym (ap (λ (q : Reopened Ends). bufferAfter q (a .buffer .now)) (says .opens)),
+      sym (ap (λ (q : Reopened Known). bufferAfter q (a .buffer .now)) (says .opens)),
     )
-
-same-length-2 : tie.Need-same-length-2
-same-length-2 c = search needs
 
 returns-2 : tie.Need-returns-2
 returns-2 c =
@@ -64,22 +43,22 @@ returns-2 c =
     let at = c .before .before .before .before .before .before .at .given .0 .0 in
     let ends = c .before .before .before .before .before .before .at .given .0 .1 .0 in
     let opens = (told (c .before .before .before .before .before .before)) .0 in (
-      ap (λ (first : Bool). answered (writerOf (a .error-bound) first (stateWith at (endsIn ends)))) (c .is-first .ensures) ∙ sym (ap (resumed (a .error-bound) (isFirst (a .opening))) opens),
-      c .before .before .before .cut .ensures ∙ sym (ap (λ (q : Reopened Ends). bufferAfter q (a .buffer .now)) opens),
+      ap (λ (first : Bool). answered (writerOf (a .error-bound) first (stateWith at (minMaxIn ends)))) (c .is-first .ensures) ∙ sym (ap (resumed (a .error-bound) (isFirst (a .opening))) opens),
+      c .before .before .before .cut .ensures ∙ sym (ap (λ (q : Reopened Known). bufferAfter q (a .buffer .now)) opens),
     )
 
 pub resume-spec : {M : Type 1} → statement M
 resume-spec =
     tie.close
     (tie.spec
-    slice-reshare-prefix-state-at
+    (λ c. search needs)
     slice-aggregate-state-at
-    state-at-requires
-    enum-known-r
-    enum-known-at
+    (λ c κs. search needs)
+    (λ c. search needs)
+    (λ c. search needs)
     cut-requires
-    is-first-requires
-    same-length
+    (λ c κs. search needs)
+    (λ c. search needs)
     returns
-    same-length-2
+    (λ c. search needs)
     returns-2)

@@ -6,12 +6,6 @@ use Rattle.macaque_v.specs.Read.{startOf}
 use Rattle.macaque_v.proofs.read.start.Statement.{statement}
 use Rattle.macaque_v.proofs.read.start.Tie as tie
 
-enum-told : tie.Need-enum-told
-enum-told c = search needs
-
-enum-known-opening : tie.Need-enum-known-opening
-enum-known-opening c = search needs
-
 returns : tie.Need-returns
 returns c = (ap startOf (sym (c .enum-told .given .1)), omega arith)
 
@@ -19,4 +13,4 @@ returns-2 : tie.Need-returns-2
 returns-2 c = (ap startOf (sym (c .before .opening .given .1)), omega (arith, c .known-told .given))
 
 pub start-spec : {M : Type 1} → statement M
-start-spec = tie.close (tie.spec enum-told enum-known-opening returns returns-2)
+start-spec = tie.close (tie.spec (λ c. search needs) (λ c. search needs) returns returns-2)

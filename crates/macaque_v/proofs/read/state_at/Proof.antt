@@ -5,29 +5,30 @@ use mathlib.Core.Bool.{Bool}
 use Prim.Native.Nat.{_-_, _^_, _<_}
 use native.Mathlib.Omega.{arith}
 use Rattle.stream.specs.Read.{reopened}
-use Rattle.macaque_v.specs.State.{Ends, isFirst}
-use Rattle.macaque_v.specs.ReadRun.{endsIn, Walked, WalkSays, WholeSays}
-use Rattle.macaque_v.specs.Read.{startOf, stateWith}
+use Rattle.macaque_v.specs.State.{MinMax, isFirst}
+use Rattle.macaque_v.specs.inner.ReadRun.{minMaxIn, Walked, WalkSays, WholeSays}
+use Rattle.macaque_v.specs.Read.{startOf}
+use Rattle.macaque_v.specs.inner.Read.{stateWith}
 use Rattle.macaque_v.specs.declared.read_run.Cursor.{Cursor}
 use Rattle.macaque_v.specs.declared.read_run.Aim.the-variants as OfAim
 use Rattle.macaque_v.specs.declared.read_run.Tally.{Tally}
-use Rattle.macaque_v.proofs.ReadingAll.{starts, start-stands, early-unopened, late-unopened, right-reopened}
+use Rattle.macaque_v.proofs.ReadingAll.{starts, start-readable, early-unopened, late-unopened, right-reopened}
 use Rattle.macaque_v.proofs.read.state_at.Statement.{statement}
 use Rattle.macaque_v.proofs.read.state_at.Tie as tie
 
 -- what going through the first k values says, from the start
 told : (c : tie.After-go-through)
-    → WalkSays (isFirst (c .before .before .before .before .args .opening)) (c .before .before .before .before .args .bytes .now) (startOf (c .before .before .before .before .args .opening)) (c .before .before .before .before .args .k) OfAim.Ends (c .go-through .result)
+    → WalkSays (isFirst (c .before .before .before .before .args .opening)) (c .before .before .before .before .args .bytes .now) (startOf (c .before .before .before .before .args .opening)) (c .before .before .before .before .args .k) OfAim.MinMax (c .go-through .result)
 told c =
     let a = c .before .before .before .before .args in
-    subst₂ (λ (first : Bool) (from : Cursor). WalkSays first (a .bytes .now) from (a .k) OfAim.Ends (c .go-through .result))
+    subst₂ (λ (first : Bool) (from : Cursor). WalkSays first (a .bytes .now) from (a .k) OfAim.MinMax (c .go-through .result))
     (c .before .before .is-first .ensures) (c .before .start .ensures .0) (c .go-through .ensures)
 
 walked : (c : tie.After-at)
-    → Walked (isFirst (c .before .before .before .before .before .before .args .opening)) (c .before .before .before .before .before .before .args .bytes .now) (startOf (c .before .before .before .before .before .before .args .opening)) (c .before .before .before .before .before .before .args .k) OfAim.Ends (c .at .given .0 .0) (c .at .given .0 .1 .0)
+    → Walked (isFirst (c .before .before .before .before .before .before .args .opening)) (c .before .before .before .before .before .before .args .bytes .now) (startOf (c .before .before .before .before .before .before .args .opening)) (c .before .before .before .before .before .before .args .k) OfAim.MinMax (c .at .given .0 .0) (c .at .given .0 .1 .0)
 walked c =
     let a = c .before .before .before .before .before .before .args in
-    subst (WalkSays (isFirst (a .opening)) (a .bytes .now) (startOf (a .opening)) (a .k) OfAim.Ends) (c .at .given .1) (told (c .before .before))
+    subst (WalkSays (isFirst (a .opening)) (a .bytes .now) (startOf (a .opening)) (a .k) OfAim.MinMax) (c .at .given .1) (told (c .before .before))
 
 -- and going on to the end
 checked : (c : tie.After-go-to-end)
@@ -36,43 +37,22 @@ checked c =
     let a = c .before .before .before .before .before .before .before .before .args in
     subst (λ (first : Bool). WholeSays first (a .bytes .now) (c .before .before .at .given .0 .0) (a .count - a .k) OfAim.Nothing (c .go-to-end .result)) (c .before .before .before .before .before .before .is-first .ensures) (c .go-to-end .ensures)
 
-is-first-requires : tie.Need-is-first-requires
-is-first-requires c κs = search needs
-
-start-requires : tie.Need-start-requires
-start-requires c κs = search needs
-
 go-through-requires : tie.Need-go-through-requires
 go-through-requires c κs =
     let s = starts (c .before .before .before .args .bytes .now) (c .before .before .before .args .opening) (c .start .result) (c .start .ensures) in
     (s .0, omega (arith, s .1))
 
-enum-known-r : tie.Need-enum-known-r
-enum-known-r c = search needs
-
-enum-known-at : tie.Need-enum-known-at
-enum-known-at c = search needs
-
-sub-go-to-end : tie.Need-sub-go-to-end
-sub-go-to-end c = search needs
-
 go-to-end-requires : tie.Need-go-to-end-requires
 go-to-end-requires c κs =
     let R = (walked (c .before)) .reads in
-    (R .stands, omega (arith, R .counted))
-
-enum-known-r-2 : tie.Need-enum-known-r-2
-enum-known-r-2 c = search needs
-
-enum-told : tie.Need-enum-told
-enum-told c = search needs
+    (R .readable, omega (arith, R .counted))
 
 returns : tie.Need-returns
 returns c =
     let a = c .before .before .before .before .before .before .before .args in
     let small = subst (λ (at : Cursor). at .last < 2 ^ 32) (c .before .before .before .before .start .ensures .0) (c .before .before .before .before .start .ensures .1) in
-    early-unopened (a .bytes .now) (a .opening) (a .count) (a .k) (omega arith) (start-stands (a .bytes .now) (a .opening) small)
-    (subst (WalkSays (isFirst (a .opening)) (a .bytes .now) (startOf (a .opening)) (a .k) OfAim.Ends) (c .before .r .given .1) (told (c .before .before .before)))
+    early-unopened (a .bytes .now) (a .opening) (a .count) (a .k) (omega arith) (start-readable (a .bytes .now) (a .opening) small)
+    (subst (WalkSays (isFirst (a .opening)) (a .bytes .now) (startOf (a .opening)) (a .k) OfAim.MinMax) (c .before .r .given .1) (told (c .before .before .before)))
 
 returns-2 : tie.Need-returns-2
 returns-2 c =
@@ -88,23 +68,23 @@ returns-3 c =
     let W = walked (c .before .before .before .before) in
     let says = subst (WholeSays (isFirst (a .opening)) (a .bytes .now) at (a .count - a .k) OfAim.Nothing) (c .enum-told .given .1) (checked (c .before .before)) in (
       right-reopened (a .bytes .now) (a .opening) (a .count) (a .k) (omega arith) (W .reads) (says .0 .reads) (says .1)
-          ∙ ap (λ (t : Tally). reopened (stateWith at (endsIn t))) (sym (W .taken)),
-      W .reads .stands .within,
+          ∙ ap (λ (t : Tally). reopened (stateWith at (minMaxIn t))) (sym (W .tally)),
+      W .reads .readable .within,
     )
 
 pub state-at-spec : {M : Type 1} → statement M
 state-at-spec =
     tie.close
     (tie.spec
-    is-first-requires
-    start-requires
+    (λ c κs. search needs)
+    (λ c κs. search needs)
     go-through-requires
-    enum-known-r
-    enum-known-at
-    sub-go-to-end
+    (λ c. search needs)
+    (λ c. search needs)
+    (λ c. search needs)
     go-to-end-requires
-    enum-known-r-2
-    enum-told
+    (λ c. search needs)
+    (λ c. search needs)
     returns
     returns-2
     returns-3)

@@ -8,7 +8,7 @@ use lib.Ieee.{binary32, toBits}
 use Rattle.models.specs.Answers.{answered, judge}
 use Rattle.models.specs.Limits.{mostValues}
 use Rattle.macaque_v.specs.State.{isFirst}
-use Rattle.macaque_v.specs.ReadRun.{WholeSays}
+use Rattle.macaque_v.specs.inner.ReadRun.{WholeSays}
 use Rattle.macaque_v.specs.Read.{valuesIn, startOf, summed, sumAnswer}
 use Rattle.macaque_v.specs.declared.read_run.Cursor.{Cursor}
 use Rattle.macaque_v.specs.declared.read_run.Aim.the-variants as OfAim
@@ -37,25 +37,10 @@ returns : tie.Need-returns
 unfolding sumAnswer judge
 returns c = rw (lt-ltb mostValues (c .before .before .args .count) (c .if1 .taken))
 
-is-first-requires : tie.Need-is-first-requires
-is-first-requires c κs = search needs
-
-start-requires : tie.Need-start-requires
-start-requires c κs = search needs
-
 go-to-end-requires : tie.Need-go-to-end-requires
 go-to-end-requires c κs =
     let s = starts (c .before .before .before .before .args .bytes .now) (c .before .before .before .before .args .opening) (c .start .result) (c .start .ensures) in
     (s .0, omega (arith, s .1))
-
-enum-known-r : tie.Need-enum-known-r
-enum-known-r c = search needs
-
-enum-known-tally : tie.Need-enum-known-tally
-enum-known-tally c = search needs
-
-bits-of-f32-requires : tie.Need-bits-of-f32-requires
-bits-of-f32-requires c κs = search needs
 
 returns-2 : tie.Need-returns-2
 returns-2 c =
@@ -67,7 +52,7 @@ returns-3 : tie.Need-returns-3
 returns-3 c =
     let a = c .before .before .before .before .before .before .before .before .before .args in
     let says = subst (WholeSays (isFirst (a .opening)) (a .bytes .now) (startOf (a .opening)) (a .count) OfAim.Sum) (c .before .before .tally .given .1) (told (c .before .before .before .before)) in
-    ap answered (c .bits-of-f32 .ensures ∙ ap (λ (t : Tally). toBits binary32 (t .sum)) (says .0 .taken))
+    ap answered (c .bits-of-f32 .ensures ∙ ap (λ (t : Tally). toBits binary32 (t .sum)) (says .0 .tally))
     ∙ sym (few (c .before .before .before .before .before .before .before) ∙ ap (summed (isFirst (a .opening))) (values-right (a .bytes .now) (a .opening) (says .0 .reads) (says .1)))
 
 pub sum-spec : {M : Type 1} → statement M
@@ -75,11 +60,11 @@ sum-spec =
     tie.close
     (tie.spec
     returns
-    is-first-requires
-    start-requires
+    (λ c κs. search needs)
+    (λ c κs. search needs)
     go-to-end-requires
-    enum-known-r
-    enum-known-tally
-    bits-of-f32-requires
+    (λ c. search needs)
+    (λ c. search needs)
+    (λ c κs. search needs)
     returns-2
     returns-3)

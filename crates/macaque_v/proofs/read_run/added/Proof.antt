@@ -24,24 +24,6 @@ loop-holds : tie.Need-loop-holds Inv-loop μ-loop
 unfolding gatherFrom
 loop-holds c = (omega arith, refl)
 
-add-plus : tie.Need-add-plus Inv-loop μ-loop
-add-plus c = search needs
-
-mul-plus : tie.Need-mul-plus Inv-loop μ-loop
-mul-plus c = search needs
-
-shared-slice-read-plus : tie.Need-shared-slice-read-plus Inv-loop μ-loop
-shared-slice-read-plus c = search needs
-
-plus-requires : tie.Need-plus-requires Inv-loop μ-loop
-plus-requires c κs = search needs
-
-add-i : tie.Need-add-i Inv-loop μ-loop
-add-i c = search needs
-
-loop-less : tie.Need-loop-less Inv-loop μ-loop
-loop-less c = search needs
-
 loop-again : tie.Need-loop-again Inv-loop μ-loop
 loop-again c =
     let a = c .before .before .before .before .before .args in
@@ -65,11 +47,11 @@ added-spec =
     Inv-loop
     μ-loop
     loop-holds
-    add-plus
-    mul-plus
-    shared-slice-read-plus
-    plus-requires
-    add-i
-    loop-less
+    (λ c. search needs)
+    (λ c. search needs)
+    (λ c. search needs)
+    (λ c κs. search needs)
+    (λ c. search needs)
+    (λ c. search needs)
     loop-again
     returns)

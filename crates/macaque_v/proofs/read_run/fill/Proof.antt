@@ -4,9 +4,9 @@ use mathlib.Core.Path.{_≡_, refl, subst}
 use Prim.Native.Nat.{ℕ, _+_, _-_}
 use native.Mathlib.Omega.{arith}
 use lib.ListN.{take, set}
-use Rattle.macaque_v.specs.ReadRun.{Reads, NextSays}
+use Rattle.macaque_v.specs.inner.ReadRun.{Reads, NextSays}
 use Rattle.macaque_v.specs.declared.read_run.Run.{Run}
-use Rattle.macaque_v.proofs.ReadingRun.{reads-none, then-stops, Filled, filled-more, filled-on}
+use Rattle.macaque_v.proofs.ReadingRun.{one-stops, one-read, reads-none, then-stops, Filled, filled-more, filled-on}
 use Rattle.macaque_v.proofs.read_run.fill.Statement.{statement}
 use Rattle.macaque_v.proofs.read_run.fill.Tie as tie
 
@@ -24,7 +24,8 @@ stored c =
     let a = c .before .before .before .before .before .before .before .before .args in
     let l = c .before .before .before .before .before .loop in
     filled-more (a .first) (a .bytes .now) (a .n) (l .i) (a .out .now) (l .out) (l .inv) (omega arith) (omega arith)
-    (subst (λ (q : Run). NextSays (a .first) (a .bytes .now) (l .at) q) (c .before .to .given .1) (c .before .before .before .next .ensures))
+    (let said = subst (λ (q : Run). NextSays (a .first) (a .bytes .now) (l .at) q) (c .before .to .given .1) (c .before .before .before .next .ensures) in
+    one-read (a .first) (a .bytes .now) (l .at) (c .before .to .given .0 .0) (said .0) (said .1))
 
 loop-holds : tie.Need-loop-holds Inv-loop μ-loop
 loop-holds c =
@@ -32,43 +33,23 @@ loop-holds c =
     record { reads = reads-none (a .first) (a .bytes .now) (a .from) (c .before .before .pre .0); fits = omega arith; long = refl }
 
 next-requires : tie.Need-next-requires Inv-loop μ-loop
-next-requires c κs = (c .before .loop .inv .reads .stands, omega (arith, c .before .loop .inv .reads .counted))
-
-enum-known-r : tie.Need-enum-known-r Inv-loop μ-loop
-enum-known-r c = search needs
-
-same-length : tie.Need-same-length Inv-loop μ-loop
-same-length c = search needs
+next-requires c κs = (c .before .loop .inv .reads .readable, omega (arith, c .before .loop .inv .reads .counted))
 
 returns : tie.Need-returns Inv-loop μ-loop
 returns c =
     let a = c .before .before .before .before .before .before .before .before .args in
     let l = c .before .before .before .before .before .loop in
     then-stops (a .first) (a .bytes .now) (l .inv .reads) 1
-    (subst (λ (q : Run). NextSays (a .first) (a .bytes .now) (l .at) q) (c .before .r .given .1) (c .before .before .before .next .ensures)) (a .n) (omega arith)
-
-enum-known-to : tie.Need-enum-known-to Inv-loop μ-loop
-enum-known-to c = search needs
+    (one-stops (a .first) (a .bytes .now) (l .at) (c .before .r .given .0 .0)
+    (subst (λ (q : Run). NextSays (a .first) (a .bytes .now) (l .at) q) (c .before .r .given .1) (c .before .before .before .next .ensures))) (a .n) (omega arith)
 
 add-same : tie.Need-add-same Inv-loop μ-loop
-add-same c = omega (arith, c .before .before .before .before .before .before .loop .inv .reads .stands .near, c .before .before .before .before .before .before .loop .inv .reads .counted)
-
-mul-out : tie.Need-mul-out Inv-loop μ-loop
-mul-out c = search needs
-
-slice-write-out : tie.Need-slice-write-out Inv-loop μ-loop
-slice-write-out c = search needs
-
-add-go-on : tie.Need-add-go-on Inv-loop μ-loop
-add-go-on c = search needs
+add-same c = omega (arith, c .before .before .before .before .before .before .loop .inv .reads .readable .near, c .before .before .before .before .before .before .loop .inv .reads .counted)
 
 go-on-requires : tie.Need-go-on-requires Inv-loop μ-loop
 go-on-requires c κs =
     let f = stored (c .before .before .before) in
-    (f .reads .stands, omega (arith, f .reads .counted), omega (arith, f .reads .counted, c .before .before .before .before .before .before .before .before .before .before .before .pre .1), f .fits, omega (arith, f .long))
-
-add-i : tie.Need-add-i Inv-loop μ-loop
-add-i c = search needs
+    (f .reads .readable, omega (arith, f .reads .counted), omega (arith, f .reads .counted, c .before .before .before .before .before .before .before .before .before .before .before .pre .1), f .fits, omega (arith, f .long))
 
 sub-i : tie.Need-sub-i Inv-loop μ-loop
 sub-i c = omega (arith, c .before .before .before .before .go-on .ensures .reads .counted)
@@ -91,9 +72,6 @@ loop-again c =
     let r = c .before .before .before .before .go-on in
     filled-on (a .first) (a .bytes .now) (a .n) (l .i + 1) (a .out .now) (set (l .out) (l .i) (to .last)) (stored (c .before .before .before .before .before .before .before .before)) (r .ensures) (l .i + 1 + (r .result .count - to .count)) refl
 
-same-length-2 : tie.Need-same-length-2 Inv-loop μ-loop
-same-length-2 c = search needs
-
 returns-2 : tie.Need-returns-2 Inv-loop μ-loop
 returns-2 c =
     let a = c .before .before .before .before .args in
@@ -109,19 +87,19 @@ fill-spec =
     μ-loop
     loop-holds
     next-requires
-    enum-known-r
-    same-length
+    (λ c. search needs)
+    (λ c. search needs)
     returns
-    enum-known-to
+    (λ c. search needs)
     add-same
-    mul-out
-    slice-write-out
-    add-go-on
+    (λ c. search needs)
+    (λ c. search needs)
+    (λ c. search needs)
     go-on-requires
-    add-i
+    (λ c. search needs)
     sub-i
     add-i-2
     loop-less
     loop-again
-    same-length-2
+    (λ c. search needs)
     returns-2)

@@ -5,7 +5,7 @@ use Prim.Native.Nat.{ℕ, _-_, _≤_}
 use native.Mathlib.Omega.{arith}
 use lib.ListN.{length, take}
 use lib.Ieee.{ofBits}
-use Rattle.macaque_v.specs.ReadRun.{FillSays, Walked}
+use Rattle.macaque_v.specs.inner.ReadRun.{FillSays, Walked}
 use Rattle.macaque_v.specs.declared.read_run.Run.{Run}
 use Rattle.macaque_v.proofs.ReadingRun.{then-stops}
 use Rattle.macaque_v.proofs.ReadingTally.{walked-none, walked-more}
@@ -24,22 +24,10 @@ loop-holds c =
     let a = c .before .args in
     (omega arith, refl, walked-none (a .first) (a .bytes .now) (a .from) (a .aim) (c .before .pre .0))
 
-sub-smaller : tie.Need-sub-smaller Inv-loop μ-loop
-sub-smaller c = search needs
-
-smaller-requires : tie.Need-smaller-requires Inv-loop μ-loop
-smaller-requires c κs = search needs
-
-slice-aggregate-fill : tie.Need-slice-aggregate-fill Inv-loop μ-loop
-slice-aggregate-fill c = search needs
-
 fill-requires : tie.Need-fill-requires Inv-loop μ-loop
 fill-requires c κs =
     let W = c .before .before .before .loop .inv .2 in
-    (W .reads .stands, omega (arith, W .reads .counted), omega arith)
-
-enum-known-r : tie.Need-enum-known-r Inv-loop μ-loop
-enum-known-r c = search needs
+    (W .reads .readable, omega (arith, W .reads .counted), omega arith)
 
 returns : tie.Need-returns Inv-loop μ-loop
 returns c =
@@ -50,20 +38,8 @@ returns c =
     then-stops (a .first) (a .bytes .now) (l .inv .2 .reads) k
     (subst (λ (q : Run). FillSays (a .first) (a .bytes .now) (l .at) k (l .values) (f .last .1 .1 .1 .1 .0) q) (c .before .r .given .1) (f .ensures)) (a .n) (omega arith)
 
-enum-known-to : tie.Need-enum-known-to Inv-loop μ-loop
-enum-known-to c = search needs
-
-slice-aggregate-taken-in : tie.Need-slice-aggregate-taken-in Inv-loop μ-loop
-slice-aggregate-taken-in c = search needs
-
 taken-in-requires : tie.Need-taken-in-requires Inv-loop μ-loop
 taken-in-requires c κs = (omega (arith, c .before .before .before .before .before .fill .kept .1 .1 .1 .1 .0), omega (arith, c .before .before .before .before .before .before .before .before .before .loop .inv .2 .reads .counted))
-
-add-read : tie.Need-add-read Inv-loop μ-loop
-add-read c = search needs
-
-loop-less : tie.Need-loop-less Inv-loop μ-loop
-loop-less c = search needs
 
 loop-again : tie.Need-loop-again Inv-loop μ-loop
 loop-again c =
@@ -92,16 +68,16 @@ go-through-spec =
     Inv-loop
     μ-loop
     loop-holds
-    sub-smaller
-    smaller-requires
-    slice-aggregate-fill
+    (λ c. search needs)
+    (λ c κs. search needs)
+    (λ c. search needs)
     fill-requires
-    enum-known-r
+    (λ c. search needs)
     returns
-    enum-known-to
-    slice-aggregate-taken-in
+    (λ c. search needs)
+    (λ c. search needs)
     taken-in-requires
-    add-read
-    loop-less
+    (λ c. search needs)
+    (λ c. search needs)
     loop-again
     returns-2)

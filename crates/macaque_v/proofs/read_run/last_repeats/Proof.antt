@@ -5,21 +5,6 @@ use Rattle.coding.proofs.Repeats.{repeats-ahead}
 use Rattle.macaque_v.proofs.read_run.last_repeats.Statement.{statement}
 use Rattle.macaque_v.proofs.read_run.last_repeats.Tie as tie
 
-look-at-end-requires : tie.Need-look-at-end-requires
-look-at-end-requires c κs = search needs
-
-sub-at-once : tie.Need-sub-at-once
-sub-at-once c = search needs
-
-sub-smaller : tie.Need-sub-smaller
-sub-smaller c = search needs
-
-smaller-requires : tie.Need-smaller-requires
-smaller-requires c κs = search needs
-
-at-once-requires : tie.Need-at-once-requires
-at-once-requires c κs = search needs
-
 take-repeats-requires : tie.Need-take-repeats-requires
 take-repeats-requires c κs =
     let s = c .before .before .before .before .before .before .before in
@@ -34,21 +19,15 @@ take-repeats-requires c κs =
       λ some. omega (arith, k .ensures .free some),
     )
 
-same-length : tie.Need-same-length
-same-length c = search needs
-
-returns : tie.Need-returns
-returns c = search needs
-
 pub last-repeats-spec : {M : Type 1} → statement M
 last-repeats-spec =
     tie.close
     (tie.spec
-    look-at-end-requires
-    sub-at-once
-    sub-smaller
-    smaller-requires
-    at-once-requires
+    (λ c κs. search needs)
+    (λ c. search needs)
+    (λ c. search needs)
+    (λ c κs. search needs)
+    (λ c κs. search needs)
     take-repeats-requires
-    same-length
-    returns)
+    (λ c. search needs)
+    (λ c. search needs))

@@ -9,9 +9,6 @@ use Rattle.macaque_v.specs.ReadRun.{gatherSum}
 use Rattle.macaque_v.proofs.read_run.plus.Statement.{statement}
 use Rattle.macaque_v.proofs.read_run.plus.Tie as tie
 
-value-of-f32-requires : tie.Need-value-of-f32-requires
-value-of-f32-requires c κs = search needs
-
 returns : tie.Need-returns
 returns c =
     let a = c .before .before .args in
@@ -23,4 +20,4 @@ returns-2 c =
     ap (Ieee.add binary32 (a .sum)) (c .before .value-of-f32 .ensures) ∙ sym (ap (λ (raw : Bool). gathered gatherSum raw (a .sum) (a .value)) (c .if1 .left))
 
 pub plus-spec : {M : Type 1} → statement M
-plus-spec = tie.close (tie.spec value-of-f32-requires returns returns-2)
+plus-spec = tie.close (tie.spec (λ c κs. search needs) returns returns-2)

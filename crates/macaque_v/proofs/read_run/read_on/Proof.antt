@@ -1,9 +1,12 @@
 -- `macaque_v::read_run::read_on` meets its contract: the places up to j hold what was read. Assumes nothing.
 use borrow.Author.Needs.{needs}
-use mathlib.Core.Path.{sym, subst}
+use mathlib.Core.Path.{_≡_, sym, subst}
+use mathlib.Core.Bool.{false}
 use Prim.Native.Nat.{_+_, _-_, _<_}
 use native.Mathlib.Omega.{arith}
-use Rattle.macaque_v.specs.ReadRun.{onward, ReadsOn}
+use borrow.Author.Tests.{ne-eqb}
+use Rattle.stream.specs.Format.{opening, windowIn, unset}
+use Rattle.macaque_v.specs.inner.ReadRun.{onward, ReadsOn}
 use Rattle.macaque_v.proofs.Repeating.{Reached, reached-start, reached-kept, reached-repeats}
 use Rattle.macaque_v.proofs.read_run.read_on.Statement.{statement}
 use Rattle.macaque_v.proofs.read_run.read_on.Tie as tie
@@ -15,17 +18,11 @@ abbrev μ-loop : tie.MeasureT-loop
 μ-loop bytes first from i n out₀ lead trail step last₀ place₀ j₀ out last place j = n - j
 
 -- the window is set, so it leaves a bit
+is-set : (c : tie.Else1 Inv-loop μ-loop) → unset (windowIn (c .before .before .before .args .from .lead) (c .before .before .before .args .from .trail)) ≡ false
+is-set c = ne-eqb (c .before .before .before .args .from .lead) (opening .lead) (c .if1 .left)
+
 held : (c : tie.Else1 Inv-loop μ-loop) → c .before .before .before .args .from .lead + c .before .before .before .args .from .trail < 32
-held c = c .before .before .before .pre .0 .held (c .if1 .left)
-
-repeats-requires : tie.Need-repeats-requires Inv-loop μ-loop
-repeats-requires c κs = search needs
-
-same-length : tie.Need-same-length Inv-loop μ-loop
-same-length c = search needs
-
-returns : tie.Need-returns Inv-loop μ-loop
-returns c = search needs
+held c = c .before .before .before .pre .0 .held (is-set c)
 
 sub-step : tie.Need-sub-step Inv-loop μ-loop
 sub-step c = omega (arith, held c)
@@ -33,35 +30,14 @@ sub-step c = omega (arith, held c)
 sub-step-2 : tie.Need-sub-step-2 Inv-loop μ-loop
 sub-step-2 c = omega (arith, held c)
 
-cast-step : tie.Need-cast-step Inv-loop μ-loop
-cast-step c = search needs
-
 loop-holds : tie.Need-loop-holds Inv-loop μ-loop
 loop-holds c =
     let s = c .before .before .before in
     let a = s .args in
     reached-start (a .first) (a .bytes .now) (a .from) (a .i) (a .n) (a .out .now) (s .pre .0) (omega arith)
 
-word-ahead-requires : tie.Need-word-ahead-requires Inv-loop μ-loop
-word-ahead-requires c κs = search needs
-
 in-place-requires : tie.Need-in-place-requires Inv-loop μ-loop
 in-place-requires c κs = (omega arith, held (c .before .before .before .before))
-
-mul-out : tie.Need-mul-out Inv-loop μ-loop
-mul-out c = search needs
-
-slice-write-out : tie.Need-slice-write-out Inv-loop μ-loop
-slice-write-out c = search needs
-
-add-place : tie.Need-add-place Inv-loop μ-loop
-add-place c = search needs
-
-add-j : tie.Need-add-j Inv-loop μ-loop
-add-j c = search needs
-
-loop-less : tie.Need-loop-less Inv-loop μ-loop
-loop-less c = search needs
 
 loop-again : tie.Need-loop-again Inv-loop μ-loop
 loop-again c =
@@ -70,25 +46,7 @@ loop-again c =
     let l = c .before .before .before .before .loop in
     let word = c .before .before .word-ahead in
     reached-kept (a .first) (a .bytes .now) (a .from) (omega arith) (a .i) (a .n) (a .out .now) (l .out) (l .last) (l .place) (l .j) (l .inv) (omega arith) (word .result) (word .ensures)
-    (omega arith) (omega arith) (c .before .before .before .before .before .if1 .left) (c .in-place .result) (c .in-place .ensures)
-
-sub-at-once : tie.Need-sub-at-once Inv-loop μ-loop
-sub-at-once c = search needs
-
-sub-at-once-2 : tie.Need-sub-at-once-2 Inv-loop μ-loop
-sub-at-once-2 c = search needs
-
-at-once-requires : tie.Need-at-once-requires Inv-loop μ-loop
-at-once-requires c κs = search needs
-
-sub-further : tie.Need-sub-further Inv-loop μ-loop
-sub-further c = search needs
-
-further-requires : tie.Need-further-requires Inv-loop μ-loop
-further-requires c κs = search needs
-
-same-length-2 : tie.Need-same-length-2 Inv-loop μ-loop
-same-length-2 c = search needs
+    (omega arith) (omega arith) (is-set (c .before .before .before .before .before)) (c .in-place .result) (c .in-place .ensures)
 
 returns-2 : tie.Need-returns-2 Inv-loop μ-loop
 returns-2 c =
@@ -99,18 +57,6 @@ returns-2 c =
 spread-requires : tie.Need-spread-requires Inv-loop μ-loop
 spread-requires c κs = omega (arith, c .before .before .at-once .ensures .free (omega arith), c .before .before .before .before .before .before .loop .inv .on .long)
 
-mul-place : tie.Need-mul-place Inv-loop μ-loop
-mul-place c = search needs
-
-add-place-2 : tie.Need-add-place-2 Inv-loop μ-loop
-add-place-2 c = search needs
-
-add-j-2 : tie.Need-add-j-2 Inv-loop μ-loop
-add-j-2 c = search needs
-
-loop-less-2 : tie.Need-loop-less-2 Inv-loop μ-loop
-loop-less-2 c = search needs
-
 loop-again-2 : tie.Need-loop-again-2 Inv-loop μ-loop
 loop-again-2 c =
     let s = c .before .before .before .before .before .before .before .before .before .before .before .before .before in
@@ -120,15 +66,6 @@ loop-again-2 c =
     let k = c .before .before .before .before .before .at-once in
     reached-repeats (a .first) (a .bytes .now) (a .from) (omega arith) (a .i) (a .n) (a .out .now) (l .out) (l .last) (l .place) (l .j) (l .inv) (omega arith) (word .result) (word .ensures)
     (k .result) (k .ensures) (omega arith) (c .before .before .spread .last .0) (c .before .before .spread .ensures)
-
-sub-further-2 : tie.Need-sub-further-2 Inv-loop μ-loop
-sub-further-2 c = search needs
-
-further-requires-2 : tie.Need-further-requires-2 Inv-loop μ-loop
-further-requires-2 c κs = search needs
-
-same-length-3 : tie.Need-same-length-3 Inv-loop μ-loop
-same-length-3 c = search needs
 
 returns-3 : tie.Need-returns-3 Inv-loop μ-loop
 returns-3 c =
@@ -142,35 +79,35 @@ read-on-spec =
     (tie.spec
     Inv-loop
     μ-loop
-    repeats-requires
-    same-length
-    returns
+    (λ c κs. search needs)
+    (λ c. search needs)
+    (λ c. search needs)
     sub-step
     sub-step-2
-    cast-step
+    (λ c. search needs)
     loop-holds
-    word-ahead-requires
+    (λ c κs. search needs)
     in-place-requires
-    mul-out
-    slice-write-out
-    add-place
-    add-j
-    loop-less
+    (λ c. search needs)
+    (λ c. search needs)
+    (λ c. search needs)
+    (λ c. search needs)
+    (λ c. search needs)
     loop-again
-    sub-at-once
-    sub-at-once-2
-    at-once-requires
-    sub-further
-    further-requires
-    same-length-2
+    (λ c. search needs)
+    (λ c. search needs)
+    (λ c κs. search needs)
+    (λ c. search needs)
+    (λ c κs. search needs)
+    (λ c. search needs)
     returns-2
     spread-requires
-    mul-place
-    add-place-2
-    add-j-2
-    loop-less-2
+    (λ c. search needs)
+    (λ c. search needs)
+    (λ c. search needs)
+    (λ c. search needs)
     loop-again-2
-    sub-further-2
-    further-requires-2
-    same-length-3
+    (λ c. search needs)
+    (λ c κs. search needs)
+    (λ c. search needs)
     returns-3)

@@ -21,21 +21,6 @@ loop-holds c =
     let e : a .i ≡ a .i + 0 = omega arith in
     (omega arith, refl, sym (take-append-drop (a .i) (a .out .now)) ∙ ap (λ (n : ℕ). take (a .i) (a .out .now) ++ drop n (a .out .now)) e)
 
-add-out : tie.Need-add-out Inv-loop μ-loop
-add-out c = search needs
-
-mul-out : tie.Need-mul-out Inv-loop μ-loop
-mul-out c = search needs
-
-slice-write-out : tie.Need-slice-write-out Inv-loop μ-loop
-slice-write-out c = search needs
-
-add-j : tie.Need-add-j Inv-loop μ-loop
-add-j c = search needs
-
-loop-less : tie.Need-loop-less Inv-loop μ-loop
-loop-less c = search needs
-
 loop-again : tie.Need-loop-again Inv-loop μ-loop
 loop-again c =
     let a = c .before .before .args in
@@ -44,9 +29,6 @@ loop-again c =
       simp length-set (l .inv .1),
       ap (λ (z : List ℕ). set z (a .i + l .j) (a .value)) (l .inv .2) ∙ spread-more (a .out .now) (a .i) (l .j) (a .value) (omega arith),
     )
-
-same-length : tie.Need-same-length Inv-loop μ-loop
-same-length c = search needs
 
 returns : tie.Need-returns Inv-loop μ-loop
 returns c =
@@ -62,11 +44,11 @@ spread-spec =
     Inv-loop
     μ-loop
     loop-holds
-    add-out
-    mul-out
-    slice-write-out
-    add-j
-    loop-less
+    (λ c. search needs)
+    (λ c. search needs)
+    (λ c. search needs)
+    (λ c. search needs)
+    (λ c. search needs)
     loop-again
-    same-length
+    (λ c. search needs)
     returns)

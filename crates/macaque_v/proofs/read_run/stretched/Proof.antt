@@ -5,17 +5,18 @@ use Prim.Native.Nat.{ℕ, _+_, _-_, _≤_, _<_}
 use native.Mathlib.Omega.{arith}
 use lib.ListN.{take, getD}
 use Rattle.stream.specs.Format.{Mode, gatherFrom}
-use Rattle.macaque_v.specs.State.{Ends, taken, gatherEnds}
-use Rattle.macaque_v.specs.ReadRun.{endsIn, withEnds}
+use Rattle.macaque_v.specs.State.{MinMax, minMaxWith, gatherMinMax}
+use Rattle.macaque_v.specs.inner.ReadRun.{minMaxIn, withMinMax}
 use Rattle.macaque_v.specs.declared.span.Span.{Span}
-use Rattle.macaque_v.proofs.Extremes.{EndsHeld, span-none, span-more, span-bits}
+use Rattle.macaque_v.specs.inner.Span.{MinMaxHeld}
+use Rattle.macaque_v.proofs.Extremes.{span-none, span-more, span-bits}
 use Rattle.macaque_v.proofs.ReadingTally.{ends-more}
 use Rattle.macaque_v.proofs.read_run.stretched.Statement.{statement}
 use Rattle.macaque_v.proofs.read_run.stretched.Tie as tie
 
 abbrev Inv-loop : tie.InvT-loop
 Inv-loop tally values k ends₀ i₀ ends i =
-    (i ≤ k) × ((mode : Mode) (n : ℕ) → EndsHeld (endsIn tally) i (gatherFrom gatherEnds mode n (endsIn tally) (take i values)) ends (getD values (i - 1) 0))
+    (i ≤ k) × ((mode : Mode) (n : ℕ) → MinMaxHeld (minMaxIn tally) i (gatherFrom gatherMinMax mode n (minMaxIn tally) (take i values)) ends (getD values (i - 1) 0))
 
 abbrev μ-loop : tie.MeasureT-loop
 μ-loop tally values k ends₀ i₀ ends i = k - i
@@ -25,10 +26,7 @@ unfolding gatherFrom
 returns c =
     λ mode n.
     let a = c .before .before .args in
-    sym (ap (λ (m : ℕ). withEnds (a .tally) (gatherFrom gatherEnds mode n (endsIn (a .tally)) (take m (a .values .now)))) (c .if1 .taken))
-
-begun-requires : tie.Need-begun-requires Inv-loop μ-loop
-begun-requires c κs = search needs
+    sym (ap (λ (m : ℕ). withMinMax (a .tally) (gatherFrom gatherMinMax mode n (minMaxIn (a .tally)) (take m (a .values .now)))) (c .if1 .taken))
 
 loop-holds : tie.Need-loop-holds Inv-loop μ-loop
 unfolding gatherFrom
@@ -37,55 +35,25 @@ loop-holds c =
     let first = getD (a .values .now) 0 0 in (
       omega arith,
       λ mode n.
-          subst (λ (s : Span). EndsHeld (endsIn (a .tally)) 0 (endsIn (a .tally)) s first) (sym (c .begun .ensures))
-          (span-none (endsIn (a .tally)) first (omega arith) (omega arith)),
+          subst (λ (s : Span). MinMaxHeld (minMaxIn (a .tally)) 0 (minMaxIn (a .tally)) s first) (sym (c .begun .ensures))
+          (span-none (minMaxIn (a .tally)) first (omega arith) (omega arith)),
     )
-
-mul-taken : tie.Need-mul-taken Inv-loop μ-loop
-mul-taken c = search needs
-
-shared-slice-read-taken : tie.Need-shared-slice-read-taken Inv-loop μ-loop
-shared-slice-read-taken c = search needs
-
-taken-requires : tie.Need-taken-requires Inv-loop μ-loop
-taken-requires c κs = search needs
-
-add-i : tie.Need-add-i Inv-loop μ-loop
-add-i c = search needs
-
-loop-less : tie.Need-loop-less Inv-loop μ-loop
-loop-less c = search needs
 
 loop-again : tie.Need-loop-again Inv-loop μ-loop
 loop-again c =
     let a = c .before .before .before .before .before .before .before .args in
     let l = c .before .before .before .loop in
     let v = getD (a .values .now) (l .i) 0 in
-    let b = endsIn (a .tally) in
+    let b = minMaxIn (a .tally) in
     let here : l .i ≡ l .i + 1 - 1 = omega arith in (
       omega arith,
       λ mode n.
-          let e = gatherFrom gatherEnds mode n b (take (l .i) (a .values .now)) in
-          subst (λ (z : Ends). EndsHeld b (l .i + 1) z (c .taken .result) (getD (a .values .now) (l .i + 1 - 1) 0)) (sym (ends-more mode n b (a .values .now) (l .i) (omega arith)))
-          (subst (λ (j : ℕ). EndsHeld b (l .i + 1) (taken e v) (c .taken .result) (getD (a .values .now) j 0)) here
-          (subst (λ (s : Span). EndsHeld b (l .i + 1) (taken e v) s v) (sym (c .taken .ensures))
+          let e = gatherFrom gatherMinMax mode n b (take (l .i) (a .values .now)) in
+          subst (λ (z : MinMax). MinMaxHeld b (l .i + 1) z (c .joined .result) (getD (a .values .now) (l .i + 1 - 1) 0)) (sym (ends-more mode n b (a .values .now) (l .i) (omega arith)))
+          (subst (λ (j : ℕ). MinMaxHeld b (l .i + 1) (minMaxWith e v) (c .joined .result) (getD (a .values .now) j 0)) here
+          (subst (λ (s : Span). MinMaxHeld b (l .i + 1) (minMaxWith e v) s v) (sym (c .joined .ensures))
           (span-more (l .inv .1 mode n) v (c .before .before .before .before .before .before .shared-slice-known .given (l .i) .fits)))),
     )
-
-sub-last : tie.Need-sub-last Inv-loop μ-loop
-sub-last c = omega arith
-
-mul-last : tie.Need-mul-last Inv-loop μ-loop
-mul-last c = search needs
-
-shared-slice-read-last : tie.Need-shared-slice-read-last Inv-loop μ-loop
-shared-slice-read-last c = omega arith
-
-least-requires : tie.Need-least-requires Inv-loop μ-loop
-least-requires c κs = search needs
-
-greatest-requires : tie.Need-greatest-requires Inv-loop μ-loop
-greatest-requires c κs = search needs
 
 returns-2 : tie.Need-returns-2 Inv-loop μ-loop
 returns-2 c =
@@ -94,10 +62,10 @@ returns-2 c =
     let l = c .before .before .before .before .loop in
     let all : l .i ≡ a .k = omega arith in
     let some : 0 < a .k = omega arith in
-    let held : EndsHeld (endsIn (a .tally)) (a .k) (gatherFrom gatherEnds mode n (endsIn (a .tally)) (take (a .k) (a .values .now))) (l .ends) (getD (a .values .now) (a .k - 1) 0) =
-    subst (λ (j : ℕ). EndsHeld (endsIn (a .tally)) j (gatherFrom gatherEnds mode n (endsIn (a .tally)) (take j (a .values .now))) (l .ends) (getD (a .values .now) (j - 1) 0)) all (l .inv .1 mode n) in
-    ap₂ (λ (x y : ℕ). withEnds (a .tally) (record { min = x; max = y })) (c .before .least .ensures) (c .greatest .ensures)
-    ∙ ap (withEnds (a .tally)) (span-bits held some)
+    let held : MinMaxHeld (minMaxIn (a .tally)) (a .k) (gatherFrom gatherMinMax mode n (minMaxIn (a .tally)) (take (a .k) (a .values .now))) (l .ends) (getD (a .values .now) (a .k - 1) 0) =
+    subst (λ (j : ℕ). MinMaxHeld (minMaxIn (a .tally)) j (gatherFrom gatherMinMax mode n (minMaxIn (a .tally)) (take j (a .values .now))) (l .ends) (getD (a .values .now) (j - 1) 0)) all (l .inv .1 mode n) in
+    ap₂ (λ (x y : ℕ). withMinMax (a .tally) (record { min = x; max = y })) (c .before .least .ensures) (c .greatest .ensures)
+    ∙ ap (withMinMax (a .tally)) (span-bits held some)
 
 pub stretched-spec : {M : Type 1} → statement M
 stretched-spec =
@@ -106,17 +74,17 @@ stretched-spec =
     Inv-loop
     μ-loop
     returns
-    begun-requires
+    (λ c κs. search needs)
     loop-holds
-    mul-taken
-    shared-slice-read-taken
-    taken-requires
-    add-i
-    loop-less
+    (λ c. search needs)
+    (λ c. search needs)
+    (λ c κs. search needs)
+    (λ c. search needs)
+    (λ c. search needs)
     loop-again
-    sub-last
-    mul-last
-    shared-slice-read-last
-    least-requires
-    greatest-requires
+    (λ c. omega arith)
+    (λ c. search needs)
+    (λ c. omega arith)
+    (λ c κs. search needs)
+    (λ c κs. search needs)
     returns-2)

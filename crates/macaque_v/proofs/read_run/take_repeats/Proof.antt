@@ -2,7 +2,7 @@
 use borrow.Author.Needs.{needs}
 use mathlib.Core.Path.{sym, subst}
 use native.Mathlib.Omega.{arith}
-use Rattle.macaque_v.specs.ReadRun.{ReadsOn}
+use Rattle.macaque_v.specs.inner.ReadRun.{ReadsOn}
 use Rattle.macaque_v.proofs.Repeating.{reached-none, on-repeats}
 use Rattle.macaque_v.proofs.read_run.take_repeats.Statement.{statement}
 use Rattle.macaque_v.proofs.read_run.take_repeats.Tie as tie
@@ -15,18 +15,6 @@ returns c =
 
 spread-requires : tie.Need-spread-requires
 spread-requires c κs = omega (arith, c .before .before .before .before .pre .5 (omega arith))
-
-mul-further : tie.Need-mul-further
-mul-further c = search needs
-
-add-further : tie.Need-add-further
-add-further c = search needs
-
-further-requires : tie.Need-further-requires
-further-requires c κs = search needs
-
-same-length : tie.Need-same-length
-same-length c = search needs
 
 returns-2 : tie.Need-returns-2
 returns-2 c =
@@ -43,8 +31,8 @@ take-repeats-spec =
     (tie.spec
     returns
     spread-requires
-    mul-further
-    add-further
-    further-requires
-    same-length
+    (λ c. search needs)
+    (λ c. search needs)
+    (λ c κs. search needs)
+    (λ c. search needs)
     returns-2)

@@ -3,28 +3,10 @@ use borrow.Author.Needs.{needs}
 use mathlib.Core.Path.{sym, ap, _∙_}
 use lib.ListN.{take}
 use Rattle.macaque_v.specs.State.{modeOf}
-use Rattle.macaque_v.specs.ReadRun.{withSum, tallied}
+use Rattle.macaque_v.specs.inner.ReadRun.{withSum, tallied}
 use Rattle.macaque_v.specs.declared.read_run.Aim.{Aim}
 use Rattle.macaque_v.proofs.read_run.taken_in.Statement.{statement}
 use Rattle.macaque_v.proofs.read_run.taken_in.Tie as tie
-
-enum-told : tie.Need-enum-told
-enum-told c = search needs
-
-enum-told-2 : tie.Need-enum-told-2
-enum-told-2 c = search needs
-
-added-requires : tie.Need-added-requires
-added-requires c κs = search needs
-
-enum-told-3 : tie.Need-enum-told-3
-enum-told-3 c = search needs
-
-stretched-requires : tie.Need-stretched-requires
-stretched-requires c κs = search needs
-
-returns : tie.Need-returns
-returns c = search needs
 
 returns-2 : tie.Need-returns-2
 returns-2 c =
@@ -40,11 +22,11 @@ pub taken-in-spec : {M : Type 1} → statement M
 taken-in-spec =
     tie.close
     (tie.spec
-    enum-told
-    enum-told-2
-    added-requires
-    enum-told-3
-    stretched-requires
-    returns
+    (λ c. search needs)
+    (λ c. search needs)
+    (λ c κs. search needs)
+    (λ c. search needs)
+    (λ c κs. search needs)
+    (λ c. search needs)
     returns-2
     returns-3)

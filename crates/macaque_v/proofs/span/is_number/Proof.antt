@@ -7,7 +7,7 @@ use lib.Bits.{bitAnd, and-mask}
 use lib.Ieee.{binary32}
 use lib.Ieee.Bits.{nanBits-is, nanBits-above}
 use borrow.Author.Tests.{ltb-true, ltb-false, le-leb, lt-leb}
-use Rattle.macaque_v.specs.Span.{isNumber}
+use Rattle.macaque_v.specs.inner.Span.{isNumber}
 use Rattle.macaque_v.proofs.span.is_number.Statement.{statement}
 use Rattle.macaque_v.proofs.span.is_number.Tie as tie
 

@@ -3,7 +3,7 @@ use mathlib.Core.Path.{_≡_, sym, ap}
 use mathlib.Core.Bool.{Bool, cond}
 use lib.Ieee as Ieee
 use lib.Ieee.{Float}
-use Rattle.macaque_v.specs.Span.{lesserOf}
+use Rattle.macaque_v.specs.inner.Span.{lesserOf}
 use Rattle.macaque_v.proofs.span.lesser.Statement.{statement}
 use Rattle.macaque_v.proofs.span.lesser.Tie as tie
 

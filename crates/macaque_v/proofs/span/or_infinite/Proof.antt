@@ -4,7 +4,7 @@ use mathlib.Core.Bool.{Bool, false, cond}
 use lib.Ieee as Ieee
 use lib.Ieee.{Float, inf, binary32, ofBits, div}
 use Rattle.models.proofs.Laws.{ne-self}
-use Rattle.macaque_v.specs.Span.{orInfinite}
+use Rattle.macaque_v.specs.inner.Span.{orInfinite}
 use Rattle.macaque_v.proofs.span.or_infinite.Statement.{statement}
 use Rattle.macaque_v.proofs.span.or_infinite.Tie as tie
 

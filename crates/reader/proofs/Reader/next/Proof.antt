@@ -34,16 +34,16 @@ use denote.Triple.Table.{entered, cited}
 use denote.Triple.Walked.{says, Stays, stay-none, walkOf, goes-none, Walks, ends-at, walked, walk-meets}
 use denote.Exit.{yes}
 use denote.Triple.Clauses.{ensured, lasts}
-use Rattle.reader.specs.Calls.{saysStep, nextAnswer}
+use Rattle.reader.specs.Calls.{saysMoved, nextAnswer}
 use Rattle.reader.specs.declared.Next.{Next}
 use Rattle.reader.specs.declared.Reader.{Reader}
-use Rattle.reader.specs.declared.position.Step.{Step}
+use Rattle.reader.specs.declared.position.Moved.{Moved}
 use Rattle.reader.proofs.Held.{B, D, L, Own, OwnFields, passed, twice, fields, apart}
 use Rattle.reader.proofs.Next as N
 use Rattle.reader.proofs.Next.Laws as N′
 use Rattle.reader.proofs.Reader.Laws as T′
-use Rattle.reader.proofs.position.Step as S
-use Rattle.reader.proofs.position.Step.Laws as S′
+use Rattle.reader.proofs.position.Moved as S
+use Rattle.reader.proofs.position.Moved.Laws as S′
 use Rattle.reader.proofs.position.step_from as step
 use Rattle.reader.proofs.position.step_from.Symbol as step-def
 use Rattle.reader.proofs.position.step_from.Symbol.{name as #step}
@@ -57,7 +57,7 @@ abbrev stayed : Stays (next.ended .signature .params) (next.ended .kept)
 stayed = (stay-none B yes, tt)
 
 -- the machine value of what the callee returns, and that of its answer
-abbrev stepVal : Step → Val
+abbrev stepVal : Moved → Val
 stepVal r = LL.val S.the-type S′.the-laws r
 
 module _ {M : Type 1} (𝓤 : URA M) (H : Heap 𝓤) (A : Atoms 𝓤) (mem : Memory → SProp 𝓤) (run : Routine → Fun 𝓤) where
@@ -70,14 +70,14 @@ module _ {M : Type 1} (𝓤 : URA M) (H : Heap 𝓤) (A : Atoms 𝓤) (W : Given
   mach = T′.lowered d
 
   -- what the callee says of its answer
-  abbrev Says : Step → Type 0
-  Says r = saysStep r ≡ nextAnswer (now (d .stream)) (d .position)
+  abbrev Says : Moved → Type 0
+  Says r = saysMoved r ≡ nextAnswer (now (d .stream)) (d .position)
 
   -- the result that is made of it
-  abbrev made : Step → Next
+  abbrev made : Moved → Next
   made r = record { answer = r .answer; reader = record { stream = d .stream; position = r .after } }
 
-  abbrev madeVal : Step → Val
+  abbrev madeVal : Moved → Val
   madeVal r = LL.val (N.the-type (namedLft 1 0 tt (κ, tt))) (N′.the-laws (namedLft 1 0 tt (κ, tt))) (made r)
 
   abbrev Post : Val → SProp 𝓤
@@ -91,10 +91,10 @@ module _ {M : Type 1} (𝓤 : URA M) (H : Heap 𝓤) (A : Atoms 𝓤) (W : Given
   asked = qed W (((‵ (flft κ q) ⊛ ‵ ftrue) ⊛ ‵ (OwnFields κ d)) ∷ []) ∵ frame ! $ done !
 
   -- of the callee's `ensured`, the clause alone: it has no `&mut`, so what is said of last values is dropped
-  said : (r : Step) → ent 𝓤 (ensured 𝓤 H A step.ended (step.clauses 𝓤 H A mem run) (κ, tt) (d .stream, (d .position, tt)) tt r) (fact 𝓤 (Says r))
+  said : (r : Moved) → ent 𝓤 (ensured 𝓤 H A step.ended (step.clauses 𝓤 H A mem run) (κ, tt) (d .stream, (d .position, tt)) tt r) (fact 𝓤 (Says r))
   said r = exE 𝓤 _ (λ ws. snd∗ 𝓤 (sem 𝓤 H A (lasts step.ended (κ, tt) (d .stream, (d .position, tt)) ws)) (fact 𝓤 (Says r)))
 
-  exits : (r : Step) → Says r → ent 𝓤 (⋆ 𝓤 H A (‵ (S.the-row .own r (stepVal r ∷ [])) ∷ (‵ (flft κ q) ⊛ ‵ ftrue) ∷ ‵ (Own κ d) ∷ [])) (Post (madeVal r))
+  exits : (r : Moved) → Says r → ent 𝓤 (⋆ 𝓤 H A (‵ (S.the-row .own r (stepVal r ∷ [])) ∷ (‵ (flft κ q) ⊛ ‵ ftrue) ∷ ‵ (Own κ d) ∷ [])) (Post (madeVal r))
   exits r e =
       qed W (‵ (S.the-row .own r (stepVal r ∷ [])) ∷ (‵ (flft κ q) ⊛ ‵ ftrue) ∷ ‵ (Own κ d) ∷ []) ∵
       suffices ! _ (ends-at 𝓤 H A next.ended stayed (next.clauses 𝓤 H A mem run) W (((κ, tt), (q, tt), tt, (d, tt), (mach ∷ [], tt)), tt) (madeVal r) (made r) (tt, tt) (tt, tt)) $ says ! (refl, e) $
@@ -105,7 +105,7 @@ module _ {M : Type 1} (𝓤 : URA M) (H : Heap 𝓤) (A : Atoms 𝓤) (W : Given
       move ! (2 ∷ 1 ∷ []) $ fjoin ! $ use1 W (‵ (Own κ (made r .reader))) (own-shut 𝓤 H A W (D (κ, tt)) (L (κ, tt)) (d .stream, (r .after, tt))) $
       nothing ! $ move ! (1 ∷ 0 ∷ []) $ fjoin ! $ move ! (1 ∷ 0 ∷ []) $ fjoin ! $ by ! (own-shut 𝓤 H A W (N.the-type (namedLft 1 0 tt (κ, tt))) (N′.the-laws (namedLft 1 0 tt (κ, tt))) (r .answer, (made r .reader, tt)))))
 
-  typed : (r : Step) (u : Val) → Is S.the-row r (u ∷ []) → Holds (hasTy S′.mir (stepVal r)) × WT (stepVal r)
+  typed : (r : Moved) (u : Val) → Is S.the-row r (u ∷ []) → Holds (hasTy S′.mir (stepVal r)) × WT (stepVal r)
   typed r u is = LL.lawful S.the-type S′.the-laws 𝓤 H A W .typed r (stepVal r ∷ []) (subst (Is S.the-row r) (LL.tells S.the-type S′.the-laws r (u ∷ []) is) is) .0
 
   module _ (C : Calls 𝓤 H) (Λ : Loops 𝓤 H) (fm : FmC 𝓤 H (W .laws) C) (known : Triple 𝓤 (C #step) (StepFrom 𝓤 H A mem run)) where
@@ -118,7 +118,7 @@ module _ {M : Type 1} (𝓤 : URA M) (H : Heap 𝓤) (A : Atoms 𝓤) (W : Given
         move ! (14 ∷ []) $ use1 W (((‵ (flft κ q) ⊛ ‵ ftrue) ⊛ ‵ (OwnFields κ d)) ⊛ ‵ (Own κ d)) (apart 𝓤 H A W κ d q) $ split ! $ use1 W (raw (StepFrom 𝓤 H A mem run .pre to)) asked $
         -- [what `step_from` asks; what the struct owns; room for _6; …; _5; …; _4; …; _3; …; _2; …; _1; …; room for _0; …]
         calls-at ! fm (StepFrom 𝓤 H A mem run) known to (and-then ! (load ! (from ! (stop !)) (look ! 8 refl)) (and-then ! (load ! (from ! (stop !)) (look ! 6 refl)) (no-more !))) (λ u.
-        use1 W (later (some (λ (r : Step). ((‵ (flft κ q) ⊛ ‵ ftrue) ⊛ ‵ (S.the-row .own r (u ∷ []))) ⊛ raw (ensured 𝓤 H A step.ended (step.clauses 𝓤 H A mem run) (κ, tt) (d .stream, (d .position, tt)) tt r)))) (id⊢ 𝓤 _) $ await ! tt $ pick ! (λ r.
+        use1 W (later (some (λ (r : Moved). ((‵ (flft κ q) ⊛ ‵ ftrue) ⊛ ‵ (S.the-row .own r (u ∷ []))) ⊛ raw (ensured 𝓤 H A step.ended (step.clauses 𝓤 H A mem run) (κ, tt) (d .stream, (d .position, tt)) tt r)))) (id⊢ 𝓤 _) $ await ! tt $ pick ! (λ r.
         split ! $ move ! (1 ∷ []) $ use1 W (raw (fact 𝓤 (Says r))) (said r) $ heard ! (Says r) (λ e. split ! $ move ! (1 ∷ []) $
         -- [what the step owns; the token; what the struct owns; room for _6; …; _5; …; _4; …; _3; …; _2; …; _1; …; room for _0; …]
         peeks ! S.the-row (Is S.the-row) (shows 𝓤 H A S.the-row) r (u ∷ []) (λ is.

@@ -4,18 +4,9 @@ use Rattle.models.specs.Answers.{judge}
 use Rattle.reader.proofs.position.judge_next.Statement.{statement}
 use Rattle.reader.proofs.position.judge_next.Tie as tie
 
-when-requires : tie.Need-when-requires
-when-requires c κs = search needs
-
-may-use-requires : tie.Need-may-use-requires
-may-use-requires c κs = search needs
-
-when-requires-2 : tie.Need-when-requires-2
-when-requires-2 c κs = search needs
-
 returns : tie.Need-returns
 unfolding judge
 returns c = rw (c .when2 .ensures, c .before .may-use .ensures, c .before .before .when .ensures)
 
 pub judge-next-spec : {M : Type 1} → statement M
-judge-next-spec = tie.close (tie.spec when-requires may-use-requires when-requires-2 returns)
+judge-next-spec = tie.close (tie.spec (λ c κs. search needs) (λ c κs. search needs) (λ c κs. search needs) returns)

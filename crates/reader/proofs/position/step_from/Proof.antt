@@ -3,13 +3,15 @@ use borrow.Author.Needs.{needs}
 use mathlib.Core.Path.{_∙_}
 use mathlib.Core.List.{List}
 use Prim.Native.Nat.{ℕ}
+use native.Mathlib.Omega.{arith}
 use borrow.Author.Tests.{eqb-false, not-false}
 use lib.ListN.{length}
-use Rattle.models.specs.Answers.{refusedOn}
+use Rattle.models.specs.Answers.{refusing}
+use Rattle.models.specs.Limits.{mostValues}
 use Rattle.models.proofs.Judged.{none-holds, when-passed, when-refused}
 use Rattle.reader.specs.Calls.{mayUse, nextCauses, nextRead, nextAnswer}
 use Rattle.reader.specs.declared.position.Position.{Position}
-use Rattle.reader.proofs.Standing.{ready}
+use Rattle.reader.proofs.Allowed.{readable}
 use Rattle.reader.proofs.position.step_from.Statement.{statement}
 use Rattle.reader.proofs.position.step_from.Tie as tie
 
@@ -20,35 +22,28 @@ module _ (c : tie.After-judge-next) where
   abbrev from : Position
   from = c .before .before .args .from
 
-judge-next-requires : tie.Need-judge-next-requires
-judge-next-requires c κs = search needs
-
-enum-known-r : tie.Need-enum-known-r
-enum-known-r c = search needs
-
-enum-told : tie.Need-enum-told
-enum-told c = search needs
-
 take-one-requires : tie.Need-take-one-requires
 take-one-requires c κs =
     let j = c .before .before in
     let none = none-holds (nextCauses (length (bytes j)) (from j .at)) (j .judge-next .result) (j .judge-next .ensures) (c .enum-told .given .1) in
-    ready (bytes j) (from j .at) (not-false (mayUse (length (bytes j)) (from j .at)) (none .0)) (eqb-false (from j .at .count) 65536 (none .1 .0))
+    let more = eqb-false (from j .at .count) mostValues (none .1 .0) in
+    let r = readable (bytes j) (from j .at) (not-false (mayUse (length (bytes j)) (from j .at)) (none .0)) (omega arith) in
+    (r .0, omega (arith, r .1))
 
 returns : tie.Need-returns
 unfolding nextAnswer
 returns c =
     let j = c .before .before .before in
-    when-refused (nextCauses (length (bytes j)) (from j .at)) (j .judge-next .result) (j .judge-next .ensures) (λ (n : ℕ). refusedOn n (from j)) (nextRead (bytes j) (from j)) (c .before .r .given .0 .0) (c .before .r .given .1)
+    when-refused (nextCauses (length (bytes j)) (from j .at)) (j .judge-next .result) (j .judge-next .ensures) (refusing (from j)) (nextRead (bytes j) (from j)) (c .before .r .given .0 .0) (c .before .r .given .1)
 
 returns-2 : tie.Need-returns-2
 unfolding nextAnswer
 returns-2 c =
     let j = c .before .before .before in
     c .take-one .ensures
-    ∙ when-passed (nextCauses (length (bytes j)) (from j .at)) (j .judge-next .result) (j .judge-next .ensures) (λ (n : ℕ). refusedOn n (from j)) (nextRead (bytes j) (from j)) (c .before .enum-told .given .1)
+    ∙ when-passed (nextCauses (length (bytes j)) (from j .at)) (j .judge-next .result) (j .judge-next .ensures) (refusing (from j)) (nextRead (bytes j) (from j)) (c .before .enum-told .given .1)
 
 pub step-from-spec : {M : Type 1} → statement M
 step-from-spec =
     tie.close
-    (tie.spec judge-next-requires enum-known-r enum-told take-one-requires returns returns-2)
+    (tie.spec (λ c κs. search needs) (λ c. search needs) (λ c. search needs) take-one-requires returns returns-2)

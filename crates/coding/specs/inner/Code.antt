@@ -4,11 +4,8 @@ use mathlib.Core.Bool.{Bool}
 use mathlib.Core.List.{List}
 use Prim.Native.Nat.{ℕ, _^_, _≤_, _<_}
 use Rattle.bits.specs.Bits.{field}
-use Rattle.stream.specs.Format.{macaque, Window, kindOf, codeOf, windowBy, bitsFor, windowFor}
+use Rattle.stream.specs.Format.{macaque, Window, windowIn, kindOf, codeOf, windowBy, bitsFor, windowFor}
 use Rattle.coding.specs.declared.code.Code.{Code}
-
-abbrev pub windowIn : ℕ → ℕ → Window
-windowIn lead trail = record { lead = lead; trail = trail }
 
 -- r says these bits, and leaves this window
 pub record Says (bits : List Bool) (win : Window) (r : Code) : Type 0 where

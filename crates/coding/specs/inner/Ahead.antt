@@ -5,16 +5,17 @@ use mathlib.Core.List.{List, [], _∷_}
 use Prim.Native.Nat.{ℕ, zero, suc, _+_, _*_, _^_, _≤_, _<_}
 use lib.ListN.{length, take, drop}
 use Rattle.bits.specs.Bits.{field, fieldAt, bitsOf}
-use Rattle.models.specs.Refusals.{number}
-use Rattle.stream.specs.Read.{Step, got, refused}
-use Rattle.coding.specs.Code.{windowIn}
+use Rattle.stream.specs.Read.{Step, got, halt}
+use Rattle.stream.specs.Format.{unset, windowIn}
 use Rattle.coding.specs.declared.decode.Ahead.{Ahead}
 use Rattle.coding.specs.declared.decode.Decoded.{Decoded}
-use Rattle.coding.specs.declared.decode.Decoded.the-variants.{Got, Refused}
+use Rattle.coding.specs.declared.decode.Decoded.the-variants.{Got, Stopped}
+use Rattle.coding.specs.declared.decode.Stop.{Stop}
+use Rattle.coding.specs.declared.decode.Stop.the-variants.{EndsEarly, NoWindow, WindowNotAllowed}
 
 -- a window that is set leaves a bit
-abbrev pub Held : ℕ → ℕ → Type 0
-Held lead trail = ¬ (lead ≡ 255) → lead + trail < 32
+abbrev pub WindowSound : ℕ → ℕ → Type 0
+WindowSound lead trail = unset (windowIn lead trail) ≡ false → lead + trail < 32
 
 -- the first `left` bits of a word
 abbrev pub bitsIn : ℕ → ℕ → List Bool
@@ -54,6 +55,12 @@ pub record IsWord (bytes : List ℕ) (place word : ℕ) : Type 0 where
 
 -- ---- one value
 
-abbrev pub saysStep : Decoded → Step
-saysStep (Got value lead trail used) = got value (windowIn lead trail) used
-saysStep (Refused r) = refused (number r)
+-- the number of the refusal that stops a value's reading
+abbrev pub stopNumber : Stop → ℕ
+stopNumber EndsEarly = 5
+stopNumber NoWindow = 6
+stopNumber WindowNotAllowed = 7
+
+abbrev pub saysDecoded : Decoded → Step
+saysDecoded (Got value lead trail used) = got value (windowIn lead trail) used
+saysDecoded (Stopped s) = halt (stopNumber s)

@@ -1,0 +1,6 @@
+-- What only proofs and inner functions cite: a reader who believes the contracts and promises needs none of it.
+pub mod Span
+pub mod Write
+pub mod ReadRun
+pub mod Read
+pub mod Calls

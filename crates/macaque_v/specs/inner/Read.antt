@@ -1,0 +1,68 @@
+-- Words of inner contracts and of proofs, beside specs/Read. Assumes nothing.
+use mathlib.Core.Path.{_≡_}
+use mathlib.Core.Bool.{Bool}
+use mathlib.Core.List.{List, _++_}
+use Prim.Native.Nat.{ℕ, _+_, _*_, _≤_}
+use lib.ListN.{length, take, drop}
+use Rattle.models.specs.Answers.{Said, answered, refused}
+use Rattle.models.specs.Refusals.{faultOf, numbered}
+use Rattle.models.specs.declared.ErrorBound.{ErrorBound}
+use Rattle.models.specs.declared.Refusal.{Refusal}
+use Rattle.stream.specs.Format.{State, windowIn}
+use Rattle.stream.specs.Read as stream
+use Rattle.stream.specs.Read.{ended, Reopened, reopened, unopened}
+use Rattle.stream.specs.Calls as theory
+use Rattle.stream.specs.Calls.{valuesRead}
+use Rattle.macaque_v.specs.State.{Known, streamIn, isFirst, openingValue}
+use Rattle.macaque_v.specs.Write.{coderOf}
+use Rattle.macaque_v.specs.inner.ReadRun.{readFrom, minMaxIn}
+use Rattle.macaque_v.specs.declared.MacaqueV.{MacaqueV}
+use Rattle.macaque_v.specs.declared.Opening.{Opening}
+use Rattle.macaque_v.specs.declared.read_run.Cursor.{Cursor}
+use Rattle.macaque_v.specs.declared.read_run.Walk.{Walk}
+use Rattle.macaque_v.specs.declared.read_run.Walk.the-variants as OfWalk
+
+-- the n values from where reading stands, at the end of a stream
+abbrev pub valuesFrom : Bool → List ℕ → Cursor → ℕ → Said (List ℕ)
+valuesFrom first bytes at n = valuesRead (ended (readFrom first bytes at n))
+
+-- ---- grid
+
+-- the values from place i on, and the others keep what they held
+abbrev pub drawnAt : ℕ → List ℕ → Said (List ℕ) → List ℕ
+drawnAt i out (answered vs) = take i out ++ (vs ++ drop (i + length vs) out)
+drawnAt i out (refused n) = out
+
+-- the values us, and those that follow
+abbrev pub afterBlock : List ℕ → Said (List ℕ) → Said (List ℕ)
+afterBlock us (answered vs) = answered (us ++ vs)
+afterBlock us (refused n) = refused n
+
+-- what stands behind the block us is right, and drawn from place j on
+pub record Right (us : List ℕ) (all : Said (List ℕ)) (j : ℕ) (old new : List ℕ) : Type 0 where
+  pub rest : List ℕ
+  pub are : all ≡ answered (us ++ rest)
+  pub drawn-there : new ≡ drawnAt j old (answered rest)
+  pub long : length new ≡ length old
+
+-- ---- reopening
+
+abbrev pub reopening : List ℕ → ℕ → ℕ → Opening → Reopened Known
+reopening bytes count k o = theory.reopening (streamIn (isFirst o)) (openingValue o) bytes count k
+
+abbrev pub resumed : ErrorBound → Bool → Reopened Known → Said MacaqueV
+resumed b first = theory.resumed (coderOf b first)
+
+-- where reading stands, with the least and the greatest value, as a state of the theory
+abbrev pub stateWith : Cursor → Known → State Known
+stateWith at e = record { last = at .last; win = windowIn (at .lead) (at .trail); place = at .place; count = at .count; seen = e }
+
+-- no state is reopened, for this cause
+pub record Unopened (q : Reopened Known) (cause : Refusal) : Type 0 where
+  pub fault : stream.StreamRefusal
+  pub opens : q ≡ unopened fault
+  pub numbered : theory.faultAt fault ≡ faultOf cause
+
+abbrev pub StateSays : List ℕ → ℕ → ℕ → Opening → Walk → Type 0
+StateSays bytes count k o (OfWalk.To at t) = (reopening bytes count k o ≡ reopened (stateWith at (minMaxIn t))) × (at .place ≤ 8 * length bytes)
+StateSays bytes count k o (OfWalk.Refused r) = Unopened (reopening bytes count k o) r
