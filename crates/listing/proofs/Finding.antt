@@ -1,24 +1,28 @@
--- The kind of a value by the bits ahead, and where reading may stand. Assumes nothing.
+-- The kind of a value by the bits ahead, a row by the reading step, and where reading may stand. Assumes nothing.
 use mathlib.Core.Path.{_≡_, refl, sym, ap, _∙_}
-use mathlib.Core.Logic.{_⊎_, inl, inr}
-use mathlib.Core.Bool.{Bool, true, false, _&&_, _||_, false≢true}
+use mathlib.Core.Bool.{Bool, true, false, _||_}
 use mathlib.Core.List.{List, [], _∷_}
 use Prim.Native.Nat.{ℕ, zero, suc, _+_, _-_, _*_, _/_, _%_, _^_, _≤_, _<_}
 use native.Mathlib.Omega.{arith}
-use borrow.Author.Tests.{ltb-true, ltb-false, leb-true, eqb-true, eqb-false, lt-ltb, le-ltb, le-leb, lt-leb}
-use lib.Dec.{eqb, leb, ltb}
+use borrow.Author.Tests.{ltb-true, leb-true, lt-ltb, le-leb}
+use lib.Dec.{leb, ltb}
 use lib.ListN.{length, take}
 use lib.Pow.{shr-shr, shr-lt}
 use Rattle.bits.specs.Bits.{bit, field, starts}
-use Rattle.stream.specs.Format.{macaque, Window}
-use Rattle.stream.specs.Read.{Step, readWord, readOne, stepAt}
-use Rattle.coding.specs.Code.{windowIn}
-use Rattle.coding.proofs.Words.{read-of-45}
-use Rattle.macaque_v.specs.ReadRun.{stateAt, Stands}
+use Rattle.models.specs.Answers.{answered, refused}
+use Rattle.models.specs.Limits.{mostValues}
+use Rattle.models.specs.Refusals.{faultOf}
+use Rattle.models.specs.declared.Refusal.{Refusal}
+use Rattle.models.proofs.Judged.{not-answered, not-refused, same-answer, same-fault}
+use Rattle.models.proofs.Tests.{and-parts, and-both, or-one}
+use Rattle.stream.specs.Format.{windowIn, unset, isRaw}
+use Rattle.stream.specs.Read.{Step, got, halt, readWord, stepAt}
+use Rattle.macaque_v.specs.ReadRun.{stateAt, ahead, movedBy, nextFrom}
+use Rattle.macaque_v.specs.inner.ReadRun.{ReadableAt}
 use Rattle.macaque_v.specs.declared.read_run.Cursor.{Cursor}
-use Rattle.macaque_v.proofs.Stepping.{raw-is}
-use Rattle.listing.specs.Rows.{listed, kindRead}
-use Rattle.listing.specs.Calls.{mayStand, ahead}
+use Rattle.listing.specs.Rows.{listed, kindRead, rowOf}
+use Rattle.listing.specs.Calls.{mayStand, foundBy, rowFound}
+use Rattle.listing.specs.inner.Lines.{rowBetween}
 use Rattle.listing.specs.declared.Kind.the-variants.{Raw, Same, New, Keep}
 
 -- ---- the kind, by the first two bits of a word
@@ -77,73 +81,59 @@ kind-of-45 false [] = refl
 kind-of-45 false (a ∷ []) = refl
 kind-of-45 false (a ∷ b ∷ bs) = refl
 
--- ---- one value
+-- ---- one value, by the reading step
 
-pub step-at : (bytes : List ℕ) (at : Cursor) (q : Step)
-    → readOne macaque (eqb (at .count) 0) (windowIn (at .lead) (at .trail)) (at .last) (take 45 (ahead bytes at)) ≡ q → stepAt listed (stateAt at) (ahead bytes at) ≡ q
-step-at bytes at q e =
-    let win : Window = windowIn (at .lead) (at .trail) in
-    ap (λ (r : Bool). readOne macaque r win (at .last) (ahead bytes at)) (sym (raw-is true (at .count)))
-    ∙ sym (read-of-45 (eqb (at .count) 0) win (at .last) (ahead bytes at))
-    ∙ e
+module _ (bytes : List ℕ) (at : Cursor) where
+  abbrev step : Step
+  step = stepAt listed (stateAt at) (ahead bytes at)
+
+  pub found : (to : Cursor) → answered to ≡ nextFrom true bytes at
+      → (at .place ≤ to .place) × (rowFound bytes at ≡ answered (record { row = rowBetween bytes at to; next = to }))
+  unfolding rowFound
+  found to h = go step refl
+    where
+      go : (q : Step) → step ≡ q → (at .place ≤ to .place) × (foundBy at (ahead bytes at) step ≡ answered (record { row = rowBetween bytes at to; next = to }))
+      go (halt n) e = absurd (not-refused (h ∙ ap (movedBy at) e))
+      go (got v win used) e =
+          let next : Cursor = record { last = v; lead = win .lead; trail = win .trail; place = at .place + used; count = at .count + 1 } in
+          let is : to ≡ next = same-answer (h ∙ ap (movedBy at) e) in
+          let bits : used ≡ at .place + used - at .place = omega arith in (
+            omega (arith, ap (λ (c : Cursor). c .place) is),
+            ap (foundBy at (ahead bytes at)) e
+                ∙ ap (λ (u : ℕ). answered (record { row = rowOf (isRaw listed (stateAt at)) (ahead bytes at) v win u; next = next })) bits
+                ∙ ap (λ (c : Cursor). answered (record { row = rowBetween bytes at c; next = c })) (sym is),
+          )
+
+  pub unfound : (r : Refusal) → refused (faultOf r) ≡ nextFrom true bytes at → rowFound bytes at ≡ refused (faultOf r)
+  unfolding rowFound
+  unfound r h = go step refl
+    where
+      go : (q : Step) → step ≡ q → foundBy at (ahead bytes at) step ≡ refused (faultOf r)
+      go (got v win used) e = absurd (not-answered (h ∙ ap (movedBy at) e))
+      go (halt n) e = ap (foundBy at (ahead bytes at)) e ∙ ap refused (sym (same-fault (h ∙ ap (movedBy at) e)))
 
 -- ---- where reading may stand
 
-both : (a b : Bool) → (a && b) ≡ true → (a ≡ true) × (b ≡ true)
-both true b e = (refl, e)
-both false b e = absurd (false≢true e)
-
-either : (a b : Bool) → (a || b) ≡ true → (a ≡ true) ⊎ (b ≡ true)
-either true b e = inl refl
-either false b e = inr e
-
-pub stands : (bytes : List ℕ) (at : Cursor) → mayStand (length bytes) at ≡ true → at .last < 2 ^ 32 → Stands bytes at
-unfolding mayStand
-stands bytes at e small =
-    let p = both (leb (at .count) 65536) _ e in
-    let q = both (leb (at .place) (45 * at .count)) _ (p .1) in
-    let r = both (leb (at .place) (8 * length bytes)) _ (q .1) in
-    record {
-      within = leb-true (at .place) (8 * length bytes) (r .0);
-      near = leb-true (at .place) (45 * at .count) (q .0);
-      small = small;
-      held = λ set. go set (either (eqb (at .lead) 255) (ltb (at .lead + at .trail) 32) (r .1));
-    }
-  where
-    go : ¬ (at .lead ≡ 255) → (eqb (at .lead) 255 ≡ true) ⊎ (ltb (at .lead + at .trail) 32 ≡ true) → at .lead + at .trail < 32
-    go set (inl f) = absurd (set (eqb-true (at .lead) 255 f))
-    go set (inr f) = ltb-true (at .lead + at .trail) 32 f
-
-pub stands-back : (bytes : List ℕ) (at : Cursor) → Stands bytes at → at .count ≤ 65536 → mayStand (length bytes) at ≡ true
-unfolding mayStand
-stands-back bytes at s h = rw (le-leb (at .count) 65536 h, le-leb (at .place) (45 * at .count) (s .near), le-leb (at .place) (8 * length bytes) (s .within)) (go (eqb (at .lead) 255) refl)
-  where
-    go : (t : Bool) → eqb (at .lead) 255 ≡ t → (t || ltb (at .lead + at .trail) 32) ≡ true
-    go true e = refl
-    go false e = lt-ltb (at .lead + at .trail) 32 (s .held (eqb-false (at .lead) 255 e))
-
--- the tests of the rule, one after the other
-module _ (room : ℕ) (at : Cursor) where
-  pub too-many : 65536 < at .count → false ≡ mayStand room at
+module _ (bytes : List ℕ) (at : Cursor) where
+  pub stands : mayStand (length bytes) at ≡ true → at .last < 2 ^ 32 → ReadableAt bytes at
   unfolding mayStand
-  too-many h = rw (lt-leb (at .count) 65536 h)
+  stands e small =
+      let p = and-parts (leb (at .count) mostValues) _ e .1 in
+      let q = and-parts (leb (at .place) (45 * at .count)) _ p in
+      let r = and-parts (leb (at .place) (8 * length bytes)) _ (q .1) in
+      record {
+        within = leb-true (at .place) (8 * length bytes) (r .0);
+        near = omega (arith, leb-true (at .place) (45 * at .count) (q .0));
+        small = small;
+        held = λ set. ltb-true (at .lead + at .trail) 32 (or-one _ _ set (r .1));
+      }
 
-  pub too-far : at .count ≤ 65536 → 45 * at .count < at .place → false ≡ mayStand room at
+  pub stands-back : ReadableAt bytes at → at .place ≤ 45 * at .count → at .count ≤ mostValues → mayStand (length bytes) at ≡ true
   unfolding mayStand
-  too-far h g = rw (le-leb (at .count) 65536 h, lt-leb (at .place) (45 * at .count) g)
-
-  module _ (few : at .count ≤ 65536) (near : at .place ≤ 45 * at .count) where
-    pub outside : 8 * room < at .place → false ≡ mayStand room at
-    unfolding mayStand
-    outside h = rw (le-leb (at .count) 65536 few, le-leb (at .place) (45 * at .count) near, lt-leb (at .place) (8 * room) h)
-
-    pub by-window : at .place ≤ 8 * room → (eqb (at .lead) 255 || ltb (at .lead + at .trail) 32) ≡ mayStand room at
-    unfolding mayStand
-    by-window h = rw (le-leb (at .count) 65536 few, le-leb (at .place) (45 * at .count) near, le-leb (at .place) (8 * room) h)
-
-pub window-fits : (a t : ℕ) → a < 32 → ltb t (32 - a) ≡ ltb (a + t) 32
-window-fits a t h = go (ltb (a + t) 32) refl
-  where
-    go : (b : Bool) → ltb (a + t) 32 ≡ b → ltb t (32 - a) ≡ b
-    go true e = lt-ltb t (32 - a) (omega (arith, ltb-true (a + t) 32 e))
-    go false e = le-ltb t (32 - a) (omega (arith, ltb-false (a + t) 32 e))
+  stands-back s near few =
+      and-both _ _ (le-leb (at .count) mostValues few)
+      (and-both _ _ (le-leb (at .place) (45 * at .count) near) (and-both _ _ (le-leb (at .place) (8 * length bytes) (s .within)) (go (unset (windowIn (at .lead) (at .trail))) refl)))
+    where
+      go : (t : Bool) → unset (windowIn (at .lead) (at .trail)) ≡ t → (t || ltb (at .lead + at .trail) 32) ≡ true
+      go true e = refl
+      go false e = lt-ltb (at .lead + at .trail) 32 (s .held e)

@@ -9,8 +9,10 @@ use borrow.Author.Tests.{lt-ltb, le-ltb}
 use lib.Dec.{ltb, lit≤}
 use lib.ListN.{length, take, drop, getD, set, length-append}
 use lib.Seq.{sets, sets-eq, set-comm, drop-cons, take-at}
+use Rattle.models.specs.Answers.{Fault}
 use Rattle.listing.specs.Text.{digitText, digitsOf, placesUpTo, places, decimal, hexadecimal, kindWord, leadText, totalWord, refusedWord}
-use Rattle.listing.specs.Text.{field, lastField, rowText, totalText, refusedText, laid, Put}
+use Rattle.listing.specs.Text.{field, lastField, rowText, totalText, refusedText, laid}
+use Rattle.listing.specs.inner.Lines.{Put}
 use Rattle.listing.specs.declared.Kind.{Kind}
 use Rattle.listing.specs.declared.Kind.the-variants.{Raw, Same, New, Keep}
 use Rattle.listing.specs.declared.Fields.{Fields}
@@ -143,12 +145,12 @@ pub total-most : (n : ℕ) → length (totalText n) ≤ 80
 unfolding totalText
 total-most n = last-most (field totalWord) n (lit≤ tt)
 
-pub refused-most : (n : ℕ) → length (refusedText n) ≤ 80
+pub refused-most : (f : Fault) → length (refusedText f) ≤ 80
 unfolding refusedText
-refused-most n = last-most (field refusedWord) n (lit≤ tt)
+refused-most f = last-most (field refusedWord) (f .number) (lit≤ tt)
 
 -- what is printed of a line is the text that was put into it
-pub text-stands : (text line : List ℕ) → length line ≡ 80 → length text ≤ 80 → take (length text) (laid text line) ≡ text
-text-stands text line e h =
+pub text-laid : (text line : List ℕ) → length line ≡ 80 → length text ≤ 80 → take (length text) (laid text line) ≡ text
+text-laid text line e h =
     let room : 0 + length text ≤ length line = omega arith in
     ap (take (length text)) (sets-eq text line 0 room) ∙ take-at text (drop (0 + length text) line) (length text) refl

@@ -3,16 +3,16 @@ use mathlib.Core.Path.{_≡_, refl, ap}
 use mathlib.Core.Bool.{Bool, not, _&&_, _||_}
 use mathlib.Core.List.{List, [], _∷_}
 use Prim.Native.Nat.{ℕ, _+_, _*_}
-use lib.Dec.{eqb, leb, ltb}
-use lib.ListN.{length, drop}
-use Rattle.bits.specs.Bits.{bitsOf}
-use Rattle.models.specs.Answers.{Said, answered, refused, Cause, _when_, judge, Injective, told-apart}
+use lib.Dec.{leb, ltb}
+use lib.ListN.{length}
+use Rattle.models.specs.Answers.{Said, answered, refused, Cause, _when_, judge, Injective, told-apart, keeping}
 use Rattle.models.specs.Limits.{mostValues}
-use Rattle.models.specs.Refusals.{number, numbered-number, unsaid}
-use Rattle.stream.specs.Format.{isRaw}
+use Rattle.models.specs.Refusals.{numbered-number, unsaid, faultOf}
+use Rattle.stream.specs.Format.{macaque, windowIn, unset, isRaw}
+use Rattle.stream.specs.Calls.{faultAt}
 use Rattle.stream.specs.Read as stream
 use Rattle.stream.specs.Read.{Reading, done, stopped, Step, stepAt}
-use Rattle.macaque_v.specs.ReadRun.{stateAt}
+use Rattle.macaque_v.specs.ReadRun.{stateAt, ahead}
 use Rattle.macaque_v.specs.declared.read_run.Cursor.{Cursor}
 use Rattle.listing.specs.Text.{rowText, laid}
 use Rattle.listing.specs.Rows.{listed, rowOf}
@@ -20,8 +20,6 @@ use Rattle.listing.specs.Listing.{countIn, streamIn, inputCauses, readWh
 use Rattle.listing.specs.declared.Fields.{Fields}
 use Rattle.listing.specs.declared.Judged.{Judged}
 use Rattle.listing.specs.declared.Judged.the-variants as OfJudged
-use Rattle.listing.specs.declared.Found.{Found}
-use Rattle.listing.specs.declared.Found.the-variants as OfFound
 use Rattle.listing.specs.declared.RowAnswer.{RowAnswer}
 use Rattle.listing.specs.declared.RowAnswer.the-variants as OfRow
 
@@ -29,14 +27,14 @@ use Rattle.listing.specs.declared.RowAnswer.the-variants as OfRow
 
 abbrev pub counted : ℕ → Reading Unit → Said ℕ
 counted n (done vs s rest) = answered n
-counted n (stopped f) = refused (f .no)
+counted n (stopped f) = refused (faultAt f)
 
 unfoldable pub judgeAnswer : List ℕ → Said ℕ
 judgeAnswer input = judge refused (inputCauses input) (counted (countIn input) (readWhole (countIn input) (streamIn input)))
 
 abbrev pub saysJudged : Judged → Said ℕ
 saysJudged (OfJudged.Rows n) = answered n
-saysJudged (OfJudged.Refused r) = refused (number r)
+saysJudged (OfJudged.Refused r) = refused (faultOf r)
 
 judged-told : (r : Judged) → unsaid OfJudged.Rows OfJudged.Refused (saysJudged r) ≡ r
 judged-told (OfJudged.Rows n) = refl
@@ -53,59 +51,52 @@ mayStand room at =
     leb (at .count) mostValues
     && (leb (at .place) (45 * at .count)
     && (leb (at .place) (8 * room)
-    && (eqb (at .lead) 255 || ltb (at .lead + at .trail) 32)))
+    && (unset (windowIn (at .lead) (at .trail)) || ltb (at .lead + at .trail) (macaque .width))))
 
--- the bits that follow
-abbrev pub ahead : List ℕ → Cursor → List Bool
-ahead bytes at = drop (at .place) (bitsOf bytes)
-
-pub record NextRow : Type 0 where
+-- the row of the value that is read next, and where reading stands behind it
+pub record FoundRow : Type 0 where
   pub row : Fields
   pub next : Cursor
 
-abbrev pub nextBy : Cursor → List Bool → Step → Said NextRow
-nextBy at bs (stream.got v win used) =
+abbrev pub foundBy : Cursor → List Bool → Step → Said FoundRow
+foundBy at bs (stream.got v win used) =
     answered
     (record {
       row = rowOf (isRaw listed (stateAt at)) bs v win used;
       next = record { last = v; lead = win .lead; trail = win .trail; place = at .place + used; count = at .count + 1 };
     })
-nextBy at bs (stream.refused n) = refused n
+foundBy at bs (stream.halt n) = refused (faultAt (record { no = n; value = at .count; place = at .place }))
 
-unfoldable pub nextRow : List ℕ → Cursor → Said NextRow
-nextRow bytes at = nextBy at (ahead bytes at) (stepAt listed (stateAt at) (ahead bytes at))
-
-abbrev pub saysFound : Found → Said NextRow
-saysFound (OfFound.At row next) = answered (record { row = row; next = next })
-saysFound (OfFound.Refused r) = refused (number r)
+unfoldable pub rowFound : List ℕ → Cursor → Said FoundRow
+rowFound bytes at = foundBy at (ahead bytes at) (stepAt listed (stateAt at) (ahead bytes at))
 
 -- the length of its line, and where reading stands behind it
-pub record Line : Type 0 where
+pub record RowLine : Type 0 where
   pub length : ℕ
   pub next : Cursor
 
 abbrev pub rowCauses : ℕ → Cursor → List Cause
 rowCauses room at = 2 when not (mayStand room at) ∷ 3 when leb mostValues (at .count) ∷ []
 
-abbrev pub lineOf : Cursor → Said NextRow → Said Line
+abbrev pub lineOf : Cursor → Said FoundRow → Said RowLine
 lineOf at (answered r) = answered (record { length = length (rowText (at .count) (r .row)); next = r .next })
-lineOf at (refused n) = refused n
+lineOf at (refused f) = refused f
 
-abbrev pub lineIn : List ℕ → Cursor → Said NextRow → List ℕ
+abbrev pub lineIn : List ℕ → Cursor → Said FoundRow → List ℕ
 lineIn line at (answered r) = laid (rowText (at .count) (r .row)) line
-lineIn line at (refused n) = line
+lineIn line at (refused f) = line
 
-unfoldable pub rowAnswer : List ℕ → Cursor → Said Line
-rowAnswer bytes at = judge refused (rowCauses (length bytes) at) (lineOf at (nextRow bytes at))
+unfoldable pub rowAnswer : List ℕ → Cursor → Said RowLine
+rowAnswer bytes at = judge refused (rowCauses (length bytes) at) (lineOf at (rowFound bytes at))
 
 unfoldable pub rowMemory : List ℕ → Cursor → List ℕ → List ℕ
-rowMemory bytes at line = judge (λ (n : ℕ). line) (rowCauses (length bytes) at) (lineIn line at (nextRow bytes at))
+rowMemory bytes at line = judge (keeping line) (rowCauses (length bytes) at) (lineIn line at (rowFound bytes at))
 
-abbrev pub saysRow : RowAnswer → Said Line
+abbrev pub saysRow : RowAnswer → Said RowLine
 saysRow (OfRow.Row length next) = answered (record { length = length; next = next })
-saysRow (OfRow.Refused r) = refused (number r)
+saysRow (OfRow.Refused r) = refused (faultOf r)
 
-abbrev rowBack : Line → RowAnswer
+abbrev rowBack : RowLine → RowAnswer
 rowBack l = OfRow.Row (l .length) (l .next)
 
 row-told : (r : RowAnswer) → unsaid rowBack OfRow.Refused (saysRow r) ≡ r

@@ -3,3 +3,5 @@ pub mod Text
 pub mod Rows
 pub mod Listing
 pub mod Calls
+pub mod Printed
+pub mod inner

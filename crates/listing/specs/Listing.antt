@@ -8,8 +8,9 @@ use Rattle.models.specs.Answers.{Cause, _when_, judge}
 use Rattle.models.specs.Limits.{mostValues}
 use Rattle.stream.specs.Format.{State, fresh}
 use Rattle.stream.specs.Read.{Reading, done, stopped, readAll}
+use Rattle.stream.specs.Calls.{faultAt}
 use Rattle.listing.specs.Text.{headerText, totalText, refusedText}
-use Rattle.listing.specs.Rows.{listed, rowsFrom, bitsIn, rowsText}
+use Rattle.listing.specs.Rows.{listed, rowsFrom, totalBits, rowsText}
 use Rattle.listing.specs.declared.Fields.{Fields}
 
 -- ---- the input: "a with-first stream's count (4 bytes, little-endian) and bytes"
@@ -39,11 +40,11 @@ readWhole n bytes = readAll listed n start (bitsOf bytes)
 -- ---- the output
 
 abbrev pub textOf : List Fields → List ℕ
-textOf rows = headerText ++ rowsText 0 rows ++ totalText (bitsIn rows)
+textOf rows = headerText ++ rowsText 0 rows ++ totalText (totalBits rows)
 
 abbrev pub textBy : List Fields → Reading Unit → List ℕ
 textBy rows (done vs s rest) = textOf rows
-textBy rows (stopped f) = refusedText (f .no)
+textBy rows (stopped f) = refusedText (faultAt f)
 
 abbrev pub streamText : ℕ → List ℕ → List ℕ
 streamText n bytes = textBy (rowsFrom n start (bitsOf bytes)) (readWhole n bytes)

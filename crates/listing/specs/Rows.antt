@@ -6,9 +6,8 @@ use mathlib.Core.Option.{Option, none, some}
 use Prim.Native.Nat.{ℕ, zero, suc, _+_}
 use lib.ListN.{drop}
 use Rattle.stream.specs.Format as format
-use Rattle.stream.specs.Format.{macaque, Window, withFirst, Stream, State, isRaw, advance}
-use Rattle.stream.specs.Read.{Step, got, refused, readWord, stepAt}
-use Rattle.stream.specs.Cases.{plain}
+use Rattle.stream.specs.Format.{macaque, Window, withFirst, Stream, State, isRaw, advance, bare}
+use Rattle.stream.specs.Read.{Step, got, halt, readWord, stepAt}
 use Rattle.listing.specs.Text.{rowText}
 use Rattle.listing.specs.declared.Kind.{Kind}
 use Rattle.listing.specs.declared.Kind.the-variants.{Raw, Same, New, Keep}
@@ -16,7 +15,7 @@ use Rattle.listing.specs.declared.Fields.{Fields}
 
 -- "reads a with-first stream"
 abbrev pub listed : Stream Unit
-listed = plain withFirst
+listed = bare withFirst
 
 -- a value with no code word is raw
 abbrev pub kindBy : Option format.Kind → Kind
@@ -36,7 +35,7 @@ rowOf raw bs v win used = record { kind = kindRead raw bs; lead = win .lead; bit
 
 abbrev pub rowsBy : Step → (ℕ → Window → ℕ → List Fields) → List Fields
 rowsBy (got v win used) k = k v win used
-rowsBy (refused n) k = []
+rowsBy (halt n) k = []
 
 -- the rows of n values from the state s, whose bits come first in the list
 unfoldable pub rowsFrom : ℕ → State Unit → List Bool → List Fields
@@ -45,9 +44,9 @@ rowsFrom (suc n) s bs =
     rowsBy (stepAt listed s bs) (λ v win used. rowOf (isRaw listed s) bs v win used ∷ rowsFrom n (advance listed s v win used) (drop used bs))
 
 -- the sum of the bits column
-unfoldable pub bitsIn : List Fields → ℕ
-bitsIn [] = 0
-bitsIn (row ∷ rows) = row .bits + bitsIn rows
+unfoldable pub totalBits : List Fields → ℕ
+totalBits [] = 0
+totalBits (row ∷ rows) = row .bits + totalBits rows
 
 -- the lines of rows, the first of value number `n`
 unfoldable pub rowsText : ℕ → List Fields → List ℕ

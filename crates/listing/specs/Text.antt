@@ -1,11 +1,10 @@
 -- The text of a line as ASCII codes: numbers, words and fields, and what putting it into a lent line leaves. Assumes nothing.
-use mathlib.Core.Path.{_≡_}
 use mathlib.Core.Bool.{cond}
 use mathlib.Core.List.{List, [], _∷_, _++_}
 use Prim.Native.Nat.{ℕ, zero, suc, _+_, _/_, _%_}
 use lib.Dec.{ltb}
-use lib.ListN.{length}
 use lib.Seq.{sets}
+use Rattle.models.specs.Answers.{Fault}
 use Rattle.listing.specs.declared.Kind.{Kind}
 use Rattle.listing.specs.declared.Kind.the-variants.{Raw, Same, New, Keep}
 use Rattle.listing.specs.declared.Fields.{Fields}
@@ -88,16 +87,11 @@ unfoldable pub totalText : ℕ → List ℕ
 totalText bits = field totalWord ++ lastField (decimal bits)
 
 -- "On a refusal the only line is as `refused 5`."
-unfoldable pub refusedText : ℕ → List ℕ
-refusedText n = field refusedWord ++ lastField (decimal n)
+unfoldable pub refusedText : Fault → List ℕ
+refusedText f = field refusedWord ++ lastField (decimal (f .number))
 
 -- ---- in a lent line
 
 -- the text is stored from the front on, and the places behind it keep what they held
 abbrev pub laid : List ℕ → List ℕ → List ℕ
 laid text line = sets line 0 text
-
--- the text stands from the place `at` on, and r is the place behind it
-pub record Put (old : List ℕ) (at : ℕ) (text new : List ℕ) (r : ℕ) : Type 0 where
-  pub is : new ≡ sets old at text
-  pub ends : r ≡ at + length text

@@ -1,26 +1,27 @@
 // The listing of a with-first stream, line by line: the header, a row for each value, the total; or the one line of a refusal.
 // A line's text goes to the front of a lent array, and the call answers how long it is.
 ghost use mathlib.Core.Path.{_≡_};
-ghost use Prim.Native.Nat.{_+_, _*_, _≤_, _<_};
+ghost use Prim.Native.Nat.{_+_, _*_, _≤_};
 ghost use lib.ListN.{length};
-ghost use Rattle.coding.specs.Ahead.{bitsIn as wordBits};
-ghost use Rattle.models.specs.Refusals.{number};
+ghost use Rattle.coding.specs.inner.Ahead.{bitsIn as wordBits};
+ghost use Rattle.models.specs.Limits.{mostValues};
+ghost use Rattle.models.specs.Refusals.{faultOf};
 ghost use Rattle.macaque_v.specs.declared.Opening.the-variants.{First};
-ghost use Rattle.macaque_v.specs.ReadRun.{Stands};
 ghost use Rattle.macaque_v.specs.Read.{startOf};
 ghost use Rattle.listing.specs.Text.{headerText, totalText, refusedText, laid};
 ghost use Rattle.listing.specs.Rows.{kindRead};
 ghost use Rattle.listing.specs.Listing.{countIn, readWhole};
-ghost use Rattle.listing.specs.Calls.{counted, judgeAnswer, saysJudged, mayStand, nextRow, saysFound, rowAnswer, rowMemory, saysRow};
+ghost use Rattle.listing.specs.Calls.{counted, judgeAnswer, saysJudged, mayStand, rowAnswer, rowMemory, saysRow};
+ghost use Rattle.listing.specs.inner.Lines.{rowBetween};
 
 mod line;
 
 use coding::decode;
-use coding::decode::Decoded;
 use macaque_v::MacaqueV;
 use macaque_v::read_run;
 use macaque_v::read_run::Aim;
 use macaque_v::read_run::Cursor;
+use macaque_v::read_run::Run;
 use macaque_v::read_run::Walk;
 use models::Refusal;
 
@@ -104,10 +105,10 @@ pub fn row(stream: &[u8], at: Cursor, line: &mut [u8; 80]) -> RowAnswer
     if MacaqueV::MOST_VALUES <= at.count {
         return RowAnswer::Refused(Refusal::OverLimit);
     }
-    match find(stream, at) {
-        Found::Refused(r) => RowAnswer::Refused(r),
-        Found::At(row, next) => {
-            let length = line::row(at.count, row, line);
+    match read_run::next(stream, true, at) {
+        Run::Refused(r) => RowAnswer::Refused(r),
+        Run::To(next) => {
+            let length = line::row(at.count, row_between(stream, at, next), line);
             RowAnswer::Row { length, next }
         }
     }
@@ -124,8 +125,8 @@ pub fn total(bits: usize, line: &mut [u8; 80]) -> usize
 
 // The only line of an input that is refused.
 pub fn refusal(cause: Refusal, line: &mut [u8; 80]) -> usize
-    ensures length { λ r. ⌜ r ≡ length (refusedText (number cause)) ⌝ }
-    ensures text { λ r. ⌜ now (line .exit) ≡ laid (refusedText (number cause)) (now (line .entry)) ⌝ }
+    ensures length { λ r. ⌜ r ≡ length (refusedText (faultOf cause)) ⌝ }
+    ensures text { λ r. ⌜ now (line .exit) ≡ laid (refusedText (faultOf cause)) (now (line .entry)) ⌝ }
 {
     let at = line::word(b"refused ", line, 0);
     line::number(models::number_of(cause) as usize, b'\n', line, at)
@@ -148,7 +149,7 @@ fn joined(a: u8, b: u8, c: u8, d: u8) -> usize
 }
 
 fn judge_stream(stream: &[u8], count: usize) -> Judged
-    requires { ⌜ count ≤ 65536 ⌝ }
+    requires { ⌜ count ≤ mostValues ⌝ }
     ensures { λ r. ⌜ saysJudged r ≡ counted count (readWhole count (now (stream .entry))) ⌝ }
 {
     match read_run::go_to_end(stream, true, start(), count, Aim::Nothing) {
@@ -158,12 +159,6 @@ fn judge_stream(stream: &[u8], count: usize) -> Judged
 }
 
 // ---- one row
-
-// A row, and where reading stands behind its value.
-pub enum Found {
-    At(Fields, Cursor),
-    Refused(Refusal),
-}
 
 // Whether reading may stand there, in a stream of so many bytes.
 fn may_stand(room: usize, at: Cursor) -> bool
@@ -175,51 +170,23 @@ fn may_stand(room: usize, at: Cursor) -> bool
     if 45 * at.count < at.place {
         return false;
     }
-    if room < (at.place + 7) / 8 {
-        return false;
-    }
-    if at.lead == MacaqueV::OPENING_LEADING {
-        return true;
-    }
-    if 32 <= at.lead {
-        return false;
-    }
-    at.trail < 32 - at.lead
+    let zeros = (at.lead as u64) + (at.trail as u64);
+    ((at.place + 7) / 8 <= room) & ((at.lead == MacaqueV::OPENING_LEADING) | (zeros < 32))
 }
 
-fn find(stream: &[u8], at: Cursor) -> Found
-    requires { ⌜ Stands (now stream) at × (at .count < 65536) ⌝ }
-    ensures { λ r. ⌜ saysFound r ≡ nextRow (now (stream .entry)) at ⌝ }
+// What the row says of a value that was read from `at` to `next`.
+fn row_between(stream: &[u8], at: Cursor, next: Cursor) -> Fields
+    requires { ⌜ (at .place ≤ 8 * length (now stream)) × (at .place ≤ next .place) ⌝ }
+    ensures { λ r. ⌜ r ≡ rowBetween (now (stream .entry)) at next ⌝ }
 {
-    let raw = at.count == 0;
     let ahead = decode::look(stream, at.place);
-    match decode::decode(raw, ahead.word, ahead.left, at.lead, at.trail, at.last) {
-        Decoded::Refused(r) => Found::Refused(r),
-        Decoded::Got {
-            value,
-            lead,
-            trail,
-            used,
-        } => {
-            let kind = kind_of(raw, ahead.word, ahead.left);
-            let place = at.place + used;
-            let count = at.count + 1;
-            Found::At(
-                Fields {
-                    kind,
-                    lead,
-                    bits: used,
-                    value,
-                },
-                Cursor {
-                    last: value,
-                    lead,
-                    trail,
-                    place,
-                    count,
-                },
-            )
-        }
+    let kind = kind_of(at.count == 0, ahead.word, ahead.left);
+    let bits = next.place - at.place;
+    Fields {
+        kind,
+        lead: next.lead,
+        bits,
+        value: next.last,
     }
 }
 

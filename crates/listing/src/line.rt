@@ -4,7 +4,8 @@ ghost use mathlib.Core.List.{[], _∷_, _++_};
 ghost use Prim.Native.Nat.{_+_, _≤_, _<_};
 ghost use lib.ListN.{length};
 ghost use lib.Seq.{sets};
-ghost use Rattle.listing.specs.Text.{digitText, digitsOf, places as placesOf, decimal, hexadecimal, kindWord, leadText, field, rowText, laid, Put};
+ghost use Rattle.listing.specs.Text.{digitText, digitsOf, places as placesOf, decimal, hexadecimal, kindWord, leadText, field, rowText, laid};
+ghost use Rattle.listing.specs.inner.Lines.{Put};
 use crate::Fields;
 use crate::Kind;
 

@@ -1,8 +1,8 @@
 -- What a segment that nothing refuses has; the times that its model owns keep the order of all. Assumes nothing.
 use mathlib.Core.Path.{_≡_, refl, sym, subst, _∙_}
-use mathlib.Core.Bool.{Bool, true, false, cond, _&&_, _||_, false≢true}
+use mathlib.Core.Bool.{Bool, true, false, cond, _&&_}
 use mathlib.Core.List.{List, [], _∷_, map}
-use Prim.Native.Nat.{ℕ, zero, suc, _-_, _≤_, _<_}
+use Prim.Native.Nat.{ℕ, zero, suc, _≤_, _<_}
 use native.Mathlib.Nat.{le-of-suc-le-suc, not-suc-le-zero}
 use native.Mathlib.Omega.{arith}
 use mir.Syntax.{w64}
@@ -14,11 +14,12 @@ use lib.IntN.{ℤ, pos}
 use lib.Signed.{ltZ}
 use lib.ListN.{length, take, getD, replicate, length-map, length-replicate}
 use lib.Seq.{length-take-le}
-use Rattle.models.specs.Answers.{Said, answered, judge, verdict}
+use Rattle.models.specs.Answers.{Said, answered, judge, verdict, Fault}
+use Rattle.models.specs.Limits.{mostValues}
 use Rattle.models.proofs.Judged.{none}
-use Rattle.models.proofs.Laws.{and-left, and-right, and-both}
+use Rattle.models.proofs.Tests.{and-left, and-right, and-both, neither}
 use Rattle.lines.specs.Line.{lineThrough}
-use Rattle.lines.specs.Values.{drawnAt}
+use Rattle.lines.specs.Values.{lineDrawnAt}
 use Rattle.lines.specs.Times.{timeAllowed, after, inOrder}
 use Rattle.lines.proofs.Exact.{time-fits}
 use Rattle.lines.proofs.Ordered.{in-order-at}
@@ -26,11 +27,6 @@ use Rattle.swing.proofs.Allowed.{before-both}
 use Rattle.parameters.specs.Forms.{Ends}
 use Rattle.segment_grid.specs.Segment.{countIn, isSwing, owned, ownedTimes, startOf, endOf, modelValues}
 use Rattle.segment_grid.specs.Calls.{gridCauses, sumCauses}
-
--- ---- tests
-pub neither : (x y : Bool) → (x || y) ≡ false → (x ≡ false) × (y ≡ false)
-neither false y e = (refl, e)
-neither true y e = absurd (false≢true (sym e))
 
 -- ---- times in order
 
@@ -72,7 +68,7 @@ passed-on ts i t ok lt e = toZ-ofZ w64 t (subst (SFits w64) (sym e) (time-fits (
 -- ---- a segment that no cause refuses, with an output that has `room`
 
 pub record Clear (ts : List ℤ) (residuals : List ℕ) (room : ℕ) : Type 0 where
-  pub few : length ts ≤ 65536
+  pub few : length ts ≤ mostValues
   pub some : countIn residuals < length ts
   pub holds : length ts ≤ room
   pub ordered : inOrder ts ≡ true
@@ -82,14 +78,14 @@ module _ (model : ℕ) (ts : List ℤ) (ends : Said Ends) (residuals : List ℕ)
   clear room h =
       let c = none (gridCauses model ts ends residuals room) h in
       record {
-        few = ltb-false 65536 (length ts) (neither (ltb 1 model) (ltb 65536 (length ts)) (c .0) .1);
+        few = ltb-false mostValues (length ts) (neither (ltb 1 model) (ltb mostValues (length ts)) (c .0) .1);
         some = leb-false (length ts) (countIn residuals) (c .1 .0);
         holds = ltb-false room (length ts) (c .1 .1 .0);
         ordered = not-false (inOrder ts) (neither _ _ (c .1 .1 .1 .0) .0);
       }
 
   -- an output with room for all values refuses nothing
-  pub no-room-asked : {X : Type 0} (refuse : ℕ → X) (x : X) → judge refuse (gridCauses model ts ends residuals (length ts)) x ≡ judge refuse (sumCauses model ts ends residuals) x
+  pub no-room-asked : {X : Type 0} (refuse : Fault → X) (x : X) → judge refuse (gridCauses model ts ends residuals (length ts)) x ≡ judge refuse (sumCauses model ts ends residuals) x
   unfolding judge
   no-room-asked refuse x = rw (le-ltb (length ts) (length ts) (omega arith))
 
@@ -102,6 +98,6 @@ pub length-model : (model : ℕ) (times : List ℤ) (ends : Ends) → length (mo
 unfolding modelValues
 length-model model times ends = go (isSwing model)
   where
-    go : (b : Bool) → length (cond b (map (drawnAt (lineThrough (startOf times ends) (endOf times ends))) times) (replicate (length times) (ends .0))) ≡ length times
-    go true = length-map times (drawnAt (lineThrough (startOf times ends) (endOf times ends)))
+    go : (b : Bool) → length (cond b (map (lineDrawnAt (lineThrough (startOf times ends) (endOf times ends))) times) (replicate (length times) (ends .0))) ≡ length times
+    go true = length-map times (lineDrawnAt (lineThrough (startOf times ends) (endOf times ends)))
     go false = length-replicate (length times) (ends .0)

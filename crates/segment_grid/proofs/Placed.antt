@@ -6,12 +6,10 @@ use native.Mathlib.Omega.{arith}
 use lib.ListN.{length, take, drop, length-append, length-drop, drop-of-length-le}
 use lib.Seq.{take-all, drop-at, drop-drop, length-take-le}
 use borrow.Rule.Slice.PartMut.{midOf, putMid, put-same}
-use Rattle.models.specs.Answers.{Said, answered, refused, Done}
+use Rattle.models.specs.Answers.{Said, answered, refused, Fault}
+use Rattle.models.proofs.Judged.{not-answered, not-refused}
 use Rattle.macaque_v.specs.Read.{drawn, drawnIn}
 use Rattle.segment_grid.specs.Calls.{behind}
-
-never : (n : ℕ) → _≡_ {A = Said Done} (answered tt) (refused n) → ⊥
-never n e = let z : _≡_ {A = ℕ} 0 1 = cc in omega arith
 
 module _ (n : ℕ) (out : List ℕ) (le : n ≤ length out) where
   abbrev k : ℕ
@@ -41,10 +39,10 @@ module _ (n : ℕ) (out : List ℕ) (le : n ≤ length out) where
   pub when-drawn : (q : Said (List ℕ)) → answered tt ≡ drawn q → (ms part : List ℕ) → length ms ≡ n → part ≡ drawnIn lent q
       → (answered tt ≡ drawn (behind ms q)) × (ms ++ drop n (putMid n k out part) ≡ drawnIn out (behind ms q))
   when-drawn (answered vs) h ms part long e = (refl, ap (λ (p : List ℕ). ms ++ drop n (putMid n k out p)) e ∙ placed ms vs long)
-  when-drawn (refused m) h ms part long e = absurd (never m h)
+  when-drawn (refused m) h ms part long e = absurd (not-refused h)
 
   -- they were refused: the output is as it was
-  pub when-stopped : (q : Said (List ℕ)) (m : ℕ) → refused m ≡ drawn q → (ms part : List ℕ) → part ≡ drawnIn lent q
-      → (refused m ≡ drawn (behind ms q)) × (putMid n k out part ≡ drawnIn out (behind ms q))
-  when-stopped (answered vs) m h ms part e = absurd (never m (sym h))
-  when-stopped (refused j) m h ms part e = (h, ap (putMid n k out) e ∙ put-same n k out)
+  pub when-stopped : (q : Said (List ℕ)) (f : Fault) → refused f ≡ drawn q → (ms part : List ℕ) → part ≡ drawnIn lent q
+      → (refused f ≡ drawn (behind ms q)) × (putMid n k out part ≡ drawnIn out (behind ms q))
+  when-stopped (answered vs) f h ms part e = absurd (not-answered h)
+  when-stopped (refused j) f h ms part e = (h, ap (putMid n k out) e ∙ put-same n k out)

@@ -12,12 +12,12 @@ use lib.Signed.{ltZ}
 use lib.ListN.{length, take, drop, length-append}
 use lib.Seq.{take-at, drop-at, getD-at}
 use Rattle.bits.specs.Bits.{Below, firstBytes, bytesOf, padded, wholeBytes}
-use Rattle.models.specs.Answers.{Said, answered, refused, Done, Cause, _when_, judge, judged, verdict}
+use Rattle.models.specs.Answers.{Said, answered, refused, Cause, _when_, judge, judged, verdict, keeping, NoneHolds}
 use Rattle.models.specs.Limits.{mostValues}
 use Rattle.models.specs.declared.ErrorBound.{ErrorBound}
 use Rattle.models.specs.declared.ErrorBound.the-variants.{Lossless}
-use Rattle.models.proofs.Judged.{NoneHolds, none}
-use Rattle.models.proofs.Laws.{and-both}
+use Rattle.models.proofs.Judged.{none, answered-only, passed, not-answered}
+use Rattle.models.proofs.Tests.{and-both, and-false, and-past, neither}
 use Rattle.models.proofs.Judged as judging
 use Rattle.stream.specs.Format.{Stream, fresh}
 use Rattle.stream.specs.Write.{keptFrom, encode, written, streamOf}
@@ -31,10 +31,10 @@ use Rattle.macaque_v.specs.State as macaque-v
 use Rattle.macaque_v.specs.State.{streamIn, opened}
 use Rattle.macaque_v.specs.Read as stream
 use Rattle.macaque_v.specs.Read.{valuesRead, valuesIn, drawn, drawnIn}
-use Rattle.macaque_v.specs.Made.{Made}
+use Rattle.macaque_v.specs.Made.{Made, keptOf}
 use Rattle.macaque_v.specs.declared.MacaqueV.{MacaqueV}
 use Rattle.macaque_v.specs.declared.Opening.the-variants.{On}
-use Rattle.macaque_v.proofs.Promises.{keptOf, lossless-keeps-the-inputs}
+use Rattle.macaque_v.proofs.Promises.{lossless-keeps-the-inputs}
 use Rattle.lines.specs.Times.{timeAllowed, inOrder}
 use Rattle.lines.specs.Values.{inTime, noLine}
 use Rattle.lines.specs.declared.Point.{Point}
@@ -42,27 +42,17 @@ use Rattle.lines.proofs.Ordered.{in-order-at}
 use Rattle.pmc_mean.specs.Grid as pmc-mean
 use Rattle.swing.specs.Grid as swing
 use Rattle.parameters.specs.Forms.{Ends}
-use Rattle.segment_grid.specs.Segment.{countIn, streamBytes, residualsIn, given, owned, ownedTimes, isSwing, startOf, endOf, modelValues, modelSum}
+use Rattle.segment_grid.specs.Segment.{countIn, streamBytes, residualsIn, given, owned, ownedTimes, isSwing, startOf, endOf, modelValues, modelSum, HoldsResiduals}
 use Rattle.segment_grid.specs.Calls.{formWrong, gridCauses, sumCauses, behind, segmentValues, gridAnswer, gridMemory, plus, withResiduals, residualSum, segmentSum, sumAnswer}
-use Rattle.segment_grid.proofs.Owned.{length-owned, length-model, Clear, clear, no-room-asked, in-order-later, in-order-take, neither}
+use Rattle.segment_grid.proofs.Owned.{length-owned, length-model, Clear, clear, no-room-asked, in-order-later, in-order-take}
 use Rattle.segment_grid.proofs.Counted.{as-many-values}
 
 -- ---- what is drawn
 
-never : {A : Type 0} (n : ℕ) (a : A) → _≡_ {A = Said A} (refused n) (answered a) → ⊥
-never n a e = let z : _≡_ {A = ℕ} 0 1 = cc in omega arith
-
--- no cause held, and what was left to answer is answered
-only-accepted : (causes : List Cause) (x : Said Done) → judge refused causes x ≡ answered tt → (verdict causes ≡ answered tt) × (x ≡ answered tt)
-unfolding judge
-only-accepted [] x h = (refl, h)
-only-accepted (n when true ∷ causes) x h = absurd (never n tt h)
-only-accepted (n when false ∷ causes) x h = only-accepted causes x h
-
 -- the residual stream was read
 was-read : (ms : List ℕ) (q : Said (List ℕ)) → drawn (behind ms q) ≡ answered tt → (vs : List ℕ) × (q ≡ answered vs)
 was-read ms (answered vs) h = (vs, refl)
-was-read ms (refused n) h = absurd (never n tt h)
+was-read ms (refused f) h = absurd (not-answered h)
 
 module _ (model : ℕ) (ts : List ℤ) (ends : Said Ends) (residuals out : List ℕ) where
   -- a segment that no cause refuses, and whose residual stream reads as vs: the model's values, then these; later places stay
@@ -78,14 +68,17 @@ module _ (model : ℕ) (ts : List ℤ) (ends : Said Ends) (residuals out : List 
       let many : length (ms ++ vs) ≡ length ts =
       omega (arith, length-append ms vs, length-model model (ownedTimes ts residuals) (given ends), length-owned ts residuals, held, (clear model ts ends residuals (length out) free) .some) in (
         sym (judging.accepted refused (drawn (segmentValues model ts (given ends) residuals)) causes (none causes free)) ∙ ap drawn all,
-        sym (judging.accepted (λ (n : ℕ). out) (drawnIn out (segmentValues model ts (given ends) residuals)) causes (none causes free))
+        sym (judging.accepted (keeping out) (drawnIn out (segmentValues model ts (given ends) residuals)) causes (none causes free))
             ∙ ap (drawnIn out) all ∙ ap (λ (n : ℕ). (ms ++ vs) ++ drop n out) many,
       )
 
   module _ (h : gridAnswer model ts ends residuals (length out) ≡ answered tt) where
     free-of-causes : (verdict (gridCauses model ts ends residuals (length out)) ≡ answered tt) × (drawn (segmentValues model ts (given ends) residuals) ≡ answered tt)
     unfolding gridAnswer
-    free-of-causes = only-accepted (gridCauses model ts ends residuals (length out)) (drawn (segmentValues model ts (given ends) residuals)) h
+    free-of-causes =
+        let causes : List Cause = gridCauses model ts ends residuals (length out) in
+        let a = answered-only causes (drawn (segmentValues model ts (given ends) residuals)) tt h in
+        (passed causes (a .0), a .1)
 
     -- an accepted grid begins with the model's values at the times that it owns
     pub the-models-part : take (owned ts residuals) (gridMemory model ts ends residuals out) ≡ modelValues model (ownedTimes ts residuals) (given ends)
@@ -112,11 +105,6 @@ module _ (model : ℕ) (ts : List ℤ) (ends : Said Ends) (residuals out : List 
 
 -- ---- what was written reads back
 
--- the residual bytes hold the stream that one fresh run wrote of xs, opened on the model's last value, and then their count
-pub record Stored (b : ErrorBound) (last : ℕ) (xs residuals : List ℕ) : Type 0 where
-  pub stream : streamBytes residuals ≡ streamOf (keepRule b) (streamIn false) last xs
-  pub count : countIn residuals ≡ length xs
-
 -- "then one count byte"
 pub counted : (stream : List ℕ) (n : ℕ) → (streamBytes (stream ++ (n ∷ [])) ≡ stream) × (countIn (stream ++ (n ∷ [])) ≡ n)
 counted stream n =
@@ -129,17 +117,17 @@ unfolding firstBytes bytesOf padded encode keptFrom
 nothing-written rule S l = refl
 
 -- "No residuals, no byte." These are the residual bytes of one fresh run over xs.
-pub stored : (b : ErrorBound) (last : ℕ) (xs : List ℕ)
-    → Stored b last xs (cond (eqb (length xs) 0) [] (streamOf (keepRule b) (streamIn false) last xs ++ (length xs ∷ [])))
-stored b last [] = record { stream = sym (nothing-written (keepRule b) (streamIn false) last); count = refl }
-stored b last (x ∷ xs) =
+pub holds-residuals : (b : ErrorBound) (last : ℕ) (xs : List ℕ)
+    → HoldsResiduals b last xs (cond (eqb (length xs) 0) [] (streamOf (keepRule b) (streamIn false) last xs ++ (length xs ∷ [])))
+holds-residuals b last [] = record { stream = sym (nothing-written (keepRule b) (streamIn false) last); count = refl }
+holds-residuals b last (x ∷ xs) =
     let bytes : List ℕ = streamOf (keepRule b) (streamIn false) last (x ∷ xs) in
     let c = counted bytes (length (x ∷ xs)) in
-    subst (λ (none : Bool). Stored b last (x ∷ xs) (cond none [] (bytes ++ (length (x ∷ xs) ∷ [])))) (sym (ne-eqb (length (x ∷ xs)) 0 (λ e. absurd (omega (arith, e))))) (record { stream = c .0; count = c .1 })
+    subst (λ (none : Bool). HoldsResiduals b last (x ∷ xs) (cond none [] (bytes ++ (length (x ∷ xs) ∷ [])))) (sym (ne-eqb (length (x ∷ xs)) 0 (λ e. absurd (omega (arith, e))))) (record { stream = c .0; count = c .1 })
 
 -- so are those in a buffer that any chain of writes, stops and resumes has made, and the count behind them
 pub stored-by-a-writer : (b : ErrorBound) (last : ℕ) (xs buf : List ℕ) (m : MacaqueV) → Made b (On last) xs buf m
-    → Stored b last xs (take (wholeBytes (m .place)) buf ++ (length xs ∷ []))
+    → HoldsResiduals b last xs (take (wholeBytes (m .place)) buf ++ (length xs ∷ []))
 stored-by-a-writer b last xs buf m M =
     let c = counted (take (wholeBytes (m .place)) buf) (length xs) in
     record { stream = c .0 ∙ M .bytes; count = c .1 }
@@ -150,23 +138,19 @@ pub stored-as-allowed : (b : ErrorBound) (last : ℕ) (xs : List ℕ) (ends : En
 stored-as-allowed b last [] ends = refl
 stored-as-allowed b last (x ∷ xs) ends =
     let bytes : List ℕ = cond (eqb (length (x ∷ xs)) 0) [] (streamOf (keepRule b) (streamIn false) last (x ∷ xs) ++ (length (x ∷ xs) ∷ [])) in
-    let some : eqb (countIn bytes) 0 ≡ false = ne-eqb (countIn bytes) 0 (λ e. absurd (omega (arith, e, (stored b last (x ∷ xs)) .count))) in
-    neither-way (not (eqb (length bytes) 0)) (eqb (countIn bytes) 0) some
-  where
-    neither-way : (p q : Bool) → q ≡ false → (p && q) ≡ false
-    neither-way true q h = h
-    neither-way false q h = refl
+    let some : eqb (countIn bytes) 0 ≡ false = ne-eqb (countIn bytes) 0 (λ e. absurd (omega (arith, e, (holds-residuals b last (x ∷ xs)) .count))) in
+    and-false (not (eqb (length bytes) 0)) (eqb (countIn bytes) 0) some
 
 -- they read as what was kept
 reads-as-kept : (b : ErrorBound) (last : ℕ) (xs : List ℕ) → Below 32 xs → last < 2 ^ 32
     → valuesIn (streamOf (keepRule b) (streamIn false) last xs) (length xs) (On last) ≡ answered (keptOf b (On last) xs)
 reads-as-kept b last xs small low =
-    let S : Stream macaque-v.Ends = streamIn false in
+    let S : Stream macaque-v.MinMax = streamIn false in
     ap valuesRead
     (ap (readAll S (length xs) (opened (On last))) (padded-back (written (keepRule b) S (fresh S last) xs))
     ∙ fresh-read S macaque-good last low (keepRule b) (keeps b 32) xs small)
 
-module _ (b : ErrorBound) (model : ℕ) (ts : List ℤ) (first last : ℕ) (xs residuals out : List ℕ) (S : Stored b last xs residuals) (small : Below 32 xs) (low : last < 2 ^ 32)
+module _ (b : ErrorBound) (model : ℕ) (ts : List ℤ) (first last : ℕ) (xs residuals out : List ℕ) (S : HoldsResiduals b last xs residuals) (small : Below 32 xs) (low : last < 2 ^ 32)
     (ends : Said Ends) (e : ends ≡ answered (first, last)) (free : verdict (gridCauses model ts ends residuals (length out)) ≡ answered tt) where
   -- where the parameter bytes read as the model's ends and no cause holds, the grid is accepted, whatever the bound: the drawn values at the model's
   -- timestamps, and then the kept residuals bit for bit
@@ -182,7 +166,7 @@ module _ (b : ErrorBound) (model : ℕ) (ts : List ℤ) (first last : ℕ) (xs r
       (w .0, w .1 ∙ ap₂ (λ (n : ℕ) (e : Ends). modelValues model (take (length ts - n) ts) e ++ keptOf b (On last) xs ++ drop (length ts) out) (S .count) known)
 
 -- and lossless as the residuals handed in
-pub lossless-reads-back : (model : ℕ) (ts : List ℤ) (first last : ℕ) (xs residuals out : List ℕ) → Stored Lossless last xs residuals → Below 32 xs → last < 2 ^ 32
+pub lossless-reads-back : (model : ℕ) (ts : List ℤ) (first last : ℕ) (xs residuals out : List ℕ) → HoldsResiduals Lossless last xs residuals → Below 32 xs → last < 2 ^ 32
     → (ends : Said Ends) → ends ≡ answered (first, last) → verdict (gridCauses model ts ends residuals (length out)) ≡ answered tt
     → (gridAnswer model ts ends residuals (length out) ≡ answered tt)
     × (gridMemory model ts ends residuals out ≡ modelValues model (take (length ts - length xs) ts) (first, last) ++ xs ++ drop (length ts) out)
@@ -220,25 +204,22 @@ module _ (model : ℕ) (ts : List ℤ) (ends : Said Ends) (residuals : List ℕ)
   a-swing-has-a-line e =
       let c = none (sumCauses model ts ends residuals) h in
       let last : ℕ = length times - 1 in
-      let more : owned ts residuals ≡ 1 → ⊥ = eqb-false (owned ts residuals) 1 (past e (neither (not (inOrder ts)) (isSwing model && eqb (owned ts residuals) 1) (c .1 .1 .0) .1)) in
+      let more : owned ts residuals ≡ 1 → ⊥ = eqb-false (owned ts residuals) 1 (and-past _ _ e (neither (not (inOrder ts)) (isSwing model && eqb (owned ts residuals) 1) (c .1 .1 .0) .1)) in
       let far : 0 < last = omega (arith, length-owned ts residuals, asked .some, more) in
       let within : last < length times = omega arith in (
         and-both (timeAllowed (a .time)) (timeAllowed (b .time) && ltZ (a .time) (b .time)) (in-order-at times 0 ordered (omega arith))
             (and-both (timeAllowed (b .time)) (ltZ (a .time) (b .time)) (in-order-at times last ordered within) (in-order-later times last ordered far within)),
-        past e (c .1 .1 .1 .1 .0),
+        and-past _ _ e (c .1 .1 .1 .1 .0),
       )
-    where
-      past : {x y : Bool} → x ≡ true → (x && y) ≡ false → y ≡ false
-      past {x} {y} e h = sym (ap (λ (z : Bool). z && y) e) ∙ h
 
   -- the model has a sum, in either form: after the causes, what is refused is the residual stream alone
-  pub the-model-has-a-sum : (form : Bool) → (sum : ℕ) × (modelSum form model times (given ends) ≡ answered sum)
+  pub the-model-has-a-sum : (average : Bool) → (sum : ℕ) × (modelSum average model times (given ends) ≡ answered sum)
   unfolding modelSum pmc-mean.sumAnswer swing.averageAnswer swing.sumAnswer
-  the-model-has-a-sum form = go (isSwing model) refl form
+  the-model-has-a-sum average = go (isSwing model) refl average
     where
-      go : (s : Bool) → isSwing model ≡ s → (form : Bool)
-          → (sum : ℕ) × (cond s (cond form (swing.averageAnswer a b (length times)) (swing.sumAnswer a b times)) (pmc-mean.sumAnswer (length times) (given ends .0)) ≡ answered sum)
-      go false e form = has-an-answer (3 when ltb mostValues (length times) ∷ []) _ (few, tt)
+      go : (s : Bool) → isSwing model ≡ s → (average : Bool)
+          → (sum : ℕ) × (cond s (cond average (swing.averageAnswer a b (length times)) (swing.sumAnswer a b times)) (pmc-mean.sumAnswer (length times) (given ends .0)) ≡ answered sum)
+      go false e average = has-an-answer (3 when ltb mostValues (length times) ∷ []) _ (few, tt)
       go true e true =
           let l = a-swing-has-a-line e in
           has-an-answer (swing.averageCauses a b (length times)) _ (few, (ap not (l .0), (l .1, tt)))
@@ -247,13 +228,13 @@ module _ (model : ℕ) (ts : List ℤ) (ends : Said Ends) (residuals : List ℕ)
           has-an-answer (swing.sumCauses a b times) _ (few, (ap not (and-both (inTime a b) (inOrder times) (l .0) ordered), (l .1, tt)))
 
   -- the residuals that are added are those that a grid draws, from the left, from 0; without any, the model's sum stays as it is
-  pub a-segments-sum : (form : Bool) (vs : List ℕ) → residualsIn residuals (given ends .1) ≡ answered vs
-      → sumAnswer form model ts ends residuals
-      ≡ answered (cond (eqb (countIn residuals) 0) (the-model-has-a-sum form .0) (plus (the-model-has-a-sum form .0) (stream.sumOf false vs)))
+  pub a-segments-sum : (average : Bool) (vs : List ℕ) → residualsIn residuals (given ends .1) ≡ answered vs
+      → sumAnswer average model ts ends residuals
+      ≡ answered (cond (eqb (countIn residuals) 0) (the-model-has-a-sum average .0) (plus (the-model-has-a-sum average .0) (stream.sumOf false vs)))
   unfolding sumAnswer stream.sumAnswer judge
-  a-segments-sum form vs reads =
+  a-segments-sum average vs reads =
       let causes : List Cause = sumCauses model ts ends residuals in
       let count : ltb mostValues (countIn residuals) ≡ false = le-ltb mostValues (countIn residuals) (omega (arith, asked .few, asked .some)) in
       let rest : residualSum residuals (given ends .1) ≡ answered (stream.sumOf false vs) = rw count (ap (stream.summed false) reads) in
-      sym (judging.accepted refused (segmentSum form model ts (given ends) residuals) causes (none causes h))
-      ∙ ap₂ (withResiduals (countIn residuals)) (the-model-has-a-sum form .1) rest
+      sym (judging.accepted refused (segmentSum average model ts (given ends) residuals) causes (none causes h))
+      ∙ ap₂ (withResiduals (countIn residuals)) (the-model-has-a-sum average .1) rest

@@ -1,37 +1,31 @@
 -- A segment that was written reads back. `writeAnswer`, `valuesAfter` and `residualsAfter` are what the contract of `segments::write` says that it answers
 -- and leaves in its two outputs. Assumes nothing.
 use mathlib.Core.Path.{_≡_, refl, sym, ap, ap₂, _∙_, subst}
-use mathlib.Core.Bool.{Bool, true, false, cond, not, _||_}
-use mathlib.Core.List.{List, [], _∷_, _++_}
+use mathlib.Core.List.{List, _++_}
 use Prim.Native.Nat.{ℕ, zero, suc, _-_, _^_, _<_, _≤_}
 use native.Mathlib.Omega.{arith}
 use borrow.Author.Tests.{ltb-false}
-use lib.Dec.{eqb, ltb}
+use lib.Dec.{ltb}
 use lib.IntN.{ℤ}
 use lib.ListN.{length, take, drop}
 use lib.Seq.{take-at}
 use Rattle.bits.specs.Bits.{Below}
-use Rattle.models.specs.Answers.{Said, answered, refused, judge, verdict}
-use Rattle.models.specs.Floats.{plain}
+use Rattle.models.specs.Answers.{answered, judgedMemory, verdict, keeping, NoneHolds}
+use Rattle.models.specs.Floats.{plainBits}
 use Rattle.models.specs.declared.ErrorBound.{ErrorBound}
-use Rattle.models.proofs.Judged.{NoneHolds, answered-only}
+use Rattle.models.proofs.Judged.{answered-only, same-answer}
+use Rattle.models.proofs.Tests.{neither}
 use Rattle.models.proofs.Judged as judging
 use Rattle.macaque_v.specs.declared.Opening.the-variants.{On}
-use Rattle.macaque_v.proofs.Promises.{keptOf}
+use Rattle.macaque_v.specs.Made.{keptOf}
 use Rattle.parameters.specs.Forms.{Ends}
 use Rattle.parameters.proofs.ReadBack.{plain-small, pmc-mean-reads-back, swing-reads-back}
-use Rattle.segments.specs.Segment.{lastGiven, lastOf, formOf, countedBytes}
-use Rattle.segments.specs.Calls as segments
+use Rattle.segments.specs.Segment.{mostResiduals, lastGiven, lastOf, formOf, countedBytes}
 use Rattle.segments.specs.Calls.{Stored, storedOf, front, handedAnswer, handedValues, handedResiduals, writeCauses, writeAnswer, valuesAfter, residualsAfter, tooShort}
 use Rattle.segments.specs.declared.Segment.{Segment}
-use Rattle.segments.proofs.Laws.{neither}
-use Rattle.segment_grid.specs.Segment.{level, endsIn, modelValues}
+use Rattle.segment_grid.specs.Segment.{bothEnds, endsIn, modelValues, HoldsResiduals}
 use Rattle.segment_grid.specs.Calls.{gridCauses, gridAnswer, gridMemory}
 use Rattle.segment_grid.proofs.Promises as reading
-
--- the front of an output
-taken-front : (bytes out : List ℕ) → take (length bytes) (front bytes out) ≡ bytes
-taken-front bytes out = take-at bytes (drop (length bytes) out) (length bytes) refl
 
 module _ (model first last : ℕ) (b : ErrorBound) (xs valuesOut residualsOut : List ℕ) (s : Segment)
     (h : writeAnswer model first last b xs valuesOut residualsOut ≡ answered s) where
@@ -48,33 +42,32 @@ module _ (model first last : ℕ) (b : ErrorBound) (xs valuesOut residualsOut : 
   room = answered-only (tooShort what valuesOut residualsOut) (answered (what .segment)) s (told .1)
 
   pub stored-segment : what .segment ≡ s
-  stored-segment = same (room .1)
-    where
-      same : {a : Segment} → _≡_ {A = Said Segment} (answered a) (answered s) → a ≡ s
-      same e = cc
+  stored-segment = same-answer (room .1)
+
+  -- an accepted write's bytes are at the front of an output
+  front-stored : (bytes out : List ℕ) (n : ℕ) → n ≡ length bytes
+      → take n (judgedMemory out (writeCauses model b xs) (judgedMemory out (tooShort what valuesOut residualsOut) (front bytes out))) ≡ bytes
+  front-stored bytes out n long =
+      ap₂ (λ (k : ℕ) (all : List ℕ). take k all) long
+      (sym (judging.accepted (keeping out) _ (writeCauses model b xs) (told .0)) ∙ sym (judging.accepted (keeping out) _ (tooShort what valuesOut residualsOut) (room .0)))
+      ∙ take-at bytes (drop (length bytes) out) (length bytes) refl
 
   -- the bytes in use of the first output are the parameters', those of the second the residuals'
   pub values-stored : take (s .«values_length») (valuesAfter model first last b xs valuesOut residualsOut) ≡ what .values
   unfolding valuesAfter handedValues storedOf
-  values-stored =
-      ap₂ (λ (n : ℕ) (bytes : List ℕ). take n bytes) (sym (ap (λ (t : Segment). t .«values_length») stored-segment))
-      (sym (judging.accepted (λ (n : ℕ). valuesOut) _ (writeCauses model b xs) (told .0)) ∙ sym (judging.accepted (λ (n : ℕ). valuesOut) _ (tooShort what valuesOut residualsOut) (room .0)))
-      ∙ taken-front (what .values) valuesOut
+  values-stored = front-stored (what .values) valuesOut (s .«values_length») (sym (ap (λ (t : Segment). t .«values_length») stored-segment))
 
   pub residuals-stored : take (s .«residuals_length») (residualsAfter model first last b xs valuesOut residualsOut) ≡ what .residuals
   unfolding residualsAfter handedResiduals storedOf
-  residuals-stored =
-      ap₂ (λ (n : ℕ) (bytes : List ℕ). take n bytes) (sym (ap (λ (t : Segment). t .«residuals_length») stored-segment))
-      (sym (judging.accepted (λ (n : ℕ). residualsOut) _ (writeCauses model b xs) (told .0)) ∙ sym (judging.accepted (λ (n : ℕ). residualsOut) _ (tooShort what valuesOut residualsOut) (room .0)))
-      ∙ taken-front (what .residuals) residualsOut
+  residuals-stored = front-stored (what .residuals) residualsOut (s .«residuals_length») (sym (ap (λ (t : Segment). t .«residuals_length») stored-segment))
 
   -- the model is one of the two
   one-of-two : model ≤ 1
-  one-of-two = ltb-false 1 model (neither (ltb 1 model) (ltb 255 (length xs)) (told .0 .1 .0) .0)
+  one-of-two = ltb-false 1 model (neither (ltb 1 model) (ltb mostResiduals (length xs)) (told .0 .1 .0) .0)
 
   -- its parameters as they are answered: PMC-Mean's value is both
   abbrev parameters : Ends
-  parameters = (plain first, lastOf model first last)
+  parameters = (plainBits first, lastOf model first last)
 
   -- "parameters read back bit for bit", against the segment's own minimum and maximum
   pub parameters-read-back : endsIn model (s .«min_value») (s .«max_value») (what .values) ≡ answered parameters
@@ -83,7 +76,7 @@ module _ (model first last : ℕ) (b : ErrorBound) (xs valuesOut residualsOut : 
       ap (λ (t : Segment). endsIn model (t .«min_value») (t .«max_value») (what .values)) (sym stored-segment) ∙ by-model model one-of-two refl
     where
       by-model : (n : ℕ) → n ≤ 1 → n ≡ model → endsIn model (what .segment .«min_value») (what .segment .«max_value») (what .values) ≡ answered parameters
-      by-model zero l e = rw (← e) (ap level (pmc-mean-reads-back first _ _))
+      by-model zero l e = rw (← e) (ap bothEnds (pmc-mean-reads-back first _ _))
       by-model (suc zero) l e = rw (← e) (swing-reads-back first last _ _)
       by-model (suc (suc n)) l e = absurd (omega arith)
 
@@ -91,9 +84,9 @@ module _ (model first last : ℕ) (b : ErrorBound) (xs valuesOut residualsOut : 
   unfolding lastOf
   small-last = plain-small (lastGiven model first last)
 
-  stored-residuals : reading.Stored b (lastOf model first last) xs (what .residuals)
+  stored-residuals : HoldsResiduals b (lastOf model first last) xs (what .residuals)
   unfolding storedOf countedBytes
-  stored-residuals = reading.stored b (lastOf model first last) xs
+  stored-residuals = reading.holds-residuals b (lastOf model first last) xs
 
   -- read from the bytes in use of the two outputs, with the segment's minimum and maximum: where no cause refuses the reading, the drawn values at the
   -- model's timestamps, then the kept residuals bit for bit
@@ -104,8 +97,8 @@ module _ (model first last : ℕ) (b : ErrorBound) (xs valuesOut residualsOut : 
       → (gridAnswer model ts ends bytes (length out) ≡ answered tt)
       × (gridMemory model ts ends bytes out ≡ modelValues model (take (length ts - length xs) ts) parameters ++ keptOf b (On (lastOf model first last)) xs ++ drop (length ts) out)
   a-written-segment-reads-back small ts out free =
-      reading.a-segment-reads-back b model ts (plain first) (lastOf model first last) xs
+      reading.a-segment-reads-back b model ts (plainBits first) (lastOf model first last) xs
       (take (s .«residuals_length») (residualsAfter model first last b xs valuesOut residualsOut)) out
-      (subst (reading.Stored b (lastOf model first last) xs) (sym residuals-stored) stored-residuals) small small-last
+      (subst (HoldsResiduals b (lastOf model first last) xs) (sym residuals-stored) stored-residuals) small small-last
       (endsIn model (s .«min_value») (s .«max_value») (take (s .«values_length») (valuesAfter model first last b xs valuesOut residualsOut)))
       (ap (endsIn model (s .«min_value») (s .«max_value»)) values-stored ∙ parameters-read-back) free

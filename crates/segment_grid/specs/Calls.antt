@@ -100,9 +100,9 @@ abbrev pub residualSum : List ℕ → ℕ → Said ℕ
 residualSum residuals last = stream.sumAnswer (streamBytes residuals) (countIn residuals) (On last)
 
 abbrev pub segmentSum : Bool → ℕ → List ℤ → Ends → List ℕ → Said ℕ
-segmentSum form model ts ends residuals =
-    withResiduals (countIn residuals) (modelSum form model (ownedTimes ts residuals) ends) (residualSum residuals (ends .1))
+segmentSum average model ts ends residuals =
+    withResiduals (countIn residuals) (modelSum average model (ownedTimes ts residuals) ends) (residualSum residuals (ends .1))
 
 unfoldable pub sumAnswer : Bool → ℕ → List ℤ → Said Ends → List ℕ → Said ℕ
-sumAnswer form model ts ends residuals =
-    judge refused (sumCauses model ts ends residuals) (segmentSum form model ts (given ends) residuals)
+sumAnswer average model ts ends residuals =
+    judge refused (sumCauses model ts ends residuals) (segmentSum average model ts (given ends) residuals)

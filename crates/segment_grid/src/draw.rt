@@ -10,6 +10,7 @@ ghost use mathlib.Core.Bool.{true};
 ghost use mathlib.Core.List.{_++_};
 ghost use Prim.Native.Nat.{_≤_, _<_};
 ghost use lib.ListN.{length, drop};
+ghost use Rattle.models.specs.Limits.{mostValues};
 ghost use Rattle.models.specs.Calls.{saysGrid};
 ghost use Rattle.lines.specs.Times.{inOrder};
 ghost use Rattle.parameters.specs.Calls.{saysEnds};
@@ -24,7 +25,7 @@ pub fn draw(
     residuals: &[u8],
     out: &mut [u32],
 ) -> GridAnswer
-    requires { ⌜ (length (now timestamps) ≤ 65536) × (countIn (now residuals) < length (now timestamps)) × (length (now timestamps) ≤ length (now out)) × (inOrder (now timestamps) ≡ true) ⌝ }
+    requires { ⌜ (length (now timestamps) ≤ mostValues) × (countIn (now residuals) < length (now timestamps)) × (length (now timestamps) ≤ length (now out)) × (inOrder (now timestamps) ≡ true) ⌝ }
     ensures answer { λ r. ⌜ saysGrid r ≡ drawn (segmentValues model (now (timestamps .entry)) (given (saysEnds ends)) (now (residuals .entry))) ⌝ }
     ensures output { λ r. ⌜ now (out .exit) ≡ drawnIn (now (out .entry)) (segmentValues model (now (timestamps .entry)) (given (saysEnds ends)) (now (residuals .entry))) ⌝ }
 {
@@ -42,7 +43,7 @@ pub fn draw(
 
 // The residuals, to the front of `out`: their stream opens on the model's last value.
 fn draw_residuals(residuals: &[u8], last: u32, out: &mut [u32]) -> GridAnswer
-    requires { ⌜ (countIn (now residuals) ≤ 65536) × (countIn (now residuals) ≤ length (now out)) ⌝ }
+    requires { ⌜ (countIn (now residuals) ≤ mostValues) × (countIn (now residuals) ≤ length (now out)) ⌝ }
     ensures answer { λ r. ⌜ saysGrid r ≡ drawn (residualsIn (now (residuals .entry)) last) ⌝ }
     ensures output { λ r. ⌜ now (out .exit) ≡ drawnIn (now (out .entry)) (residualsIn (now (residuals .entry)) last) ⌝ }
 {

@@ -10,7 +10,7 @@ ghost use Rattle.models.specs.Calls.{saysValue};
 ghost use Rattle.lines.specs.Line.{pointOf};
 ghost use Rattle.lines.specs.Values.{noLine};
 ghost use Rattle.parameters.specs.Calls.{saysEnds};
-ghost use Rattle.segment_grid.specs.Segment.{countIn, level, endsIn, given};
+ghost use Rattle.segment_grid.specs.Segment.{countIn, bothEnds, endsIn, given};
 ghost use Rattle.segment_grid.specs.Calls.{unread};
 
 // a - b, and 0 where b is greater.
@@ -50,11 +50,11 @@ pub fn ends_in(model: u32, min_value: u32, max_value: u32, values: &[u8]) -> End
     if model == 1 {
         return parameters::decode_values_for_swing(min_value, max_value, values);
     }
-    level(parameters::decode_values_for_pmc_mean(min_value, max_value, values))
+    both_ends(parameters::decode_values_for_pmc_mean(min_value, max_value, values))
 }
 
-fn level(value: ValueAnswer) -> EndsAnswer
-    ensures { λ r. ⌜ saysEnds r ≡ level (saysValue value) ⌝ }
+fn both_ends(value: ValueAnswer) -> EndsAnswer
+    ensures { λ r. ⌜ saysEnds r ≡ bothEnds (saysValue value) ⌝ }
 {
     match value {
         ValueAnswer::Refused(r) => EndsAnswer::Refused(r),

@@ -1,86 +1,67 @@
 -- The residuals' stream, made aside from a fresh writer in 1,436 bytes: 255 values of at most 45 bits have room there, so the write is accepted, and what
 -- it leaves is what a segment stores. Assumes nothing.
-use mathlib.Core.Path.{_≡_, refl, sym, ap, ap₂, _∙_, subst}
-use mathlib.Core.Bool.{Bool, true, false, cond, not}
-use mathlib.Core.List.{List, []}
-use Prim.Native.Nat.{ℕ, _+_, _*_, _^_, _≤_, _<_}
+use mathlib.Core.Path.{_≡_, sym, ap, ap₂, _∙_}
+use mathlib.Core.Bool.{true, false}
+use mathlib.Core.List.{List}
+use Prim.Native.Nat.{ℕ, _*_, _^_, _≤_, _<_}
 use native.Mathlib.Nat.{zero-add}
 use native.Mathlib.Omega.{arith}
+use borrow.Author.Tests.{not-false}
 use lib.ListN.{length, take}
-use Rattle.bits.specs.Bits.{wholeBytes, laidIn}
+use Rattle.bits.specs.Bits.{wholeBytes}
 use Rattle.bits.proofs.InBytes.{length-laidIn}
-use Rattle.models.specs.Answers.{Said, answered, refused, SaidOn, answeredOn, Cause, judge}
+use Rattle.models.specs.Answers.{answered, refused, answeredOn, Fault, verdict, NoneHolds}
 use Rattle.models.specs.Bound.{boundAllowed}
 use Rattle.models.specs.declared.ErrorBound.{ErrorBound}
-use Rattle.models.proofs.Judged.{none, accepted-only}
-use Rattle.models.proofs.Judged as judging
-use Rattle.stream.specs.Format.{State, withoutFirst}
-use Rattle.stream.specs.Write.{kept, streamOf}
+use Rattle.models.proofs.Judged.{told, turned, same-answer-on}
+use Rattle.stream.specs.Format.{withoutFirst}
+use Rattle.stream.specs.Write.{kept}
+use Rattle.stream.proofs.Calls.{wrote-on}
 use Rattle.stream.proofs.CodeWords.{values-long}
 use Rattle.stream.proofs.Writing.{place-after, count-after, length-kept}
 use Rattle.coding.specs.Keep.{keepRule}
-use Rattle.macaque_v.specs.State.{Ends, gatherEnds, streamIn, stateOf, writerOf, opened}
-use Rattle.macaque_v.specs.Write.{writtenBy, wroteBy, writerAt}
-use Rattle.macaque_v.specs.Calls.{newAnswer, lentBytes, writeCauses, writeAnswer, writeMemory}
-use Rattle.macaque_v.specs.Made.{Made}
+use Rattle.macaque_v.specs.State.{gatherMinMax, streamIn, stateOf, writerOf, opened}
+use Rattle.macaque_v.specs.Write.{boundCauses, coderBy}
+use Rattle.macaque_v.specs.inner.Write.{writtenBy}
+use Rattle.macaque_v.specs.Calls.{newAnswer, writeAnswer, writeMemory}
 use Rattle.macaque_v.specs.declared.MacaqueV.{MacaqueV}
 use Rattle.macaque_v.specs.declared.Opening.the-variants.{On}
 use Rattle.macaque_v.proofs.Promises.{a-fresh-writer, a-write-is-accepted, a-write-goes-on}
-use Rattle.macaque_v.proofs.Accepting.{accepted}
+use Rattle.macaque_v.proofs.Accepting.{coder-good}
 use Rattle.macaque_v.proofs.Writing.{written-place}
-use Rattle.segments.specs.Segment.{lastOf, residualsOn, countedBytes, residualBytes}
-use Rattle.segments.specs.Calls.{stored, storedBy, storedOf}
+use Rattle.segments.specs.Segment.{mostResiduals, lastOf, residualsOn, countedBytes, residualBytes}
+use Rattle.segments.specs.Calls.{stored, storedOf}
+use Rattle.segments.specs.inner.Aside.{storedBy}
 
 -- what the answer to a fresh writer tells of its bound
 module _ (b : ErrorBound) (last : ℕ) where
-  abbrev asked : Bool → Said MacaqueV
-  asked ok = cond (not ok) (refused 1) (answered (writerOf b false (opened (On last))))
-
-  opened-by-test : (ok : Bool) (m : MacaqueV) → asked ok ≡ answered m → (ok ≡ true) × (m .«error_bound» ≡ b)
-  opened-by-test true m e = (refl, same _ e)
-    where
-      same : (w : MacaqueV) → _≡_ {A = Said MacaqueV} (answered w) (answered m) → m .«error_bound» ≡ w .«error_bound»
-      same w e = let z : m ≡ w = cc in ap (λ (v : MacaqueV). v .«error_bound») z
-  opened-by-test false m e = absurd (never e)
-    where
-      never : _≡_ {A = Said MacaqueV} (refused 1) (answered m) → ⊥
-      never e = let z : _≡_ {A = ℕ} 0 1 = cc in omega arith
-
-  unopened-by-test : (ok : Bool) (k : ℕ) → asked ok ≡ refused k → (ok ≡ false) × (k ≡ 1)
-  unopened-by-test false k e = (refl, cc)
-  unopened-by-test true k e = absurd (never e)
-    where
-      never : {w : MacaqueV} → _≡_ {A = Said MacaqueV} (answered w) (refused k) → ⊥
-      never e = let z : _≡_ {A = ℕ} 0 1 = cc in omega arith
+  new-told : (m : MacaqueV) → newAnswer b (On last) ≡ answered m → NoneHolds (boundCauses b) × (m ≡ writerOf b false (opened (On last)))
+  unfolding newAnswer
+  new-told m h = told (boundCauses b) (writerOf b false (opened (On last))) m (sym h)
 
   pub opened-allowed : (m : MacaqueV) → newAnswer b (On last) ≡ answered m → boundAllowed b ≡ true
-  unfolding newAnswer judge
-  opened-allowed m h = opened-by-test (boundAllowed b) m h .0
+  opened-allowed m h = not-false (boundAllowed b) (new-told m h .0 .0)
 
   pub opened-bound : (m : MacaqueV) → newAnswer b (On last) ≡ answered m → m .«error_bound» ≡ b
-  unfolding newAnswer judge
-  opened-bound m h = opened-by-test (boundAllowed b) m h .1
+  opened-bound m h = ap (λ (w : MacaqueV). w .«error_bound») (new-told m h .1)
 
-  pub unopened : (k : ℕ) → newAnswer b (On last) ≡ refused k → (boundAllowed b ≡ false) × (k ≡ 1)
-  unfolding newAnswer judge
-  unopened k h = unopened-by-test (boundAllowed b) k h
+  pub unopened : (f : Fault) → newAnswer b (On last) ≡ refused f → verdict (boundCauses b) ≡ refused f
+  unfolding newAnswer
+  unopened f h = turned (boundCauses b) (writerOf b false (opened (On last))) f (sym h)
 
 -- an accepted write leaves a buffer as long as it was
-pub length-written : (m : MacaqueV) (xs buf : List ℕ) (n : MacaqueV) → writeAnswer m xs buf ≡ answeredOn n → length (writeMemory m xs buf) ≡ length buf
+length-written : (m : MacaqueV) (xs buf : List ℕ) (n : MacaqueV) → writeAnswer m xs buf ≡ answeredOn n → length (writeMemory m xs buf) ≡ length buf
 unfolding writeAnswer writeMemory
 length-written m xs buf n h =
-    let causes : List Cause = writeCauses m xs (lentBytes (length buf)) in
-    let a = accepted-only m causes (writerAt m (wroteBy m xs)) n h in
-    let room : (wroteBy m xs) .place ≤ 8 * length buf = accepted m xs buf (a .0) .1 in
-    ap length (sym (judging.accepted (λ (k : ℕ). buf) (laidIn buf (m .place) (writtenBy m xs)) causes (none causes (a .0))))
-    ∙ length-laidIn buf (m .place) (writtenBy m xs) (omega (arith, written-place m xs))
+    let w = wrote-on (coderBy m) (coder-good (m .«error_bound») (m .«with_first»)) (stateOf m) xs buf n h in
+    ap length (w .2) ∙ length-laidIn buf (m .place) (writtenBy m xs) (omega (arith, written-place m xs, w .1))
 
-module _ (b : ErrorBound) (last : ℕ) (small : last < 2 ^ 32) (xs : List ℕ) (few : length xs ≤ 255) where
+module _ (b : ErrorBound) (last : ℕ) (small : last < 2 ^ 32) (xs : List ℕ) (few : length xs ≤ mostResiduals) where
   -- the stream's bits and values
-  residuals-place : (residualsOn b last xs) .place ≤ 45 * 255
+  residuals-place : (residualsOn b last xs) .place ≤ 45 * mostResiduals
   residuals-place =
       let vs : List ℕ = kept (keepRule b) (streamIn false) (opened (On last)) xs in
-      omega (arith, place-after (streamIn false) (opened (On last)) vs, values-long withoutFirst gatherEnds (opened (On last)) vs, length-kept (streamIn false) (keepRule b) (opened (On last)) xs)
+      omega (arith, place-after (streamIn false) (opened (On last)) vs, values-long withoutFirst gatherMinMax (opened (On last)) vs, length-kept (streamIn false) (keepRule b) (opened (On last)) xs)
 
   residuals-count : (residualsOn b last xs) .count ≡ length xs
   residuals-count =
@@ -94,10 +75,7 @@ module _ (b : ErrorBound) (last : ℕ) (small : last < 2 ^ 32) (xs : List ℕ) (
 
     module _ (n : MacaqueV) (h : writeAnswer m xs buf ≡ answeredOn n) where
       same-writer : n ≡ writerOf b false (residualsOn b last xs)
-      same-writer = same _ (sym h ∙ written-aside)
-        where
-          same : (w : MacaqueV) → _≡_ {A = SaidOn MacaqueV MacaqueV} (answeredOn n) (answeredOn w) → n ≡ w
-          same w e = cc
+      same-writer = same-answer-on (sym h ∙ written-aside)
 
       pub aside-count : n .length ≡ length xs
       aside-count = ap (λ (w : MacaqueV). w .length) same-writer ∙ residuals-count

@@ -1,3 +1,3 @@
--- Segments: laws on one cause of refusal and on counted bytes, and the residuals' stream, which is made aside.
+-- Segments: counted bytes, and the residuals' stream, which is made aside.
 pub mod Laws
 pub mod Aside

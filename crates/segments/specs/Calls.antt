@@ -4,17 +4,15 @@ use mathlib.Core.Bool.{not, _||_}
 use mathlib.Core.List.{List, [], _∷_, _++_}
 use Prim.Native.Nat.{ℕ}
 use lib.Dec.{ltb}
-use lib.ListN.{length, take, drop}
+use lib.ListN.{length, drop}
 use Rattle.models.specs.Answers.{Said, answered, refused, Cause, _when_, judge, judged, judgedMemory, Injective, told-apart}
 use Rattle.models.specs.Bound.{boundAllowed}
-use Rattle.models.specs.Refusals.{number, numbered-number, unsaid}
+use Rattle.models.specs.Refusals.{numbered-number, unsaid, faultOf}
 use Rattle.models.specs.declared.ErrorBound.{ErrorBound}
 use Rattle.stream.specs.Format.{State}
-use Rattle.bits.specs.Bits.{wholeBytes}
-use Rattle.macaque_v.specs.State.{Ends, stateOf}
-use Rattle.macaque_v.specs.declared.MacaqueV.{MacaqueV}
+use Rattle.macaque_v.specs.State.{Known}
 use Rattle.parameters.specs.Forms.{formBytes}
-use Rattle.segments.specs.Segment.{lastOf, residualsOn, residualBytes, countedBytes, formOf, segmentOf}
+use Rattle.segments.specs.Segment.{mostResiduals, lastOf, residualsOn, residualBytes, formOf, segmentOf}
 use Rattle.segments.specs.declared.Segment.{Segment}
 use Rattle.segments.specs.declared.SegmentAnswer.{SegmentAnswer}
 use Rattle.segments.specs.declared.SegmentAnswer.the-variants as OfSegment
@@ -26,7 +24,7 @@ pub record Stored : Type 0 where
   pub residuals : List ℕ
   pub segment : Segment
 
-abbrev pub stored : ℕ → ℕ → ℕ → State Ends → List ℕ → Stored
+abbrev pub stored : ℕ → ℕ → ℕ → State Known → List ℕ → Stored
 stored model first last s residuals =
     let values = formBytes (formOf model first last (s .seen .min) (s .seen .max)) in
     record { values = values; residuals = residuals; segment = segmentOf model first last s values residuals }
@@ -34,11 +32,6 @@ stored model first last s residuals =
 unfoldable pub storedOf : ℕ → ℕ → ℕ → ErrorBound → List ℕ → Stored
 storedOf model first last b xs =
     stored model first last (residualsOn b (lastOf model first last) xs) (residualBytes b (lastOf model first last) xs)
-
--- the same of a writer and the buffer that it wrote to
-unfoldable pub storedBy : ℕ → ℕ → ℕ → MacaqueV → List ℕ → Stored
-storedBy model first last m buf =
-    stored model first last (stateOf m) (countedBytes (take (wholeBytes (m .place)) buf) (m .length))
 
 -- ---- handing them out: "lent output too short" is either one, and then both stay
 
@@ -61,7 +54,7 @@ handedResiduals w valuesOut residualsOut = judgedMemory residualsOut (tooShort w
 -- ---- write: the causes in 01's order, 1 and 3, then 4, judged before either output is touched
 
 abbrev pub writeCauses : ℕ → ErrorBound → List ℕ → List Cause
-writeCauses model b xs = 1 when not (boundAllowed b) ∷ 3 when (ltb 1 model || ltb 255 (length xs)) ∷ []
+writeCauses model b xs = 1 when not (boundAllowed b) ∷ 3 when (ltb 1 model || ltb mostResiduals (length xs)) ∷ []
 
 unfoldable pub writeAnswer : ℕ → ℕ → ℕ → ErrorBound → List ℕ → List ℕ → List ℕ → Said Segment
 writeAnswer model first last b xs valuesOut residualsOut =
@@ -79,7 +72,7 @@ residualsAfter model first last b xs valuesOut residualsOut =
 
 abbrev pub saysSegment : SegmentAnswer → Said Segment
 saysSegment (OfSegment.Written s) = answered s
-saysSegment (OfSegment.Refused r) = refused (number r)
+saysSegment (OfSegment.Refused r) = refused (faultOf r)
 
 segment-told : (r : SegmentAnswer) → unsaid OfSegment.Written OfSegment.Refused (saysSegment r) ≡ r
 segment-told (OfSegment.Written s) = refl

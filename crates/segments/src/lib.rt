@@ -6,8 +6,9 @@ ghost use lib.ListN.{length, take, drop};
 ghost use Rattle.models.specs.Answers.{answered};
 ghost use Rattle.macaque_v.specs.Calls.{newAnswer};
 ghost use Rattle.macaque_v.specs.declared.Opening.the-variants.{On};
-ghost use Rattle.segments.specs.Segment.{lastOf, modelMin, modelMax, formOf, countedBytes, countedLength};
-ghost use Rattle.segments.specs.Calls.{storedBy, front, handedAnswer, handedValues, handedResiduals, saysSegment, writeAnswer, valuesAfter, residualsAfter};
+ghost use Rattle.segments.specs.Segment.{lastOf, modelMin, modelMax, formOf, countedBytes, mostResiduals};
+ghost use Rattle.segments.specs.Calls.{front, handedAnswer, handedValues, handedResiduals, saysSegment, writeAnswer, valuesAfter, residualsAfter};
+ghost use Rattle.segments.specs.inner.Aside.{storedBy, countedLength};
 use macaque_v::MacaqueV;
 use macaque_v::Opening;
 use macaque_v::WriteAnswer;
@@ -106,7 +107,7 @@ fn hand_out(
     values_out: &mut [u8],
     residuals_out: &mut [u8],
 ) -> SegmentAnswer
-    requires { ⌜ after .place ≤ 8 * length (now stream) ⌝ ∗ ⌜ after .length ≤ 255 ⌝ ∗ ⌜ length (now stream) ≤ 1436 ⌝ }
+    requires { ⌜ after .place ≤ 8 * length (now stream) ⌝ ∗ ⌜ after .length ≤ mostResiduals ⌝ ∗ ⌜ length (now stream) ≤ 1436 ⌝ }
     ensures answer { λ r. ⌜ saysSegment r ≡ handedAnswer (storedBy model «first_value» «last_value» after (now (stream .entry))) (now («values_out» .entry)) (now («residuals_out» .entry)) ⌝ }
     ensures values { λ r. ⌜ now («values_out» .exit) ≡ handedValues (storedBy model «first_value» «last_value» after (now (stream .entry))) (now («values_out» .entry)) (now («residuals_out» .entry)) ⌝ }
     ensures bytes { λ r. ⌜ now («residuals_out» .exit) ≡ handedResiduals (storedBy model «first_value» «last_value» after (now (stream .entry))) (now («values_out» .entry)) (now («residuals_out» .entry)) ⌝ }
@@ -189,7 +190,7 @@ fn counted_length(used: usize, count: usize) -> usize
 }
 
 fn put_counted(stream: &[u8], used: usize, count: usize, out: &mut [u8])
-    requires { ⌜ used ≤ length (now stream) ⌝ ∗ ⌜ used ≤ 1436 ⌝ ∗ ⌜ count ≤ 255 ⌝ ∗ ⌜ countedLength used count ≤ length (now out) ⌝ }
+    requires { ⌜ used ≤ length (now stream) ⌝ ∗ ⌜ used ≤ 1436 ⌝ ∗ ⌜ count ≤ mostResiduals ⌝ ∗ ⌜ countedLength used count ≤ length (now out) ⌝ }
     ensures { λ _. ⌜ now (out .exit) ≡ front (countedBytes (take used (now (stream .entry))) count) (now (out .entry)) ⌝ }
 {
     if count == 0 {

@@ -10,15 +10,6 @@ slice-aggregate-write-all c =
     let a = c .before .before .before .args in
     sym (length-take-le (a .n) (a .line .now) (search needs))
 
-write-all-requires : tie.Need-write-all-requires
-write-all-requires c κs = search needs
-
-returns : tie.Need-returns
-returns c = search needs
-
-returns-2 : tie.Need-returns-2
-returns-2 c = search needs
-
 pub print-front-spec : {M : Type 1} → statement M
 print-front-spec =
-    tie.close (tie.spec slice-aggregate-write-all write-all-requires returns returns-2)
+    tie.close (tie.spec slice-aggregate-write-all (λ c κs. search needs) (λ c. search needs) (λ c. search needs))

@@ -26,9 +26,6 @@ returns-2 c =
     let l = length (c .before .before .before .args .input .now) in
     rw (le-ltb 32768 l (omega arith), lt-ltb l 4 (omega arith))
 
-count-in-requires : tie.Need-count-in-requires
-count-in-requires c κs = search needs
-
 returns-3 : tie.Need-returns-3
 unfolding judgeAnswer judge
 returns-3 c =
@@ -36,18 +33,6 @@ returns-3 c =
     let l = length input in
     let n = countIn input in
     rw (le-ltb 32768 l (omega arith), le-ltb l 4 (omega arith), lt-ltb mostValues n (omega (arith, c .before .count-in .ensures)))
-
-sub-judge-stream : tie.Need-sub-judge-stream
-sub-judge-stream c = search needs
-
-part-judge-stream-start : tie.Need-part-judge-stream-start
-part-judge-stream-start c = search needs
-
-part-judge-stream-end : tie.Need-part-judge-stream-end
-part-judge-stream-end c = search needs
-
-judge-stream-requires : tie.Need-judge-stream-requires
-judge-stream-requires c κs = search needs
 
 returns-4 : tie.Need-returns-4
 unfolding judgeAnswer judge
@@ -64,10 +49,10 @@ judge-spec =
     (tie.spec
     returns
     returns-2
-    count-in-requires
+    (λ c κs. search needs)
     returns-3
-    sub-judge-stream
-    part-judge-stream-start
-    part-judge-stream-end
-    judge-stream-requires
+    (λ c. search needs)
+    (λ c. search needs)
+    (λ c. search needs)
+    (λ c κs. search needs)
     returns-4)

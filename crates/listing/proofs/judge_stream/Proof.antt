@@ -4,12 +4,12 @@ use mathlib.Core.Path.{sym, ap, _∙_, subst}
 use mathlib.Core.Bool.{true}
 use native.Mathlib.Omega.{arith}
 use Rattle.models.specs.Answers.{refused}
-use Rattle.macaque_v.specs.ReadRun.{Stands, WholeSays}
+use Rattle.macaque_v.specs.inner.ReadRun.{ReadableAt, WholeSays}
 use Rattle.macaque_v.specs.Read.{startOf}
 use Rattle.macaque_v.specs.declared.Opening.the-variants.{First}
 use Rattle.macaque_v.specs.declared.read_run.Cursor.{Cursor}
 use Rattle.macaque_v.specs.declared.read_run.Aim.the-variants as OfAim
-use Rattle.macaque_v.proofs.ReadingAll.{start-stands}
+use Rattle.macaque_v.proofs.ReadingAll.{start-readable}
 use Rattle.macaque_v.proofs.ReadingEnd.{ends-right}
 use Rattle.listing.specs.Calls.{counted}
 use Rattle.listing.proofs.judge_stream.Statement.{statement}
@@ -21,20 +21,11 @@ told c =
     let a = c .before .before .before .args in
     subst (λ (from : Cursor). WholeSays true (a .stream .now) from (a .count) OfAim.Nothing (c .go-to-end .result)) (c .before .start .ensures) (c .go-to-end .ensures)
 
-start-requires : tie.Need-start-requires
-start-requires c κs = search needs
-
 go-to-end-requires : tie.Need-go-to-end-requires
 go-to-end-requires c κs =
     let a = c .before .before .args in
     let e = c .start .ensures in
-    (subst (Stands (a .stream .now)) (sym e) (start-stands (a .stream .now) First (omega arith)), omega (arith, ap (λ (at : Cursor). at .count) e))
-
-enum-known-r : tie.Need-enum-known-r
-enum-known-r c = search needs
-
-enum-told : tie.Need-enum-told
-enum-told c = search needs
+    (subst (ReadableAt (a .stream .now)) (sym e) (start-readable (a .stream .now) First (omega arith)), omega (arith, ap (λ (at : Cursor). at .count) e))
 
 returns : tie.Need-returns
 returns c =
@@ -50,4 +41,4 @@ returns-2 c =
 
 pub judge-stream-spec : {M : Type 1} → statement M
 judge-stream-spec =
-    tie.close (tie.spec start-requires go-to-end-requires enum-known-r enum-told returns returns-2)
+    tie.close (tie.spec (λ c κs. search needs) go-to-end-requires (λ c. search needs) (λ c. search needs) returns returns-2)

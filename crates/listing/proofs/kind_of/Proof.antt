@@ -2,7 +2,7 @@
 use mathlib.Core.Path.{sym, ap, _∙_}
 use mathlib.Core.Bool.{Bool}
 use native.Mathlib.Omega.{arith}
-use Rattle.coding.specs.Ahead.{bitsIn}
+use Rattle.coding.specs.inner.Ahead.{bitsIn}
 use Rattle.listing.specs.Rows.{kindRead}
 use Rattle.listing.proofs.Finding.{top-small, kind-none, kind-keep, kind-short, kind-same, kind-new}
 use Rattle.listing.proofs.kind_of.Statement.{statement}

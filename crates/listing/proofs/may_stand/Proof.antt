@@ -1,59 +1,41 @@
 -- `listing::may_stand` meets its contract. Assumes nothing.
 use borrow.Author.Needs.{needs}
-use mathlib.Core.Path.{_≡_, sym, ap, ap₂, _∙_}
-use mathlib.Core.Bool.{Bool, _||_}
-use Prim.Native.Nat.{_+_}
+use mathlib.Core.Path.{_≡_, refl}
+use mathlib.Core.Bool.{Bool, true, false}
+use Prim.Native.Nat.{ℕ, _+_, _*_, _/_}
 use native.Mathlib.Omega.{arith}
-use borrow.Author.Tests.{le-ltb, eq-eqb, ne-eqb}
-use lib.Dec.{ltb}
-use Rattle.listing.proofs.Finding.{too-many, too-far, outside, by-window, window-fits}
+use borrow.Author.Tests.{leb-true, leb-false, le-leb, lt-leb}
+use lib.Dec.{leb}
+use Rattle.models.specs.Limits.{mostValues}
+use Rattle.listing.specs.Calls.{mayStand}
 use Rattle.listing.proofs.may_stand.Statement.{statement}
 use Rattle.listing.proofs.may_stand.Tie as tie
 
-returns : tie.Need-returns
-returns c = too-many (c .before .before .args .room) (c .before .before .args .at) (omega arith)
+-- within whole bytes
+within : (place room : ℕ) → leb ((place + 7) / 8) room ≡ leb place (8 * room)
+within place room = go (leb place (8 * room)) refl
+  where
+    go : (t : Bool) → leb place (8 * room) ≡ t → leb ((place + 7) / 8) room ≡ t
+    go true e = le-leb ((place + 7) / 8) room (omega (arith, leb-true place (8 * room) e))
+    go false e = lt-leb ((place + 7) / 8) room (omega (arith, leb-false place (8 * room) e))
 
-mul-if2 : tie.Need-mul-if2
-mul-if2 c = search needs
+returns : tie.Need-returns
+unfolding mayStand
+returns c = rw (lt-leb (c .before .before .args .at .count) mostValues (omega arith))
 
 returns-2 : tie.Need-returns-2
+unfolding mayStand
 returns-2 c =
-    let a = c .before .before .before .before .before .args in
-    too-far (a .room) (a .at) (omega arith) (omega arith)
-
-add-if3 : tie.Need-add-if3
-add-if3 c = search needs
+    let at = c .before .before .before .before .before .args .at in
+    rw (le-leb (at .count) mostValues (omega arith), lt-leb (at .place) (45 * at .count) (omega arith))
 
 returns-3 : tie.Need-returns-3
+unfolding mayStand
 returns-3 c =
-    let a = c .before .before .before .before .before .before .before .args in
-    outside (a .room) (a .at) (omega arith) (omega arith) (omega arith)
-
-returns-4 : tie.Need-returns-4
-returns-4 c =
     let a = c .before .before .before .before .before .before .before .before .before .args in
-    sym (ap (λ (t : Bool). t || ltb (a .at .lead + a .at .trail) 32) (eq-eqb (a .at .lead) 255 (omega arith)))
-    ∙ by-window (a .room) (a .at) (omega arith) (omega arith) (omega arith)
-
-returns-5 : tie.Need-returns-5
-returns-5 c =
-    let a = c .before .before .before .before .before .before .before .before .before .before .before .args in
-    let set : ¬ (a .at .lead ≡ 255) = omega arith in
-    sym (ap₂ (λ (t u : Bool). t || u) (ne-eqb (a .at .lead) 255 set) (le-ltb (a .at .lead + a .at .trail) 32 (omega arith)))
-    ∙ by-window (a .room) (a .at) (omega arith) (omega arith) (omega arith)
-
-sub-result : tie.Need-sub-result
-sub-result c = search needs
-
-returns-6 : tie.Need-returns-6
-returns-6 c =
-    let a = c .before .before .before .before .before .before .before .before .before .before .before .before .before .args in
-    let set : ¬ (a .at .lead ≡ 255) = omega arith in
-    window-fits (a .at .lead) (a .at .trail) (omega arith)
-    ∙ sym (ap (λ (t : Bool). t || ltb (a .at .lead + a .at .trail) 32) (ne-eqb (a .at .lead) 255 set))
-    ∙ by-window (a .room) (a .at) (omega arith) (omega arith) (omega arith)
+    rw (le-leb (a .at .count) mostValues (omega arith), le-leb (a .at .place) (45 * a .at .count) (omega arith), within (a .at .place) (a .room))
 
 pub may-stand-spec : {M : Type 1} → statement M
 may-stand-spec =
     tie.close
-    (tie.spec returns mul-if2 returns-2 add-if3 returns-3 returns-4 returns-5 sub-result returns-6)
+    (tie.spec returns (λ c. search needs) returns-2 (λ c. search needs) (λ c. search needs) (λ c. search needs) (λ c. search needs) returns-3)

@@ -5,15 +5,6 @@ use Rattle.listing.proofs.Putting.{put-then, put-laid}
 use Rattle.listing.proofs.total.Statement.{statement}
 use Rattle.listing.proofs.total.Tie as tie
 
-slice-aggregate-word : tie.Need-slice-aggregate-word
-slice-aggregate-word c = search needs
-
-word-requires : tie.Need-word-requires
-word-requires c κs = search needs
-
-number-requires : tie.Need-number-requires
-number-requires c κs = search needs
-
 returns : tie.Need-returns
 unfolding totalText
 returns c =
@@ -24,4 +15,4 @@ returns c =
     put-laid (totalText (a .bits)) (put-then word number w (c .number .ensures .0))
 
 pub total-spec : {M : Type 1} → statement M
-total-spec = tie.close (tie.spec slice-aggregate-word word-requires number-requires returns)
+total-spec = tie.close (tie.spec (λ c. search needs) (λ c κs. search needs) (λ c κs. search needs) returns)

@@ -17,15 +17,6 @@ says c =
     let a = c .before .before .args in
     c .judge .ensures ∙ no-room-asked (a .model) (now (a .timestamps)) (saysEnds (a .ends)) (now (a .residuals)) refused (answered tt)
 
-judge-requires : tie.Need-judge-requires
-judge-requires c κs = search needs
-
-enum-known-r : tie.Need-enum-known-r
-enum-known-r c = search needs
-
-enum-told : tie.Need-enum-told
-enum-told c = search needs
-
 total-requires : tie.Need-total-requires
 total-requires c κs =
     let a = c .before .before .before .before .args in
@@ -42,4 +33,4 @@ returns-2 c = c .total .ensures ∙ when-passed _ _ (says (c .before .before .be
 
 pub sum-spec : {M : Type 1} → statement M
 sum-spec =
-    tie.close (tie.spec judge-requires enum-known-r enum-told total-requires returns returns-2)
+    tie.close (tie.spec (λ c κs. search needs) (λ c. search needs) (λ c. search needs) total-requires returns returns-2)

@@ -7,11 +7,8 @@ use Rattle.segments.proofs.counted_length.Tie as tie
 returns : tie.Need-returns
 returns c = rw (eq-eqb (c .before .args .count) 0 (c .if1 .taken))
 
-add-result : tie.Need-add-result
-add-result c = search needs
-
 returns-2 : tie.Need-returns-2
 returns-2 c = rw (ne-eqb (c .before .args .count) 0 (c .if1 .left))
 
 pub counted-length-spec : {M : Type 1} → statement M
-counted-length-spec = tie.close (tie.spec returns add-result returns-2)
+counted-length-spec = tie.close (tie.spec returns (λ c. search needs) returns-2)

@@ -5,15 +5,9 @@ use borrow.Author.Tests.{eq-eqb, ne-eqb}
 use Rattle.segments.proofs.form_of.Statement.{statement}
 use Rattle.segments.proofs.form_of.Tie as tie
 
-form-for-pmc-mean-requires : tie.Need-form-for-pmc-mean-requires
-form-for-pmc-mean-requires c κs = search needs
-
 returns : tie.Need-returns
 unfolding formOf
 returns c = rw (eq-eqb (c .before .before .args .model) 0 (c .before .if1 .taken)) (c .form-for-pmc-mean .ensures)
-
-form-for-swing-requires : tie.Need-form-for-swing-requires
-form-for-swing-requires c κs = search needs
 
 returns-2 : tie.Need-returns-2
 unfolding formOf
@@ -21,4 +15,4 @@ returns-2 c = rw (ne-eqb (c .before .before .args .model) 0 (c .before .if1 .lef
 
 pub form-of-spec : {M : Type 1} → statement M
 form-of-spec =
-    tie.close (tie.spec form-for-pmc-mean-requires returns form-for-swing-requires returns-2)
+    tie.close (tie.spec (λ c κs. search needs) returns (λ c κs. search needs) returns-2)

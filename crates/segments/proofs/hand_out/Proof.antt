@@ -1,18 +1,20 @@
 -- `segments::hand_out` meets its contract. Assumes nothing.
 use borrow.Author.Needs.{needs}
-use Rattle.segments.proofs.Laws.{neither}
+use Rattle.models.proofs.Tests.{neither}
+use Rattle.models.proofs.Judged.{accepted}
 use Prim.Native.Nat.{_≤_}
 use borrow.Author.Tests.{ltb-false}
-use Rattle.models.specs.Answers.{answered}
-use Rattle.segments.proofs.Laws.{it-holds, it-fails, length-counted}
+use Rattle.models.specs.Answers.{answered, judge}
+use Rattle.segments.proofs.Laws.{length-counted}
 use Rattle.segments.specs.Segment.{formOf, countedBytes}
-use Rattle.segments.specs.Calls.{storedBy, handedAnswer, handedValues, handedResiduals}
+use Rattle.segments.specs.Calls.{handedAnswer, handedValues, handedResiduals}
+use Rattle.segments.specs.inner.Aside.{storedBy}
 use Rattle.parameters.specs.Forms.{formBytes}
 use Rattle.bits.specs.Bits.{wholeBytes}
 use denote.Ref.{now}
 use lib.ListN.{length, take}
 use native.Mathlib.Omega.{arith}
-use mathlib.Core.Path.{_≡_, sym, ap, _∙_}
+use mathlib.Core.Path.{_≡_, refl, sym, ap, _∙_}
 use Rattle.segments.proofs.hand_out.Statement.{statement}
 use Rattle.segments.proofs.hand_out.Tie as tie
 
@@ -31,24 +33,12 @@ fits c =
     let held = neither _ _ (c .if1 .left) in
     (ltb-false _ _ (held .0), ltb-false _ _ (held .1))
 
-form-of-requires : tie.Need-form-of-requires
-form-of-requires c κs = search needs
-
-add-used : tie.Need-add-used
-add-used c = search needs
-
-length-of-requires : tie.Need-length-of-requires
-length-of-requires c κs = search needs
-
-counted-length-requires : tie.Need-counted-length-requires
-counted-length-requires c κs = search needs
-
 returns : tie.Need-returns
-unfolding storedBy handedAnswer handedValues handedResiduals
+unfolding storedBy handedAnswer handedValues handedResiduals judge
 returns c =
     let q = c .before in
     let short = rw (values-long q, residuals-long q) at (c .if1 .taken) in
-    (it-holds _ _ 4 _ short, (it-holds _ _ 4 _ short, it-holds _ _ 4 _ short))
+    rw short (refl, (refl, refl))
 
 put-requires : tie.Need-put-requires
 put-requires c κs = omega (arith, fits (c .before) .0, c .before .before .before .length-of .ensures)
@@ -58,33 +48,15 @@ put-counted-requires c κs =
     let at-start = c .before .before .before .before .before .before .before .before .before .before .before .before .before in
     (omega (arith, at-start .pre), (omega (arith, at-start .pre), (at-start .pre .1 .0, omega (arith, fits (c .before .before .before .before .before) .1, c .before .before .before .before .before .before .counted-length .ensures))))
 
-min-of-requires : tie.Need-min-of-requires
-min-of-requires c κs = search needs
-
-min-bits-requires : tie.Need-min-bits-requires
-min-bits-requires c κs = search needs
-
-max-of-requires : tie.Need-max-of-requires
-max-of-requires c κs = search needs
-
-max-bits-requires : tie.Need-max-bits-requires
-max-bits-requires c κs = search needs
-
-same-length : tie.Need-same-length
-same-length c = search needs
-
-same-length-2 : tie.Need-same-length-2
-same-length-2 c = search needs
-
 returns-2 : tie.Need-returns-2
 unfolding storedBy handedAnswer handedValues handedResiduals
 returns-2 c =
     let q = c .before .before .before .before .before .before .before .before .before .before .before .before .before in
     let room = rw (values-long q, residuals-long q) at (c .before .before .before .before .before .before .before .before .before .before .before .before .if1 .left) in (
-      ap answered (rw (c .max-bits .ensures, c .before .max-of .ensures, c .before .before .min-bits .ensures, c .before .before .before .min-of .ensures, values-long q, residuals-long q)) ∙ it-fails _ _ 4 _ room,
+      ap answered (rw (c .max-bits .ensures, c .before .max-of .ensures, c .before .before .min-bits .ensures, c .before .before .before .min-of .ensures, values-long q, residuals-long q)) ∙ accepted _ _ _ (room, tt),
       (
-        c .before .before .before .before .before .before .before .before .before .before .put .ensures ∙ rw (c .before .before .before .before .before .before .before .before .before .before .before .before .before .before .before .before .form-of .ensures) (it-fails _ _ 4 _ room),
-        c .before .before .before .before .before .before .put-counted .ensures ∙ it-fails _ _ 4 _ room,
+        c .before .before .before .before .before .before .before .before .before .before .put .ensures ∙ rw (c .before .before .before .before .before .before .before .before .before .before .before .before .before .before .before .before .form-of .ensures) (accepted _ _ _ (room, tt)),
+        c .before .before .before .before .before .before .put-counted .ensures ∙ accepted _ _ _ (room, tt),
       ),
     )
 
@@ -92,17 +64,17 @@ pub hand-out-spec : {M : Type 1} → statement M
 hand-out-spec =
     tie.close
     (tie.spec
-    form-of-requires
-    add-used
-    length-of-requires
-    counted-length-requires
+    (λ c κs. search needs)
+    (λ c. search needs)
+    (λ c κs. search needs)
+    (λ c κs. search needs)
     returns
     put-requires
     put-counted-requires
-    min-of-requires
-    min-bits-requires
-    max-of-requires
-    max-bits-requires
-    same-length
-    same-length-2
+    (λ c κs. search needs)
+    (λ c κs. search needs)
+    (λ c κs. search needs)
+    (λ c κs. search needs)
+    (λ c. search needs)
+    (λ c. search needs)
     returns-2)

@@ -16,9 +16,6 @@ returns : tie.Need-returns
 unfolding countedBytes
 returns c = rw (eq-eqb (c .before .before .before .args .count) 0 (c .if1 .taken))
 
-cast-out : tie.Need-cast-out
-cast-out c = search needs
-
 room : (c : tie.Else1) → c .before .before .before .args .used + 1 ≤ length (c .before .before .before .args .out .now)
 room c = rw (ne-eqb (c .before .before .before .args .count) 0 (c .if1 .left)) at (c .before .before .before .pre .1 .1 .1)
 
@@ -58,4 +55,4 @@ returns-2 c =
 
 pub put-counted-spec : {M : Type 1} → statement M
 put-counted-spec =
-    tie.close (tie.spec returns cast-out slice-write-out copy-requires same-length returns-2)
+    tie.close (tie.spec returns (λ c. search needs) slice-write-out copy-requires same-length returns-2)

@@ -1,16 +1,16 @@
 -- `segments::write_with` meets its contract. Assumes nothing.
 use borrow.Author.Needs.{needs}
 use Rattle.segments.specs.Calls.{Stored, handedAnswer, handedValues, handedResiduals}
-use Rattle.segments.proofs.Laws.{both-fail, not-true}
 use Rattle.segments.specs.Segment.{residualsOn}
 use Rattle.macaque_v.specs.State.{writerOf}
 use Rattle.models.specs.declared.ErrorBound.{ErrorBound}
-use Rattle.models.specs.Answers.{SaidOn, refusedOn}
 use lib.Dec.{ltb}
 use mathlib.Core.Bool.{false, _||_}
-use Rattle.segments.proofs.Laws.{neither}
-use Rattle.segments.specs.Calls.{storedBy, storedOf}
-use Rattle.segments.specs.Segment.{lastOf, lastGiven}
+use Rattle.models.proofs.Tests.{neither, not-of}
+use Rattle.models.proofs.Judged.{accepted as allowed, not-answered-on}
+use Rattle.segments.specs.Calls.{storedOf, writeCauses}
+use Rattle.segments.specs.inner.Aside.{storedBy}
+use Rattle.segments.specs.Segment.{mostResiduals, lastOf, lastGiven}
 use Rattle.parameters.proofs.ReadBack.{plain-small}
 use Rattle.macaque_v.specs.declared.MacaqueV.{MacaqueV}
 use borrow.Author.Tests.{ltb-false}
@@ -21,7 +21,7 @@ use Rattle.segments.proofs.Aside.{opened-allowed, written-aside, aside-
 use Rattle.segments.specs.Calls.{writeAnswer, valuesAfter, residualsAfter}
 use Rattle.macaque_v.specs.Calls as stream
 use Rattle.macaque_v.specs.Calls.{saysWrite}
-use Rattle.models.specs.Answers.{judge, answeredOn}
+use Rattle.models.specs.Answers.{judge, answeredOn, NoneHolds}
 use denote.Ref.{now}
 use lib.ListN.{length, replicate, length-replicate}
 use mathlib.Core.Path.{_≡_, refl, sym, ap, _∙_}
@@ -49,11 +49,11 @@ module _ (c : tie.After-stream2) where
   abbrev xs : List ℕ
   xs = now (start .args .residuals)
 
-  within : (ltb 1 (start .args .model) || ltb 255 (length xs)) ≡ false
+  within : (ltb 1 (start .args .model) || ltb mostResiduals (length xs)) ≡ false
   within = c .before .before .before .if1 .left
 
-  few : length xs ≤ 255
-  few = ltb-false 255 (length xs) (neither (ltb 1 (start .args .model)) (ltb 255 (length xs)) within .1)
+  few : length xs ≤ mostResiduals
+  few = ltb-false mostResiduals (length xs) (neither (ltb 1 (start .args .model)) (ltb mostResiduals (length xs)) within .1)
 
   small : last < 2 ^ 32
   unfolding lastOf
@@ -90,29 +90,11 @@ module _ (c : tie.After-after) where
   same-stored =
       aside-stored (b p) (last p) (small p) (xs p) (few p) m (start p .pre) aside aside-room n wrote (start p .args .model) (start p .args .first-value) (start p .args .last-value) refl
 
-never : (k : ℕ) (s w : MacaqueV) → _≡_ {A = SaidOn MacaqueV MacaqueV} (refusedOn k s) (answeredOn w) → ⊥
-never k s w e = let z : _≡_ {A = ℕ} 0 1 = cc in omega arith
-
 returns : tie.Need-returns
 unfolding writeAnswer valuesAfter residualsAfter judge
 returns c =
     let s = c .before .before .before .before in
     rw (opened-allowed _ _ _ (s .pre), c .if1 .taken) (refl, (refl, refl))
-
-slice-aggregate-compress-values : tie.Need-slice-aggregate-compress-values
-slice-aggregate-compress-values c = search needs
-
-compress-values-requires : tie.Need-compress-values-requires
-compress-values-requires c κs = search needs
-
-enum-known-r : tie.Need-enum-known-r
-enum-known-r c = search needs
-
-enum-known-after : tie.Need-enum-known-after
-enum-known-after c = search needs
-
-slice-aggregate-hand-out : tie.Need-slice-aggregate-hand-out
-slice-aggregate-hand-out c = search needs
 
 hand-out-requires : tie.Need-hand-out-requires
 hand-out-requires c κs =
@@ -120,13 +102,7 @@ hand-out-requires c κs =
     rw (c .before .before .before .before .before .before .before .compress-values .ensures .1) (placed q, (omega (arith, counted q, few (p q)), omega (arith, long q)))
 
 returns-2 : tie.Need-returns-2
-returns-2 c = absurd (never _ _ _ (sym (ap saysWrite (c .before .r .given .1)) ∙ accepted (c .before .before .before)))
-
-same-length : tie.Need-same-length
-same-length c = search needs
-
-same-length-2 : tie.Need-same-length-2
-same-length-2 c = search needs
+returns-2 c = absurd (not-answered-on (sym (ap saysWrite (c .before .r .given .1)) ∙ accepted (c .before .before .before)))
 
 returns-3 : tie.Need-returns-3
 unfolding writeAnswer valuesAfter residualsAfter
@@ -135,13 +111,13 @@ returns-3 c =
     let a = start (p q) .args in
     let v = now (a .values-out) in
     let r = now (a .residuals-out) in
-    let ok = not-true (opened-allowed _ _ _ (start (p q) .pre)) in
+    let free : NoneHolds (writeCauses (a .model) (b (p q)) (xs (p q))) = (not-of (opened-allowed _ _ _ (start (p q) .pre)), (within (p q), tt)) in
     let same = ap (storedBy (a .model) (a .first-value) (a .last-value) (n q)) (c .before .before .before .before .before .before .before .before .before .before .before .before .compress-values .ensures .1) ∙ same-stored q in
     let said = c .before .before .before .before .hand-out .ensures in (
-      said .0 ∙ ap (λ (w : Stored). handedAnswer w v r) same ∙ both-fail _ _ 1 3 _ _ ok (within (p q)),
+      said .0 ∙ ap (λ (w : Stored). handedAnswer w v r) same ∙ allowed _ _ _ free,
       (
-        said .1 .0 ∙ ap (λ (w : Stored). handedValues w v r) same ∙ both-fail _ _ 1 3 _ _ ok (within (p q)),
-        said .1 .1 ∙ ap (λ (w : Stored). handedResiduals w v r) same ∙ both-fail _ _ 1 3 _ _ ok (within (p q)),
+        said .1 .0 ∙ ap (λ (w : Stored). handedValues w v r) same ∙ allowed _ _ _ free,
+        said .1 .1 ∙ ap (λ (w : Stored). handedResiduals w v r) same ∙ allowed _ _ _ free,
       ),
     )
 
@@ -150,13 +126,13 @@ write-with-spec =
     tie.close
     (tie.spec
     returns
-    slice-aggregate-compress-values
-    compress-values-requires
-    enum-known-r
-    enum-known-after
-    slice-aggregate-hand-out
+    (λ c. search needs)
+    (λ c κs. search needs)
+    (λ c. search needs)
+    (λ c. search needs)
+    (λ c. search needs)
     hand-out-requires
     returns-2
-    same-length
-    same-length-2
+    (λ c. search needs)
+    (λ c. search needs)
     returns-3)

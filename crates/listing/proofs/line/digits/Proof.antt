@@ -20,27 +20,9 @@ abbrev μ-loop : tie.MeasureT-loop
 loop-holds : tie.Need-loop-holds Inv-loop μ-loop
 loop-holds c = (omega arith, refl)
 
-sub-i : tie.Need-sub-i Inv-loop μ-loop
-sub-i c = search needs
-
-rem-digit : tie.Need-rem-digit Inv-loop μ-loop
-rem-digit c = search needs
-
 digit-requires : tie.Need-digit-requires Inv-loop μ-loop
 digit-requires c κs =
     omega (arith, mod-lt (c .before .loop .rest) (c .before .before .pre .0))
-
-add-line : tie.Need-add-line Inv-loop μ-loop
-add-line c = search needs
-
-element-write-line : tie.Need-element-write-line Inv-loop μ-loop
-element-write-line c = search needs
-
-div-rest : tie.Need-div-rest Inv-loop μ-loop
-div-rest c = search needs
-
-loop-less : tie.Need-loop-less Inv-loop μ-loop
-loop-less c = search needs
 
 loop-again : tie.Need-loop-again Inv-loop μ-loop
 loop-again c =
@@ -69,12 +51,12 @@ digits-spec =
     Inv-loop
     μ-loop
     loop-holds
-    sub-i
-    rem-digit
+    (λ c. search needs)
+    (λ c. search needs)
     digit-requires
-    add-line
-    element-write-line
-    div-rest
-    loop-less
+    (λ c. search needs)
+    (λ c. search needs)
+    (λ c. search needs)
+    (λ c. search needs)
     loop-again
     returns)

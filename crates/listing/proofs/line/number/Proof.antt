@@ -9,24 +9,6 @@ use Rattle.listing.proofs.Putting.{put-byte, length-digits}
 use Rattle.listing.proofs.line.number.Statement.{statement}
 use Rattle.listing.proofs.line.number.Tie as tie
 
-places-requires : tie.Need-places-requires
-places-requires c κs = search needs
-
-digits-requires : tie.Need-digits-requires
-digits-requires c κs = search needs
-
-add-line : tie.Need-add-line
-add-line c = search needs
-
-element-write-line : tie.Need-element-write-line
-element-write-line c = search needs
-
-add-result : tie.Need-add-result
-add-result c = search needs
-
-add-result-2 : tie.Need-add-result-2
-add-result-2 c = search needs
-
 returns : tie.Need-returns
 returns c =
     let a = c .before .before .before .args in
@@ -43,10 +25,10 @@ pub number-spec : {M : Type 1} → statement M
 number-spec =
     tie.close
     (tie.spec
-    places-requires
-    digits-requires
-    add-line
-    element-write-line
-    add-result
-    add-result-2
+    (λ c κs. search needs)
+    (λ c κs. search needs)
+    (λ c. search needs)
+    (λ c. search needs)
+    (λ c. search needs)
+    (λ c. search needs)
     returns)

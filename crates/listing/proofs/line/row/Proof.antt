@@ -7,21 +7,6 @@ use Rattle.listing.proofs.Putting.{put-then, put-laid}
 use Rattle.listing.proofs.line.row.Statement.{statement}
 use Rattle.listing.proofs.line.row.Tie as tie
 
-number-requires : tie.Need-number-requires
-number-requires c κs = search needs
-
-kind-word-requires : tie.Need-kind-word-requires
-kind-word-requires c κs = search needs
-
-lead-requires : tie.Need-lead-requires
-lead-requires c κs = search needs
-
-number-requires-2 : tie.Need-number-requires-2
-number-requires-2 c κs = search needs
-
-value-requires : tie.Need-value-requires
-value-requires c κs = search needs
-
 returns : tie.Need-returns
 unfolding rowText
 returns c =
@@ -40,9 +25,9 @@ pub row-spec : {M : Type 1} → statement M
 row-spec =
     tie.close
     (tie.spec
-    number-requires
-    kind-word-requires
-    lead-requires
-    number-requires-2
-    value-requires
+    (λ c κs. search needs)
+    (λ c κs. search needs)
+    (λ c κs. search needs)
+    (λ c κs. search needs)
+    (λ c κs. search needs)
     returns)

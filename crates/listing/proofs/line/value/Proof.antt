@@ -7,18 +7,6 @@ use Rattle.listing.proofs.Putting.{put-byte, length-digits}
 use Rattle.listing.proofs.line.value.Statement.{statement}
 use Rattle.listing.proofs.line.value.Tie as tie
 
-digits-requires : tie.Need-digits-requires
-digits-requires c κs = search needs
-
-add-line : tie.Need-add-line
-add-line c = search needs
-
-element-write-line : tie.Need-element-write-line
-element-write-line c = search needs
-
-add-result : tie.Need-add-result
-add-result c = search needs
-
 returns : tie.Need-returns
 returns c =
     let a = c .before .before .args in (
@@ -27,4 +15,4 @@ returns c =
     )
 
 pub value-spec : {M : Type 1} → statement M
-value-spec = tie.close (tie.spec digits-requires add-line element-write-line add-result returns)
+value-spec = tie.close (tie.spec (λ c κs. search needs) (λ c. search needs) (λ c. search needs) (λ c. search needs) returns)

@@ -9,7 +9,7 @@ use borrow.Rule.Slice.PartMut.{putMid}
 use lib.ListN.{length, take, drop}
 use lib.Seq.{length-take-le}
 use Rattle.models.specs.Answers.{answered}
-use Rattle.models.specs.Refusals.{number}
+use Rattle.models.specs.Refusals.{faultOf}
 use Rattle.models.specs.Calls.{saysGrid}
 use Rattle.parameters.specs.Calls.{saysEnds}
 use Rattle.macaque_v.specs.Read.{drawn, drawnIn}
@@ -19,36 +19,6 @@ use Rattle.segment_grid.proofs.Owned.{in-order-take, length-model}
 use Rattle.segment_grid.proofs.Placed.{still-long, when-drawn, when-stopped}
 use Rattle.segment_grid.proofs.draw.draw.Statement.{statement}
 use Rattle.segment_grid.proofs.draw.draw.Tie as tie
-
-owned-requires : tie.Need-owned-requires
-owned-requires c κs = search needs
-
-first-of-requires : tie.Need-first-of-requires
-first-of-requires c κs = search needs
-
-last-of-requires : tie.Need-last-of-requires
-last-of-requires c κs = search needs
-
-mul-draw-residuals : tie.Need-mul-draw-residuals
-mul-draw-residuals c = search needs
-
-sub-draw-residuals : tie.Need-sub-draw-residuals
-sub-draw-residuals c = search needs
-
-part-draw-residuals-start : tie.Need-part-draw-residuals-start
-part-draw-residuals-start c = search needs
-
-part-draw-residuals-end : tie.Need-part-draw-residuals-end
-part-draw-residuals-end c = search needs
-
-draw-residuals-requires : tie.Need-draw-residuals-requires
-draw-residuals-requires c κs = search needs
-
-enum-known-r : tie.Need-enum-known-r
-enum-known-r c = search needs
-
-enum-told : tie.Need-enum-told
-enum-told c = search needs
 
 slice-aggregate-draw-model : tie.Need-slice-aggregate-draw-model
 slice-aggregate-draw-model c = sym (length-take-le (c .before .before .before .before .before .before .before .before .before .owned .result) (now (c .before .before .before .before .before .before .before .before .before .before .before .before .args .timestamps)) (omega (arith, c .before .before .before .before .before .before .before .before .before .owned .ensures)))
@@ -65,9 +35,6 @@ draw-model-requires c κs =
     let len : length (take n ts) ≡ n = length-take-le n ts (omega (arith, is)) in
     (in-order-take n ts (p .3), omega (arith, len, is, p .1), omega (arith, len, still-long n out le (c .before .before .before .before .before .before .draw-residuals .last .1 .1 .0)))
 
-same-length : tie.Need-same-length
-same-length c = search needs
-
 returns : tie.Need-returns
 returns c =
     let a = c .before .before .before .before .before .before .before .before .before .before .before .before .args in
@@ -81,10 +48,7 @@ returns c =
     let q = residualsIn (now (a .residuals)) (ends .1) in
     let res = c .before .before .before .before .before .draw-residuals in
     let last = c .before .before .before .before .before .before .before .last-of .ensures in
-    when-stopped n out le q (number (c .before .r .given .0 .0)) (sym (ap saysGrid (c .before .r .given .1)) ∙ (rw last at (res .ensures .0))) (modelValues (a .model) (ownedTimes ts (now (a .residuals))) ends) (res .last .1 .1 .0) (rw last at (res .ensures .1))
-
-same-length-2 : tie.Need-same-length-2
-same-length-2 c = search needs
+    when-stopped n out le q (faultOf (c .before .r .given .0 .0)) (sym (ap saysGrid (c .before .r .given .1)) ∙ (rw last at (res .ensures .0))) (modelValues (a .model) (ownedTimes ts (now (a .residuals))) ends) (res .last .1 .1 .0) (rw last at (res .ensures .1))
 
 returns-2 : tie.Need-returns-2
 returns-2 c =
@@ -112,19 +76,19 @@ pub draw-spec : {M : Type 1} → statement M
 draw-spec =
     tie.close
     (tie.spec
-    owned-requires
-    first-of-requires
-    last-of-requires
-    mul-draw-residuals
-    sub-draw-residuals
-    part-draw-residuals-start
-    part-draw-residuals-end
-    draw-residuals-requires
-    enum-known-r
-    enum-told
+    (λ c κs. search needs)
+    (λ c κs. search needs)
+    (λ c κs. search needs)
+    (λ c. search needs)
+    (λ c. search needs)
+    (λ c. search needs)
+    (λ c. search needs)
+    (λ c κs. search needs)
+    (λ c. search needs)
+    (λ c. search needs)
     slice-aggregate-draw-model
     draw-model-requires
-    same-length
+    (λ c. search needs)
     returns
-    same-length-2
+    (λ c. search needs)
     returns-2)

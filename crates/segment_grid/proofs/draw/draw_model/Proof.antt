@@ -6,7 +6,7 @@ use native.Mathlib.Omega.{arith}
 use denote.Ref.{now}
 use borrow.Author.Tests.{eq-eqb, ne-eqb}
 use lib.ListN.{length}
-use Rattle.lines.specs.Values.{drawn}
+use Rattle.lines.specs.Values.{lineDrawn}
 use Rattle.lines.proofs.Ordered.{in-order-at}
 use Rattle.pmc_mean.specs.Grid.{filled}
 use Rattle.segment_grid.specs.Segment.{startOf, endOf, modelValues}
@@ -25,42 +25,15 @@ end c =
     let ts = now (c .before .before .before .before .before .before .args .times) in
     c .point-of2 .ensures ∙ rw (passed-on ts (length ts - 1) (c .before .time-at2 .result) (p .0) (omega (arith, p .1)) (c .before .time-at2 .ensures))
 
-time-at-requires : tie.Need-time-at-requires
-time-at-requires c κs = search needs
-
-point-of-requires : tie.Need-point-of-requires
-point-of-requires c κs = search needs
-
-sub-time-at : tie.Need-sub-time-at
-sub-time-at c = search needs
-
-time-at-requires-2 : tie.Need-time-at-requires-2
-time-at-requires-2 c κs = search needs
-
-point-of-requires-2 : tie.Need-point-of-requires-2
-point-of-requires-2 c κs = search needs
-
 line-through-requires : tie.Need-line-through-requires
 line-through-requires c κs =
     let p = c .before .before .before .before .before .before .pre in
     let ts = now (c .before .before .before .before .before .before .args .times) in
     (rw (start (c .before .before)) (in-order-at ts 0 (p .0) (p .1)), rw (end c) (in-order-at ts (length ts - 1) (p .0) (omega (arith, p .1))))
 
-draw-requires : tie.Need-draw-requires
-draw-requires c κs = search needs
-
-same-length : tie.Need-same-length
-same-length c = search needs
-
 returns : tie.Need-returns
-unfolding modelValues drawn
+unfolding modelValues lineDrawn
 returns c = rw (eq-eqb (c .before .before .before .before .before .before .before .before .before .before .before .args .model) 1 (c .before .before .before .before .before .before .before .before .before .if1 .taken)) (c .before .before .draw .ensures ∙ rw (c .before .before .before .before .line-through .ensures, start (c .before .before .before .before .before .before .before), end (c .before .before .before .before .before)))
-
-fill-requires : tie.Need-fill-requires
-fill-requires c κs = search needs
-
-same-length-2 : tie.Need-same-length-2
-same-length-2 c = search needs
 
 returns-2 : tie.Need-returns-2
 unfolding modelValues filled
@@ -70,15 +43,15 @@ pub draw-model-spec : {M : Type 1} → statement M
 draw-model-spec =
     tie.close
     (tie.spec
-    time-at-requires
-    point-of-requires
-    sub-time-at
-    time-at-requires-2
-    point-of-requires-2
+    (λ c κs. search needs)
+    (λ c κs. search needs)
+    (λ c. search needs)
+    (λ c κs. search needs)
+    (λ c κs. search needs)
     line-through-requires
-    draw-requires
-    same-length
+    (λ c κs. search needs)
+    (λ c. search needs)
     returns
-    fill-requires
-    same-length-2
+    (λ c κs. search needs)
+    (λ c. search needs)
     returns-2)

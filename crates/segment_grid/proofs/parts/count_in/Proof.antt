@@ -17,18 +17,9 @@ none-counts (b ∷ bs) e = absurd (omega (arith, e))
 returns : tie.Need-returns
 returns c = none-counts (now (c .before .args .residuals)) (c .if1 .taken)
 
-sub-result : tie.Need-sub-result
-sub-result c = search needs
-
-shared-slice-read-result : tie.Need-shared-slice-read-result
-shared-slice-read-result c = search needs
-
 cast-result : tie.Need-cast-result
 cast-result c = record { fits = omega (arith, c .shared-slice-known .given (length (now (c .before .before .args .residuals)) - 1)) }
 
-returns-2 : tie.Need-returns-2
-returns-2 c = search needs
-
 pub count-in-spec : {M : Type 1} → statement M
 count-in-spec =
-    tie.close (tie.spec returns sub-result shared-slice-read-result cast-result returns-2)
+    tie.close (tie.spec returns (λ c. search needs) (λ c. search needs) cast-result (λ c. search needs))

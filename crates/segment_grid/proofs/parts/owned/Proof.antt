@@ -4,14 +4,8 @@ use mathlib.Core.Path.{_∙_}
 use Rattle.segment_grid.proofs.parts.owned.Statement.{statement}
 use Rattle.segment_grid.proofs.parts.owned.Tie as tie
 
-count-in-requires : tie.Need-count-in-requires
-count-in-requires c κs = search needs
-
-less-requires : tie.Need-less-requires
-less-requires c κs = search needs
-
 returns : tie.Need-returns
 returns c = c .less .ensures ∙ rw (c .before .count-in .ensures)
 
 pub owned-spec : {M : Type 1} → statement M
-owned-spec = tie.close (tie.spec count-in-requires less-requires returns)
+owned-spec = tie.close (tie.spec (λ c κs. search needs) (λ c κs. search needs) returns)

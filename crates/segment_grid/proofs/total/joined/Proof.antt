@@ -7,11 +7,8 @@ use Rattle.segment_grid.proofs.total.joined.Tie as tie
 returns : tie.Need-returns
 returns c = rw (eq-eqb (c .before .args .count) 0 (c .if1 .taken))
 
-plus-requires : tie.Need-plus-requires
-plus-requires c κs = search needs
-
 returns-2 : tie.Need-returns-2
 returns-2 c = rw (ne-eqb (c .before .before .args .count) 0 (c .before .if1 .left)) (c .plus .ensures)
 
 pub joined-spec : {M : Type 1} → statement M
-joined-spec = tie.close (tie.spec returns plus-requires returns-2)
+joined-spec = tie.close (tie.spec returns (λ c κs. search needs) returns-2)

@@ -25,31 +25,13 @@ end c =
     let ts = now (c .before .before .before .args .times) in
     passed-on ts (length ts - 1) (c .time-at2 .result) (p .0) (omega (arith, p .1)) (c .time-at2 .ensures)
 
-time-at-requires : tie.Need-time-at-requires
-time-at-requires c κs = search needs
-
-sub-time-at : tie.Need-sub-time-at
-sub-time-at c = search needs
-
-time-at-requires-2 : tie.Need-time-at-requires-2
-time-at-requires-2 c κs = search needs
-
-sum-by-average-requires : tie.Need-sum-by-average-requires
-sum-by-average-requires c κs = search needs
-
 returns : tie.Need-returns
 unfolding modelSum
 returns c = rw (eq-eqb (c .before .before .before .before .before .args .model) 1 (c .before .before .before .before .if1 .taken), c .before .if2 .taken) (c .sum-by-average .ensures ∙ rw (start (c .before .before .before), end (c .before .before)))
 
-sum-over-requires : tie.Need-sum-over-requires
-sum-over-requires c κs = search needs
-
 returns-2 : tie.Need-returns-2
 unfolding modelSum
 returns-2 c = rw (eq-eqb (c .before .before .before .before .before .args .model) 1 (c .before .before .before .before .if1 .taken), c .before .if2 .left) (c .sum-over .ensures ∙ rw (start (c .before .before .before), end (c .before .before)))
-
-sum-requires : tie.Need-sum-requires
-sum-requires c κs = search needs
 
 returns-3 : tie.Need-returns-3
 unfolding modelSum
@@ -59,12 +41,12 @@ pub of-model-spec : {M : Type 1} → statement M
 of-model-spec =
     tie.close
     (tie.spec
-    time-at-requires
-    sub-time-at
-    time-at-requires-2
-    sum-by-average-requires
+    (λ c κs. search needs)
+    (λ c. search needs)
+    (λ c κs. search needs)
+    (λ c κs. search needs)
     returns
-    sum-over-requires
+    (λ c κs. search needs)
     returns-2
-    sum-requires
+    (λ c κs. search needs)
     returns-3)

@@ -8,15 +8,6 @@ use Rattle.segment_grid.proofs.Owned.{in-order-take}
 use Rattle.segment_grid.proofs.total.total.Statement.{statement}
 use Rattle.segment_grid.proofs.total.total.Tie as tie
 
-owned-requires : tie.Need-owned-requires
-owned-requires c κs = search needs
-
-first-of-requires : tie.Need-first-of-requires
-first-of-requires c κs = search needs
-
-last-of-requires : tie.Need-last-of-requires
-last-of-requires c κs = search needs
-
 slice-aggregate-of-model : tie.Need-slice-aggregate-of-model
 slice-aggregate-of-model c = sym (length-take-le (c .before .before .before .owned .result) (now (c .before .before .before .before .before .args .timestamps)) (omega (arith, c .before .before .before .owned .ensures)))
 
@@ -26,9 +17,6 @@ of-model-requires c κs =
     let owned = c .before .before .before .owned in
     (in-order-take (owned .result) ts (c .before .before .before .before .before .pre .0), omega (arith, length-take-le (owned .result) ts (omega (arith, owned .ensures)), c .before .before .before .before .before .pre .1, owned .ensures))
 
-add-residuals-requires : tie.Need-add-residuals-requires
-add-residuals-requires c κs = search needs
-
 returns : tie.Need-returns
 returns c = c .add-residuals .ensures ∙ rw (c .before .of-model .ensures, c .before .before .before .last-of .ensures, c .before .before .before .before .first-of .ensures, c .before .before .before .before .before .owned .ensures)
 
@@ -36,10 +24,10 @@ pub total-spec : {M : Type 1} → statement M
 total-spec =
     tie.close
     (tie.spec
-    owned-requires
-    first-of-requires
-    last-of-requires
+    (λ c κs. search needs)
+    (λ c κs. search needs)
+    (λ c κs. search needs)
     slice-aggregate-of-model
     of-model-requires
-    add-residuals-requires
+    (λ c κs. search needs)
     returns)

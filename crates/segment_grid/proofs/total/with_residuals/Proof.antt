@@ -8,21 +8,6 @@ use Rattle.segment_grid.specs.Calls.{withResiduals}
 use Rattle.segment_grid.proofs.total.with_residuals.Statement.{statement}
 use Rattle.segment_grid.proofs.total.with_residuals.Tie as tie
 
-enum-known-of-residuals : tie.Need-enum-known-of-residuals
-enum-known-of-residuals c = search needs
-
-enum-known-of-residuals-2 : tie.Need-enum-known-of-residuals-2
-enum-known-of-residuals-2 c = search needs
-
-enum-known-of-model : tie.Need-enum-known-of-model
-enum-known-of-model c = search needs
-
-enum-known-of-model-2 : tie.Need-enum-known-of-model-2
-enum-known-of-model-2 c = search needs
-
-joined-requires : tie.Need-joined-requires
-joined-requires c κs = search needs
-
 returns : tie.Need-returns
 returns c =
     let a = c .before .before .before .args in
@@ -42,11 +27,11 @@ pub with-residuals-spec : {M : Type 1} → statement M
 with-residuals-spec =
     tie.close
     (tie.spec
-    enum-known-of-residuals
-    enum-known-of-residuals-2
-    enum-known-of-model
-    enum-known-of-model-2
-    joined-requires
+    (λ c. search needs)
+    (λ c. search needs)
+    (λ c. search needs)
+    (λ c. search needs)
+    (λ c κs. search needs)
     returns
     returns-2
     returns-3)
