@@ -16,9 +16,9 @@ use mir.ValLaws.{toZ-ofZ}
 use Rattle.models.specs.Bound.{BoundHeld}
 use Rattle.models.specs.declared.ErrorBound.{ErrorBound}
 use Rattle.models.specs.declared.ErrorBound.the-variants.{Lossless, Absolute, Relative}
-use Rattle.models.proofs.Judged.{by-test}
+use Rattle.models.proofs.Tests.{by-test}
 use Rattle.exports.specs.Face.{boundOf, wordOf}
-use Rattle.exports.specs.Words.{kindOf, bitsOf, small, boundIn, timeIn, wordOfTime}
+use Rattle.exports.specs.Words.{boundKind, boundBits, small, boundIn, timeIn, wordOfTime}
 use Rattle.exports.proofs.Signed.{read-signed}
 
 -- ---- a 32-bit value
@@ -29,7 +29,7 @@ pub value-back : (x : Float) → T (fits binary32 x) → ofBits binary32 (toBits
 value-back x ok = ap (ofBits binary32) (mod-eq-of-lt (toBits-lt binary32 x ok)) ∙ ofBits-toBits binary32 x ok
 
 -- ---- a bound
-pub bound-back : (b : ErrorBound) → BoundHeld b → boundIn (kindOf b) (bitsOf b) ≡ b
+pub bound-back : (b : ErrorBound) → BoundHeld b → boundIn (boundKind b) (boundBits b) ≡ b
 unfolding boundIn boundOf
 bound-back Lossless ok = refl
 bound-back (Absolute e) ok = rw (is-small e ok) (ap Absolute (ofBits-toBits binary32 e ok))

@@ -4,7 +4,7 @@ use mathlib.Core.Bool.{true, _&&_}
 use Prim.Native.Nat.{ℕ, _%_, _^_}
 use native.Mathlib.Nat.{mod-eq-of-lt}
 use borrow.Author.Tests.{ltb-true}
-use Rattle.models.proofs.Laws.{and-left, and-right}
+use Rattle.models.proofs.Tests.{and-left, and-right}
 use Rattle.exports.specs.Face.{boundOf}
 use Rattle.exports.specs.Words.{small, boundIn}
 

@@ -1,5 +1,5 @@
--- A state's row goes on: where the words of the state that a call hands out are read back as it, the row that the call left stands for that state, and so does
--- the row after any list of such calls. Assumes nothing.
+-- A row of so many words that stands for a state goes on: the row that a call left stands for the state that the call handed out, whatever words it held
+-- before, and so does the row after any list of such calls. Assumes nothing.
 use mathlib.Core.Path.{_≡_, refl, ap, _∙_}
 use mathlib.Core.Bool.{true, false, not}
 use mathlib.Core.List.{List, [], _∷_, _++_, foldl}
@@ -7,45 +7,66 @@ use Prim.Native.Nat.{ℕ, _≤_}
 use native.Mathlib.Omega.{arith}
 use borrow.Author.Tests.{le-leb}
 use lib.ListN.{length, drop, length-append}
-use Rattle.models.specs.Answers.{Stepped, stateAfter, Cause, _when_, judge, judged, judgedOn}
+use Rattle.models.specs.Answers.{Stepped, failing, stateAfter, SaidOn, stateless, Cause, _when_, judge, judged, judgedOn, NoneHolds}
 use Rattle.models.specs.Bound.{boundAllowed}
 use Rattle.models.specs.declared.ErrorBound.{ErrorBound}
-use Rattle.models.proofs.Judged.{NoneHolds}
-use Rattle.exports.specs.Face.{rowAfter, rowOn, stepRow}
+use Rattle.exports.specs.Face.{rowIn, rowAfter, stepRow}
 
--- ---- after the call that hands out a fresh state
-pub new-stands : {S : Type 0} (need : ℕ) (words : S → List ℕ) (read : List ℕ → S) (row : List ℕ) (b : ErrorBound) (s : S) → boundAllowed b ≡ true → need ≤ length row → ((rest : List ℕ) → read (words s ++ rest) ≡ s)
-    → read (rowAfter need words row (judged (1 when not (boundAllowed b) ∷ []) s)) ≡ s
-unfolding judge rowAfter
-new-stands need words read row b s allowed room back = rw (allowed, le-leb need (length row) room) (back (drop (length (words s)) row))
+-- its words of what a step gives, and the state that words stand for. A state whose fields are of their formats is read back from its words, whatever
+-- stands behind them; and of whatever words, what is read is such a state.
+pub record StateRow (S : Type 0) : Type 1 where
+  pub size : ℕ
+  pub words : Stepped S → List ℕ
+  pub read : List ℕ → S
+  pub Formed : S → Type 0
+  pub long : (t : Stepped S) → length (words t) ≡ size
+  pub back : (t : Stepped S) (rest : List ℕ) → Formed (t .state) → read (words t ++ rest) ≡ t .state
+  pub formed : (row : List ℕ) → Formed (read row)
 
--- ---- after a step: a refused one leaves the row, and hands back the state that the row stands for
-module _ {S : Type 0} (need : ℕ) (words : Stepped S → List ℕ) (read : List ℕ → S) (row : List ℕ) (step : Stepped S) (room : need ≤ length row) where
-  said-stands : (causes : List Cause) → (NoneHolds causes → (rest : List ℕ) → read (words step ++ rest) ≡ step .state)
-      → read (rowOn need words row (judgedOn (read row) causes step)) ≡ stateAfter (judgedOn (read row) causes step)
-  unfolding judge
-  said-stands [] back = back tt (drop need row)
-  said-stands (n when true ∷ causes) back = refl
-  said-stands (n when false ∷ causes) back = said-stands causes (λ none. back (refl, none))
+-- the words of a fresh state
+abbrev pub freshWords : {S : Type 0} → StateRow S → S → List ℕ
+freshWords r s = r .words (failing s)
 
-  pub step-stands : (causes : List Cause) → (NoneHolds causes → (rest : List ℕ) → read (words step ++ rest) ≡ step .state)
-      → read (stepRow need words row (judgedOn (read row) causes step)) ≡ stateAfter (judgedOn (read row) causes step)
-  unfolding stepRow
-  step-stands causes back = rw (le-leb need (length row) room) (said-stands causes back)
+module _ {S : Type 0} (r : StateRow S) (row : List ℕ) (room : r .size ≤ length row) where
+  -- ---- after the call that hands out a fresh state
+  pub new-stands : (b : ErrorBound) (s : S) → boundAllowed b ≡ true → r .Formed s → r .read (rowAfter (r .size) (freshWords r) row (judged (1 when not (boundAllowed b) ∷ []) s)) ≡ s
+  unfolding judge rowAfter
+  new-stands b s allowed ok = rw (allowed, le-leb (r .size) (length row) room) (r .back (failing s) (drop (length (freshWords r s)) row) ok)
 
-  said-long : (causes : List Cause) → need ≤ length (words step) → need ≤ length (rowOn need words row (judgedOn (read row) causes step))
-  unfolding judge
-  said-long [] long = omega (arith, length-append (words step) (drop need row))
-  said-long (n when true ∷ causes) long = room
-  said-long (n when false ∷ causes) long = said-long causes long
+  -- ---- after a step: a refused one leaves the row, and hands back the state that the row stands for
+  module _ (step : Stepped S) where
+    said-stands : (causes : List Cause) → (NoneHolds causes → r .Formed (step .state)) → r .read (rowIn (r .words) row (stateless (judgedOn (r .read row) causes step))) ≡ stateAfter (judgedOn (r .read row) causes step)
+    unfolding judge
+    said-stands [] ok = r .back step (drop (length (r .words step)) row) (ok tt)
+    said-stands (n when true ∷ causes) ok = refl
+    said-stands (n when false ∷ causes) ok = said-stands causes (λ none. ok (refl, none))
 
-  pub step-long : (causes : List Cause) → need ≤ length (words step) → need ≤ length (stepRow need words row (judgedOn (read row) causes step))
-  unfolding stepRow
-  step-long causes long = rw (le-leb need (length row) room) (said-long causes long)
+    said-long : (causes : List Cause) → r .size ≤ length (rowIn (r .words) row (stateless (judgedOn (r .read row) causes step)))
+    unfolding judge
+    said-long [] = omega (arith, length-append (r .words step) (drop (length (r .words step)) row), r .long step)
+    said-long (n when true ∷ causes) = room
+    said-long (n when false ∷ causes) = said-long causes
 
--- ---- after a list of steps
-module _ {S A : Type 0} (need : ℕ) (read : List ℕ → S) (rowStep : List ℕ → A → List ℕ) (next : S → A → S) (stands : (row : List ℕ) (a : A) → need ≤ length row → read (rowStep row a) ≡ next (read row) a)
-    (long : (row : List ℕ) (a : A) → need ≤ length row → need ≤ length (rowStep row a)) where
-  pub rows-stand : (row : List ℕ) (l : List A) → need ≤ length row → read (foldl rowStep row l) ≡ foldl next (read row) l
+-- ---- after a list of steps, each by its causes of refusal and by what it tries
+module _ {S A : Type 0} (r : StateRow S) (causes : S → A → List Cause) (tried : S → A → Stepped S) (keeps : (s : S) (a : A) → r .Formed s → NoneHolds (causes s a) → r .Formed (tried s a .state)) where
+  abbrev said : S → A → SaidOn S (Stepped S)
+  said s a = judgedOn s (causes s a) (tried s a)
+
+  abbrev next : S → A → S
+  next s a = stateAfter (said s a)
+
+  abbrev after : List ℕ → A → List ℕ
+  after row a = stepRow (r .size) (r .words) row (said (r .read row) a)
+
+  pub step-stands : (row : List ℕ) (a : A) → r .size ≤ length row → r .read (after row a) ≡ next (r .read row) a
+  unfolding rowAfter
+  step-stands row a room =
+      rw (le-leb (r .size) (length row) room) (said-stands r row room (tried (r .read row) a) (causes (r .read row) a) (keeps (r .read row) a (r .formed row)))
+
+  step-long : (row : List ℕ) (a : A) → r .size ≤ length row → r .size ≤ length (after row a)
+  unfolding rowAfter
+  step-long row a room = rw (le-leb (r .size) (length row) room) (said-long r row room (tried (r .read row) a) (causes (r .read row) a))
+
+  pub rows-stand : (row : List ℕ) (l : List A) → r .size ≤ length row → r .read (foldl after row l) ≡ foldl next (r .read row) l
   rows-stand row [] room = refl
-  rows-stand row (a ∷ l) room = rows-stand (rowStep row a) l (long row a room) ∙ ap (λ (s : S). foldl next s l) (stands row a room)
+  rows-stand row (a ∷ l) room = rows-stand (after row a) l (step-long row a room) ∙ ap (λ (s : S). foldl next s l) (step-stands row a room)

@@ -4,9 +4,9 @@ use mathlib.Core.Bool.{Bool, true, false, cond, _||_}
 use mathlib.Core.List.{List, _++_, [], _∷_}
 use Prim.Native.Nat.{ℕ}
 use lib.Dec.{eqb, leb}
-use lib.Ieee.{nan, binary32, ofBits}
+use lib.Ieee.{Float, nan, binary32, binary64, ofBits, toBits}
 use lib.ListN.{length, drop}
-use Rattle.models.specs.Answers.{Said, answered, refused, SaidOn, answeredOn, refusedOn, stateless}
+use Rattle.models.specs.Answers.{Said, answered, refused, SaidOn, stateless}
 use Rattle.models.specs.declared.ErrorBound.{ErrorBound}
 use Rattle.models.specs.declared.ErrorBound.the-variants.{Lossless, Absolute, Relative}
 
@@ -25,7 +25,7 @@ unfoldable pub refusalNumber : ℕ → ℕ → ℕ → ℕ
 refusalNumber need room n = cond (beforeShort n || leb need room) n 4
 
 unfoldable pub numberOf : {A : Type 0} → ℕ → ℕ → Said A → ℕ
-numberOf need room (refused n) = refusalNumber need room n
+numberOf need room (refused f) = refusalNumber need room (f .number)
 numberOf need room (answered x) = cond (leb need room) 0 4
 
 -- a truth as a word
@@ -33,32 +33,41 @@ abbrev pub wordOf : Bool → ℕ
 wordOf false = 0
 wordOf true = 1
 
+-- the row with the words of an answer at its front; a refusal leaves it
+abbrev pub rowIn : {A : Type 0} → (A → List ℕ) → List ℕ → Said A → List ℕ
+rowIn words row (refused f) = row
+rowIn words row (answered x) = words x ++ drop (length (words x)) row
+
 -- the row afterwards, lent for `need` words: its front is set exactly if the number is 0
 unfoldable pub rowAfter : {A : Type 0} → ℕ → (A → List ℕ) → List ℕ → Said A → List ℕ
-rowAfter need words row (refused n) = row
-rowAfter need words row (answered x) = cond (leb need (length row)) (words x ++ drop (length (words x)) row) row
+rowAfter need words row said = cond (leb need (length row)) (rowIn words row said) row
 
--- an answer of one word
+-- an answer of one word: a pattern, a truth, or an f32 or f64 by its pattern
 abbrev pub oneWord : ℕ → List ℕ
 oneWord w = w ∷ []
+
+abbrev pub wordOfTruth : Bool → List ℕ
+wordOfTruth is = wordOf is ∷ []
+
+abbrev pub wordOf32 : Float → List ℕ
+wordOf32 x = toBits binary32 x ∷ []
+
+abbrev pub wordOf64 : Float → List ℕ
+wordOf64 x = toBits binary64 x ∷ []
 
 -- ---- a call with no values to hand over, but in memory that it was lent for them: the number alone
 abbrev pub plainNumber : {A : Type 0} → Said A → ℕ
 plainNumber (answered x) = 0
-plainNumber (refused n) = n
+plainNumber (refused f) = f .number
 
 -- ---- a call on a state in a row of `need` words: of a shorter one no state can be read, which is 4 before anything is judged
 
 -- a step, whose row becomes that of the state after it
-abbrev pub rowOn : {S A : Type 0} → ℕ → (A → List ℕ) → List ℕ → SaidOn S A → List ℕ
-rowOn need words row (answeredOn x) = words x ++ drop need row
-rowOn need words row (refusedOn n s) = row
-
 unfoldable pub stepNumber : {S A : Type 0} → ℕ → List ℕ → SaidOn S A → ℕ
 stepNumber need row said = cond (leb need (length row)) (plainNumber (stateless said)) 4
 
-unfoldable pub stepRow : {S A : Type 0} → ℕ → (A → List ℕ) → List ℕ → SaidOn S A → List ℕ
-stepRow need words row said = cond (leb need (length row)) (rowOn need words row said) row
+abbrev pub stepRow : {S A : Type 0} → ℕ → (A → List ℕ) → List ℕ → SaidOn S A → List ℕ
+stepRow need words row said = rowAfter need words row (stateless said)
 
 -- a question, answered in `k` words of another row, `out`
 unfoldable pub askNumber : {S A : Type 0} → ℕ → List ℕ → ℕ → ℕ → SaidOn S A → ℕ

@@ -1,3 +1,4 @@
 -- How the calls cross the C face.
 pub mod Face
 pub mod Words
+pub mod inner

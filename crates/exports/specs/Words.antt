@@ -1,23 +1,28 @@
 -- The words of a state's row: a bound's two, a 32-bit value, a timestamp. What a word cannot stand for is not allowed: the call behind refuses it.
 use mathlib.Core.Bool.{Bool, cond, _&&_}
-use Prim.Native.Nat.{ℕ, suc, _-_, _^_}
+use Prim.Native.Nat.{ℕ, suc, _+_, _-_, _^_}
 use lib.Dec.{ltb}
 use lib.IntN.{ℤ, pos, negsuc}
 use lib.Ieee.{nan, binary32, toBits}
+use Rattle.models.specs.Limits.{mostValues}
 use Rattle.models.specs.declared.ErrorBound.{ErrorBound}
 use Rattle.models.specs.declared.ErrorBound.the-variants.{Lossless, Absolute, Relative}
 use Rattle.exports.specs.Face.{boundOf}
 
--- ---- a bound
-abbrev pub kindOf : ErrorBound → ℕ
-kindOf Lossless = 0
-kindOf (Absolute e) = 1
-kindOf (Relative e) = 2
+-- a length or a count that no call allows
+abbrev pub noCount : ℕ
+noCount = mostValues + 1
 
-abbrev pub bitsOf : ErrorBound → ℕ
-bitsOf Lossless = 0
-bitsOf (Absolute e) = toBits binary32 e
-bitsOf (Relative e) = toBits binary32 e
+-- ---- a bound
+abbrev pub boundKind : ErrorBound → ℕ
+boundKind Lossless = 0
+boundKind (Absolute e) = 1
+boundKind (Relative e) = 2
+
+abbrev pub boundBits : ErrorBound → ℕ
+boundBits Lossless = 0
+boundBits (Absolute e) = toBits binary32 e
+boundBits (Relative e) = toBits binary32 e
 
 abbrev pub small : ℕ → Bool
 small w = ltb w (2 ^ 32)

@@ -5,17 +5,20 @@
 pub mod words;
 
 ghost use mathlib.Core.Path.{_≡_};
-ghost use mathlib.Core.List.{[], _∷_, _++_};
+ghost use mathlib.Core.List.{_++_};
 ghost use Prim.Native.Nat.{_≤_};
 ghost use lib.ListN.{length, drop};
 ghost use lib.Ieee.{binary32, binary64, ofBits, toBits};
 ghost use Rattle.numbers.specs.Narrowed.{narrowed};
 ghost use Rattle.models.specs.Refusals.{number};
-ghost use Rattle.models.specs.Calls.{withinAnswer, deviationAnswer};
-ghost use Rattle.exports.specs.Face.{boundOf, refusalNumber, numberOf, rowAfter, wordOf};
+ghost use Rattle.models.specs.Calls.{withinAnswer, deviationAnswer, saysValue};
+ghost use Rattle.exports.specs.Face.{boundOf, refusalNumber, numberOf, rowAfter, wordOf, oneWord, wordOfTruth, wordOf32, wordOf64};
+ghost use Rattle.exports.specs.inner.Put.{wholeRow, pairRow, worded, wordsSaid, saysPair, saysFloat};
 use models::DeviationAnswer;
 use models::ErrorBound;
 use models::Refusal;
+use models::ValueAnswer;
+use models::Verdict;
 use models::WithinAnswer;
 
 // ---- numbers
@@ -62,6 +65,11 @@ pub fn word_of(is: bool) -> u32
     if is { 1 } else { 0 }
 }
 
+// ---- what a call says, as its number and the front of a lent row
+
+// What is answered where a row does not hold its words.
+pub const TOO_SHORT: u32 = 4;
+
 // What a refused call answers, where a row of `room` words is lent for `need` of them: 4 comes
 // before a cause that 01 judges after it.
 pub fn number_with(r: Refusal, need: usize, room: usize) -> u32
@@ -74,11 +82,11 @@ pub fn number_with(r: Refusal, need: usize, room: usize) -> u32
     if n == 12 {
         return n;
     }
-    if room < need { 4 } else { n }
+    if room < need { TOO_SHORT } else { n }
 }
 
 // Words to the front of a row that holds them.
-pub fn put_words(words: &[u64], row: &mut [u64])
+fn put_words(words: &[u64], row: &mut [u64])
     requires { ⌜ length (now words) ≤ length (now row) ⌝ }
     ensures { λ _. ⌜ now (row .exit) ≡ now (words .entry) ++ drop (length (now (words .entry))) (now (row .entry)) ⌝ }
 {
@@ -86,6 +94,78 @@ pub fn put_words(words: &[u64], row: &mut [u64])
     while i < words.len() {
         row[i] = words[i];
         i += 1;
+    }
+}
+
+// The words of an answer, where the verdict on the call let it be given.
+pub fn put_said(verdict: Verdict, words: &[u64], row: &mut [u64]) -> u32
+    ensures number { λ r. ⌜ r ≡ numberOf (length (now (words .entry))) (length (now (row .entry))) (wordsSaid verdict (now (words .entry))) ⌝ }
+    ensures row { λ r. ⌜ now (row .exit) ≡ rowAfter (length (now (words .entry))) wholeRow (now (row .entry)) (wordsSaid verdict (now (words .entry))) ⌝ }
+{
+    match verdict {
+        Verdict::Refused(r) => number_with(r, words.len(), row.len()),
+        Verdict::Passed => {
+            if row.len() < words.len() {
+                return TOO_SHORT;
+            }
+            put_words(words, row);
+            0
+        }
+    }
+}
+
+// One value.
+pub fn put_value(answer: ValueAnswer, out: &mut [u32]) -> u32
+    ensures number { λ r. ⌜ r ≡ numberOf 1 (length (now (out .entry))) (saysValue answer) ⌝ }
+    ensures row { λ r. ⌜ now (out .exit) ≡ rowAfter 1 oneWord (now (out .entry)) (saysValue answer) ⌝ }
+{
+    match answer {
+        ValueAnswer::Refused(r) => number_with(r, 1, out.len()),
+        ValueAnswer::Answered(bits) => {
+            if out.len() < 1 {
+                return TOO_SHORT;
+            }
+            out[0] = bits;
+            0
+        }
+    }
+}
+
+// The two ends of a line, or of what values keep to.
+pub enum PairAnswer {
+    Refused(Refusal),
+    Answered(u32, u32),
+}
+
+pub fn put_ends(answer: PairAnswer, out: &mut [u32]) -> u32
+    ensures number { λ r. ⌜ r ≡ numberOf 2 (length (now (out .entry))) (saysPair answer) ⌝ }
+    ensures row { λ r. ⌜ now (out .exit) ≡ rowAfter 2 pairRow (now (out .entry)) (saysPair answer) ⌝ }
+{
+    match answer {
+        PairAnswer::Refused(r) => number_with(r, 2, out.len()),
+        PairAnswer::Answered(first, last) => {
+            if out.len() < 2 {
+                return TOO_SHORT;
+            }
+            out[0] = first;
+            out[1] = last;
+            0
+        }
+    }
+}
+
+// A number, by its pattern.
+pub enum FloatAnswer {
+    Refused(Refusal),
+    Answered(f32),
+}
+
+pub fn pattern_in(answer: FloatAnswer) -> ValueAnswer
+    ensures { λ r. ⌜ worded oneWord (saysValue r) ≡ worded wordOf32 (saysFloat answer) ⌝ }
+{
+    match answer {
+        FloatAnswer::Refused(r) => ValueAnswer::Refused(r),
+        FloatAnswer::Answered(x) => ValueAnswer::Answered(numbers::bits_of_f32(x)),
     }
 }
 
@@ -99,18 +179,12 @@ pub extern "C" fn modelardb_is_value_within_error_bound(
     out: &mut [u32],
 ) -> u32
     ensures number { λ r. ⌜ r ≡ numberOf 1 (length (now (out .entry))) (withinAnswer (boundOf kind bound) «real_value» «approximate_value») ⌝ }
-    ensures row { λ r. ⌜ now (out .exit) ≡ rowAfter 1 (λ is. wordOf is ∷ []) (now (out .entry)) (withinAnswer (boundOf kind bound) «real_value» «approximate_value») ⌝ }
+    ensures row { λ r. ⌜ now (out .exit) ≡ rowAfter 1 wordOfTruth (now (out .entry)) (withinAnswer (boundOf kind bound) «real_value» «approximate_value») ⌝ }
 {
     let b = bound_of(kind, bound);
     match models::is_value_within_error_bound(b, real_value, approximate_value) {
         WithinAnswer::Refused(r) => number_with(r, 1, out.len()),
-        WithinAnswer::Answered(is) => {
-            if out.len() < 1 {
-                return 4;
-            }
-            out[0] = word_of(is);
-            0
-        }
+        WithinAnswer::Answered(is) => put_value(ValueAnswer::Answered(word_of(is)), out),
     }
 }
 
@@ -123,17 +197,14 @@ pub extern "C" fn modelardb_maximum_allowed_deviation(
     out: &mut [u64],
 ) -> u32
     ensures number { λ r. ⌜ r ≡ numberOf 1 (length (now (out .entry))) (deviationAnswer (boundOf kind bound) (ofBits binary64 value)) ⌝ }
-    ensures row { λ r. ⌜ now (out .exit) ≡ rowAfter 1 (λ x. toBits binary64 x ∷ []) (now (out .entry)) (deviationAnswer (boundOf kind bound) (ofBits binary64 value)) ⌝ }
+    ensures row { λ r. ⌜ now (out .exit) ≡ rowAfter 1 wordOf64 (now (out .entry)) (deviationAnswer (boundOf kind bound) (ofBits binary64 value)) ⌝ }
 {
     let b = bound_of(kind, bound);
     match models::maximum_allowed_deviation(b, numbers::value_of_f64(value)) {
         DeviationAnswer::Refused(r) => number_with(r, 1, out.len()),
         DeviationAnswer::Answered(d) => {
-            if out.len() < 1 {
-                return 4;
-            }
-            out[0] = numbers::bits_of_f64(d);
-            0
+            let words = [numbers::bits_of_f64(d)];
+            put_said(Verdict::Passed, &words, out)
         }
     }
 }

@@ -3,12 +3,12 @@
 use models::ErrorBound;
 ghost use mathlib.Core.Path.{_≡_};
 ghost use Prim.Native.Nat.{_%_, _^_};
-ghost use Rattle.exports.specs.Words.{kindOf, bitsOf, small, boundIn, timeIn, wordOfTime};
+ghost use Rattle.exports.specs.Words.{boundKind, boundBits, small, boundIn, timeIn, wordOfTime};
 
 // ---- a bound
 
 pub fn kind_of(b: ErrorBound) -> u64
-    ensures { λ r. ⌜ r ≡ kindOf b ⌝ }
+    ensures { λ r. ⌜ r ≡ boundKind b ⌝ }
 {
     match b {
         ErrorBound::Lossless => 0,
@@ -18,7 +18,7 @@ pub fn kind_of(b: ErrorBound) -> u64
 }
 
 pub fn bits_of(b: ErrorBound) -> u64
-    ensures { λ r. ⌜ r ≡ bitsOf b ⌝ }
+    ensures { λ r. ⌜ r ≡ boundBits b ⌝ }
 {
     match b {
         ErrorBound::Lossless => 0,
@@ -26,6 +26,11 @@ pub fn bits_of(b: ErrorBound) -> u64
         ErrorBound::Relative(e) => numbers::bits_of_f32(e) as u64,
     }
 }
+
+// ---- what a word cannot stand for
+
+// A length or a count that no call allows.
+pub const NO_COUNT: usize = models::MOST_VALUES + 1;
 
 // The low 32 bits of a word.
 pub fn low(w: u64) -> u32

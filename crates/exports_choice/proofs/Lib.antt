@@ -2,3 +2,4 @@
 pub mod Parts
 pub mod Back
 pub mod Stands
+pub mod Answers

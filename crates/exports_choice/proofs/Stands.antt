@@ -1,10 +1,9 @@
 -- A row that a call on a builder left stands for the builder that the call handed out, whatever words it held before: so the next call on the row goes on
 -- where the last one ended, and the row after any list of steps stands for the builder after these steps. Assumes nothing.
-use mathlib.Core.Path.{_≡_}
+use mathlib.Core.Path.{_≡_, refl}
 use mathlib.Core.Bool.{true}
 use mathlib.Core.List.{List, foldl}
 use Prim.Native.Nat.{ℕ, _≤_}
-use native.Mathlib.Omega.{arith}
 use borrow.Author.Tests.{not-false}
 use lib.Dec.{T}
 use lib.ListN.{length, drop}
@@ -12,10 +11,10 @@ use lib.Ieee.{Float, binary32, fits}
 use lib.Ieee.Bits.{ofBits-fits}
 use mir.Syntax.{w64}
 use mir.Val.{SFits}
+use Rattle.models.specs.Answers.{Stepped, NoneHolds}
 use Rattle.models.specs.Bound.{boundAllowed, BoundHeld}
 use Rattle.models.specs.declared.ErrorBound.{ErrorBound}
-use Rattle.models.proofs.Judged.{NoneHolds, by-test}
-use Rattle.models.proofs.Laws.{and-left}
+use Rattle.models.proofs.Tests.{and-left, by-test}
 use Rattle.lines.specs.Times.{timeAllowed}
 use Rattle.lines.specs.Line.{pointOf}
 use Rattle.lines.specs.declared.Point.{Point}
@@ -25,14 +24,13 @@ use Rattle.types.specs.Builder.{fresh, timeFits, withPmc, withSwing, updatePmc,
 use Rattle.types.specs.Calls.{newAnswer, updateCauses, updateAnswer}
 use Rattle.types.specs.Run.{next, run}
 use Rattle.types.specs.declared.ModelBuilder.{ModelBuilder}
-use Rattle.exports.specs.Face.{boundOf, rowAfter, stepRow}
+use Rattle.exports.specs.Face.{boundOf, rowAfter}
 use Rattle.exports.proofs.Back.{bound-of-held}
-use Rattle.exports.proofs.Stands.{new-stands, step-stands, step-long, rows-stand}
-use Rattle.exports_fit.specs.Row.{pmcIn}
+use Rattle.exports.proofs.Stands.{StateRow, new-stands, step-stands, rows-stand}
+use Rattle.exports_fit.specs.Row.{pmcLength, pmcRow, pmcIn, swingRow}
 use Rattle.exports_fit.proofs.Back.{PmcHeld, SwingHeld}
 use Rattle.exports_fit.proofs.Held.{pmc-fresh, pmc-in, pmc-tried, swing-fresh, swing-in, swing-tried}
-use Rattle.exports_choice.specs.Row.{builderRow, unusable, flags, builderIn, builderStep}
-use Rattle.exports_choice.proofs.Parts.{builder-length}
+use Rattle.exports_choice.specs.Row.{builderLength, builderRow, unusable, flags, builderIn, builderStep, builderAfter}
 use Rattle.exports_choice.proofs.Back.{builder-back}
 
 -- ---- the fields of a builder's models are of their formats
@@ -48,7 +46,7 @@ unfolding builderIn
 builder-in row =
     let p = pmc-in row in
     let lost : PmcHeld (unusable (pmcIn row)) = record { bound = p .bound; least = p .least; greatest = p .greatest; sum = p .sum } in
-    (by-test PmcHeld (flags row) (pmcIn row) (unusable (pmcIn row)) (λ h. p) (λ h. lost), swing-in (drop 7 row))
+    (by-test PmcHeld (flags row) (pmcIn row) (unusable (pmcIn row)) (λ h. p) (λ h. lost), swing-in (drop pmcLength row))
 
 pmc-part : (b : ModelBuilder) (v : Float) → BuilderHeld b → T (fits binary32 v) → BuilderHeld (updatePmc b v)
 unfolding updatePmc withPmc
@@ -67,33 +65,37 @@ builder-updated b g h none =
     swing-part (updatePmc b (p .value)) p (pmc-part b (p .value) h v) time v
 
 -- ---- the laws
-pub builder-new-stands : (kind bound : ℕ) (row : List ℕ) → boundAllowed (boundOf kind bound) ≡ true → 20 ≤ length row
-    → builderIn (rowAfter 20 builderRow row (newAnswer (boundOf kind bound))) ≡ fresh (boundOf kind bound)
+pub builder-long : (t : Stepped ModelBuilder) → length (builderStep t) ≡ builderLength
+unfolding builderRow pmcRow swingRow
+builder-long t = refl
+
+abbrev pub builderStateRow : StateRow ModelBuilder
+builderStateRow =
+    record {
+      size = builderLength;
+      words = builderStep;
+      read = builderIn;
+      Formed = BuilderHeld;
+      long = builder-long;
+      back = λ t rest ok. builder-back (t .state) rest (ok .0) (ok .1);
+      formed = builder-in;
+    }
+
+pub builder-new-stands : (kind bound : ℕ) (row : List ℕ) → boundAllowed (boundOf kind bound) ≡ true → builderLength ≤ length row
+    → builderIn (rowAfter builderLength builderRow row (newAnswer (boundOf kind bound))) ≡ fresh (boundOf kind bound)
 unfolding newAnswer
 builder-new-stands kind bound row allowed room =
     let b = boundOf kind bound in
-    let held = builder-fresh b (bound-of-held kind bound) in
-    new-stands 20 builderRow builderIn row b (fresh b) allowed room (λ rest. builder-back (fresh b) rest (held .0) (held .1))
+    new-stands builderStateRow row room b (fresh b) allowed (builder-fresh b (bound-of-held kind bound))
 
--- the row after a step
-abbrev pub builderAfter : List ℕ → Given → List ℕ
-builderAfter row g = stepRow 20 builderStep row (updateAnswer (builderIn row) (g .time) (g .bits))
+abbrev builderTried : ModelBuilder → Given → Stepped ModelBuilder
+builderTried b g = answeredBy (updated b (pointOf (g .time) (g .bits)))
 
-module _ (row : List ℕ) (g : Given) (room : 20 ≤ length row) where
-  abbrev after : ModelBuilder
-  after = updated (builderIn row) (pointOf (g .time) (g .bits))
-
-  pub builder-step-stands : builderIn (builderAfter row g) ≡ next (builderIn row) g
-  unfolding updateAnswer
-  builder-step-stands =
-      step-stands 20 builderStep builderIn row (answeredBy after) room (updateCauses (builderIn row) (g .time)) (λ none rest.
-      let held = builder-updated (builderIn row) g (builder-in row) none in
-      builder-back after rest (held .0) (held .1))
-
-  builder-long : 20 ≤ length (builderAfter row g)
-  unfolding updateAnswer
-  builder-long = step-long 20 builderStep builderIn row (answeredBy after) room (updateCauses (builderIn row) (g .time)) (omega (arith, builder-length after))
+pub builder-step-stands : (row : List ℕ) (g : Given) → builderLength ≤ length row → builderIn (builderAfter row g) ≡ next (builderIn row) g
+unfolding updateAnswer
+builder-step-stands = step-stands builderStateRow (λ b g. updateCauses b (g .time)) builderTried builder-updated
 
 -- the row after a list of steps
-pub builder-rows-stand : (row : List ℕ) (given : List Given) → 20 ≤ length row → builderIn (foldl builderAfter row given) ≡ run (builderIn row) given
-builder-rows-stand row given room = rows-stand 20 builderIn builderAfter next builder-step-stands builder-long row given room
+pub builder-rows-stand : (row : List ℕ) (given : List Given) → builderLength ≤ length row → builderIn (foldl builderAfter row given) ≡ run (builderIn row) given
+unfolding updateAnswer
+builder-rows-stand = rows-stand builderStateRow (λ b g. updateCauses b (g .time)) builderTried builder-updated

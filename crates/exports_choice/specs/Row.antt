@@ -2,15 +2,22 @@
 -- failed, 0. The model that is chosen is five words.
 use mathlib.Core.Bool.{Bool, cond, not, _&&_, _||_}
 use mathlib.Core.List.{List, [], _∷_, _++_}
-use Prim.Native.Nat.{ℕ}
+use Prim.Native.Nat.{ℕ, _+_, _-_}
 use lib.Dec.{eqb, leb}
 use lib.ListN.{drop, getD}
 use lib.Ieee.{binary32, toBits}
 use Rattle.models.specs.Answers.{Stepped}
 use Rattle.pmc_mean.specs.declared.PMCMean.{PMCMean}
+use Rattle.swing.specs.Run.{Given}
+use Rattle.types.specs.Calls.{updateAnswer}
 use Rattle.types.specs.declared.ModelBuilder.{ModelBuilder}
 use Rattle.types.specs.declared.SelectedModel.{SelectedModel}
-use Rattle.exports_fit.specs.Row.{pmcRow, pmcIn, swingRow, swingIn}
+use Rattle.exports.specs.Face.{stepRow}
+use Rattle.exports.specs.Words.{noCount}
+use Rattle.exports_fit.specs.Row.{pmcLength, pmcRow, pmcIn, swingLength, swingRow, swingIn}
+
+abbrev pub builderLength : ℕ
+builderLength = pmcLength + swingLength
 
 unfoldable pub builderRow : ModelBuilder → List ℕ
 builderRow b =
@@ -27,12 +34,19 @@ unusable s =
       «min_value» = s .«min_value»;
       «max_value» = s .«max_value»;
       «sum_of_values» = s .«sum_of_values»;
-      length = 65537;
+      length = noCount;
     }
+
+-- the last word of each model's row is its flag
+abbrev pub pmcFlag : ℕ
+pmcFlag = pmcLength - 1
+
+abbrev pub swingFlag : ℕ
+swingFlag = builderLength - 1
 
 -- a flag is 0 or 1; where one is neither, both models are taken as live, and the first may not be used
 abbrev pub flags : List ℕ → Bool
-flags row = leb (getD row 6 0) 1 && leb (getD row 19 0) 1
+flags row = leb (getD row pmcFlag 0) 1 && leb (getD row swingFlag 0) 1
 
 abbrev pub live : List ℕ → ℕ → Bool
 live row at = not (flags row) || eqb (getD row at 0) 1
@@ -41,16 +55,23 @@ unfoldable pub builderIn : List ℕ → ModelBuilder
 builderIn row =
     record {
       «pmc_mean» = cond (flags row) (pmcIn row) (unusable (pmcIn row));
-      «pmc_mean_could_fit_all» = live row 6;
-      swing = swingIn (drop 7 row);
-      «swing_could_fit_all» = live row 19;
+      «pmc_mean_could_fit_all» = live row pmcFlag;
+      swing = swingIn (drop pmcLength row);
+      «swing_could_fit_all» = live row swingFlag;
     }
 
 -- the row of what a step gives
 abbrev pub builderStep : Stepped ModelBuilder → List ℕ
 builderStep t = builderRow (t .state)
 
+-- the row that a step leaves, which the next one is lent
+abbrev pub builderAfter : List ℕ → Given → List ℕ
+builderAfter row g = stepRow builderLength builderStep row (updateAnswer (builderIn row) (g .time) (g .bits))
+
 -- ---- the chosen model: 0 for PMC-Mean or 1 for Swing; the length; the first and the last value; the f32 pattern of the bytes for each value
+abbrev pub modelLength : ℕ
+modelLength = 5
+
 unfoldable pub modelWords : SelectedModel → List ℕ
 modelWords m =
     m .«model_type_id»

@@ -1,7 +1,9 @@
 // The C face of the choice. A builder crosses as a row of twenty words (specs/Row.antt): that of
 // PMC-Mean and then that of Swing, each ending in a word that says whether the model has not failed.
 
+use exports::words;
 use exports_fit::rows;
+use models::Verdict;
 use pmc_mean::PMCMean;
 use types::ChoiceAnswer;
 use types::FinishAnswer;
@@ -12,16 +14,23 @@ use types::UpdateAnswer;
 use types::choice;
 ghost use mathlib.Core.Path.{_≡_};
 ghost use mathlib.Core.Bool.{cond};
-ghost use mathlib.Core.List.{_++_};
 ghost use Prim.Native.Nat.{_≤_};
-ghost use lib.ListN.{length, drop};
+ghost use lib.ListN.{length};
 ghost use Rattle.models.specs.Answers.{answered};
 ghost use Rattle.types.specs.Calls.{newAnswer, updateAnswer, finishAnswer};
 ghost use Rattle.types.specs.Run.{choiceAnswer};
 ghost use Rattle.exports.specs.Face.{boundOf, numberOf, rowAfter, stepNumber, stepRow, askNumber, askRow};
-ghost use Rattle.exports_choice.specs.Row.{builderRow, unusable, builderIn, builderStep, modelWords};
+ghost use Rattle.exports_choice.specs.Row.{builderLength, builderRow, unusable, builderIn, builderStep, modelLength, modelWords};
+ghost use Rattle.exports_choice.specs.inner.Answers.{builderStepOf};
 
 // ---- a builder's row
+
+const BUILDER_WORDS: usize = rows::PMC_WORDS + rows::SWING_WORDS;
+
+// The last word of each model's row is its flag.
+const PMC_FLAG: usize = rows::PMC_WORDS - 1;
+
+const SWING_FLAG: usize = BUILDER_WORDS - 1;
 
 // The state itself, or one that may not be used.
 fn usable_if(is: bool, s: PMCMean) -> PMCMean
@@ -31,44 +40,88 @@ fn usable_if(is: bool, s: PMCMean) -> PMCMean
         return s;
     }
     let mut t = s;
-    t.length = 65537;
+    t.length = words::NO_COUNT;
     t
 }
 
 fn builder_in(row: &[u64]) -> ModelBuilder
-    requires { ⌜ 20 ≤ length (now row) ⌝ }
+    requires { ⌜ builderLength ≤ length (now row) ⌝ }
     ensures { λ r. ⌜ r ≡ builderIn (now (row .entry)) ⌝ }
 {
-    let flags = (row[6] <= 1) & (row[19] <= 1);
+    let flags = (row[PMC_FLAG] <= 1) & (row[SWING_FLAG] <= 1);
     let pmc_mean = usable_if(flags, rows::pmc_in(row));
-    let swing = rows::swing_in(&row[7..]);
+    let swing = rows::swing_in(&row[rows::PMC_WORDS..]);
     ModelBuilder {
         pmc_mean,
-        pmc_mean_could_fit_all: !flags | (row[6] == 1),
+        pmc_mean_could_fit_all: !flags | (row[PMC_FLAG] == 1),
         swing,
-        swing_could_fit_all: !flags | (row[19] == 1),
+        swing_could_fit_all: !flags | (row[SWING_FLAG] == 1),
     }
 }
 
-fn put_builder(row: &mut [u64], b: ModelBuilder)
-    requires { ⌜ 20 ≤ length (now row) ⌝ }
-    ensures { λ _. ⌜ now (row .exit) ≡ builderRow b ++ drop 20 (now (row .entry)) ⌝ }
+fn builder_words(b: ModelBuilder) -> [u64; BUILDER_WORDS]
+    ensures { λ r. ⌜ r ≡ builderRow b ⌝ }
 {
     let p = b.pmc_mean;
     let s = b.swing;
-    rows::put_pmc(row, p, b.pmc_mean_could_fit_all);
-    rows::put_swing(&mut row[7..], s, b.swing_could_fit_all);
+    let first = rows::pmc_words(p, b.pmc_mean_could_fit_all);
+    let later = rows::swing_words(s, b.swing_could_fit_all);
+    [
+        first[0],
+        first[1],
+        first[2],
+        first[3],
+        first[4],
+        first[5],
+        first[6],
+        later[0],
+        later[1],
+        later[2],
+        later[3],
+        later[4],
+        later[5],
+        later[6],
+        later[7],
+        later[8],
+        later[9],
+        later[10],
+        later[11],
+        later[12],
+    ]
+}
+
+struct BuilderStep {
+    verdict: Verdict,
+    state: ModelBuilder,
+}
+
+fn builder_step(answer: UpdateAnswer) -> BuilderStep
+    ensures { λ r. ⌜ r ≡ builderStepOf answer ⌝ }
+{
+    match answer {
+        UpdateAnswer::Refused(r, b) => BuilderStep {
+            verdict: Verdict::Refused(r),
+            state: b,
+        },
+        UpdateAnswer::Fits(b) => BuilderStep {
+            verdict: Verdict::Passed,
+            state: b,
+        },
+        UpdateAnswer::NoFit(b) => BuilderStep {
+            verdict: Verdict::Passed,
+            state: b,
+        },
+    }
 }
 
 // ---- the words of the chosen model, and the number of the answer
 
+const MODEL_WORDS: usize = 5;
+
 fn put_model(out: &mut [u64], m: SelectedModel) -> u32
-    ensures number { λ r. ⌜ r ≡ numberOf 5 (length (now (out .entry))) (answered m) ⌝ }
-    ensures row { λ r. ⌜ now (out .exit) ≡ rowAfter 5 modelWords (now (out .entry)) (answered m) ⌝ }
+    ensures number { λ r. ⌜ r ≡ numberOf modelLength (length (now (out .entry))) (answered m) ⌝ }
+    ensures row { λ r. ⌜ now (out .exit) ≡ rowAfter modelLength modelWords (now (out .entry)) (answered m) ⌝ }
 {
-    if out.len() < 5 {
-        return 4;
-    }
     let words = [
         m.model_type_id as u64,
         m.length as u64,
@@ -76,8 +129,7 @@ fn put_model(out: &mut [u64], m: SelectedModel) -> u32
         m.last_value as u64,
         numbers::bits_of_f32(m.bytes_per_value) as u64,
     ];
-    exports::put_words(&words, out);
-    0
+    exports::put_said(Verdict::Passed, &words, out)
 }
 
 // ---- the calls
@@ -85,18 +137,12 @@ fn put_model(out: &mut [u64], m: SelectedModel) -> u32
 // The builder before any value into the row.
 #[no_mangle]
 pub extern "C" fn modelardb_model_builder_new(kind: u32, bound: u32, state: &mut [u64]) -> u32
-    ensures number { λ r. ⌜ r ≡ numberOf 20 (length (now (state .entry))) (newAnswer (boundOf kind bound)) ⌝ }
-    ensures row { λ r. ⌜ now (state .exit) ≡ rowAfter 20 builderRow (now (state .entry)) (newAnswer (boundOf kind bound)) ⌝ }
+    ensures number { λ r. ⌜ r ≡ numberOf builderLength (length (now (state .entry))) (newAnswer (boundOf kind bound)) ⌝ }
+    ensures row { λ r. ⌜ now (state .exit) ≡ rowAfter builderLength builderRow (now (state .entry)) (newAnswer (boundOf kind bound)) ⌝ }
 {
     match ModelBuilder::new(exports::bound_of(kind, bound)) {
-        NewAnswer::Refused(r) => exports::number_with(r, 20, state.len()),
-        NewAnswer::Answered(b) => {
-            if state.len() < 20 {
-                return 4;
-            }
-            put_builder(state, b);
-            0
-        }
+        NewAnswer::Refused(r) => exports::number_with(r, BUILDER_WORDS, state.len()),
+        NewAnswer::Answered(b) => { exports::put_said(Verdict::Passed, &builder_words(b), state) }
     }
 }
 
@@ -108,38 +154,30 @@ pub extern "C" fn modelardb_model_builder_try_to_update_models(
     timestamp: i64,
     value: u32,
 ) -> u32
-    ensures number { λ r. ⌜ r ≡ stepNumber 20 (now (state .entry)) (updateAnswer (builderIn (now (state .entry))) timestamp value) ⌝ }
-    ensures row { λ r. ⌜ now (state .exit) ≡ stepRow 20 builderStep (now (state .entry)) (updateAnswer (builderIn (now (state .entry))) timestamp value) ⌝ }
+    ensures number { λ r. ⌜ r ≡ stepNumber builderLength (now (state .entry)) (updateAnswer (builderIn (now (state .entry))) timestamp value) ⌝ }
+    ensures row { λ r. ⌜ now (state .exit) ≡ stepRow builderLength builderStep (now (state .entry)) (updateAnswer (builderIn (now (state .entry))) timestamp value) ⌝ }
 {
-    if state.len() < 20 {
-        return 4;
+    if state.len() < BUILDER_WORDS {
+        return exports::TOO_SHORT;
     }
-    let b = builder_in(state);
-    match b.try_to_update_models(timestamp, value) {
-        UpdateAnswer::Refused(r, _) => models::number_of(r),
-        UpdateAnswer::Fits(t) => {
-            put_builder(state, t);
-            0
-        }
-        UpdateAnswer::NoFit(t) => {
-            put_builder(state, t);
-            0
-        }
-    }
+    let after = builder_step(builder_in(state).try_to_update_models(timestamp, value));
+    let verdict = after.verdict;
+    let words = builder_words(after.state);
+    exports::put_said(verdict, &words, state)
 }
 
 // The model that needs fewer bytes for each value, with metadata of m bytes, into `out`.
 #[no_mangle]
 pub extern "C" fn modelardb_model_builder_finish(state: &[u64], m: usize, out: &mut [u64]) -> u32
-    ensures number { λ r. ⌜ r ≡ askNumber 20 (now (state .entry)) 5 (length (now (out .entry))) (finishAnswer (builderIn (now (state .entry))) m) ⌝ }
-    ensures row { λ r. ⌜ now (out .exit) ≡ askRow 20 (now (state .entry)) 5 modelWords (now (out .entry)) (finishAnswer (builderIn (now (state .entry))) m) ⌝ }
+    ensures number { λ r. ⌜ r ≡ askNumber builderLength (now (state .entry)) modelLength (length (now (out .entry))) (finishAnswer (builderIn (now (state .entry))) m) ⌝ }
+    ensures row { λ r. ⌜ now (out .exit) ≡ askRow builderLength (now (state .entry)) modelLength modelWords (now (out .entry)) (finishAnswer (builderIn (now (state .entry))) m) ⌝ }
 {
-    if state.len() < 20 {
-        return 4;
+    if state.len() < BUILDER_WORDS {
+        return exports::TOO_SHORT;
     }
     let b = builder_in(state);
     match b.finish(m) {
-        FinishAnswer::Refused(r, _) => exports::number_with(r, 5, out.len()),
+        FinishAnswer::Refused(r, _) => exports::number_with(r, MODEL_WORDS, out.len()),
         FinishAnswer::Answered(model) => put_model(out, model),
     }
 }
@@ -155,12 +193,12 @@ pub extern "C" fn modelardb_choose_model(
     m: usize,
     out: &mut [u64],
 ) -> u32
-    ensures number { λ r. ⌜ r ≡ numberOf 5 (length (now (out .entry))) (choiceAnswer (now (timestamps .entry)) (now (values .entry)) (boundOf kind bound) m) ⌝ }
-    ensures row { λ r. ⌜ now (out .exit) ≡ rowAfter 5 modelWords (now (out .entry)) (choiceAnswer (now (timestamps .entry)) (now (values .entry)) (boundOf kind bound) m) ⌝ }
+    ensures number { λ r. ⌜ r ≡ numberOf modelLength (length (now (out .entry))) (choiceAnswer (now (timestamps .entry)) (now (values .entry)) (boundOf kind bound) m) ⌝ }
+    ensures row { λ r. ⌜ now (out .exit) ≡ rowAfter modelLength modelWords (now (out .entry)) (choiceAnswer (now (timestamps .entry)) (now (values .entry)) (boundOf kind bound) m) ⌝ }
 {
     let b = exports::bound_of(kind, bound);
     match choice::choose_model(timestamps, values, b, m) {
-        ChoiceAnswer::Refused(r) => exports::number_with(r, 5, out.len()),
+        ChoiceAnswer::Refused(r) => exports::number_with(r, MODEL_WORDS, out.len()),
         ChoiceAnswer::Answered(model) => put_model(out, model),
     }
 }

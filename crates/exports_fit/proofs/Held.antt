@@ -16,7 +16,8 @@ use Rattle.models.specs.Answers.{Stepped}
 use Rattle.models.specs.Floats.{equalOrNan, minF, maxF}
 use Rattle.models.specs.Bound.{BoundHeld}
 use Rattle.models.specs.declared.ErrorBound.{ErrorBound}
-use Rattle.models.proofs.Judged.{by-test, after-judging, after-test}
+use Rattle.models.proofs.Judged.{after-judging, after-test}
+use Rattle.models.proofs.Tests.{by-test}
 use Rattle.models.proofs.Folds.{steps-keep}
 use Rattle.lines.specs.Line.{_+f_, _-f_, pointOf, raised, lowered, lineThrough}
 use Rattle.lines.specs.declared.Line.{Line}
@@ -58,9 +59,9 @@ picked : (a v : Float) (s t : Bool) → T (fits binary32 a) → T (fits binary32
 picked a v s t p q = cond-fits binary32 s v (cond t v a) q (cond-fits binary32 t v a q p)
 
 pub pmc-tried : (s : PMCMean) (v : Float) → PmcHeld s → T (fits binary32 v) → PmcHeld (Pmc.tried s v .state)
-unfolding Pmc.tried Pmc.taken minF maxF
+unfolding Pmc.tried Pmc.withValue minF maxF
 pmc-tried s v h ok =
-    after-test PmcHeld (Pmc.fits (Pmc.taken s v)) _ _
+    after-test PmcHeld (Pmc.fits (Pmc.withValue s v)) _ _
     (λ fits. record {
       bound = h .bound;
       least = picked (s .«min_value») v (Ieee.isNan (s .«min_value»)) (Ieee.lt v (s .«min_value»)) (h .least) ok;

@@ -1,5 +1,5 @@
 -- What the proofs of the C face of the models share.
-pub mod Lengths
 pub mod Back
 pub mod Held
 pub mod Stands
+pub mod Answers

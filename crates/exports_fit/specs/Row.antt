@@ -1,22 +1,31 @@
 -- The states of PMC-Mean and Swing as rows of words. A row ends in a word that a step sets, to 1 where the value fitted and to 0 where it did not; a
 -- model's own calls do not look at it, and in a builder's row it says whether the model stands for all values so far.
-use mathlib.Core.Bool.{Bool, cond, _&&_}
+use mathlib.Core.Bool.{Bool, false, cond, _&&_}
 use mathlib.Core.List.{List, [], _∷_}
 use Prim.Native.Nat.{ℕ, _%_, _^_}
 use lib.ListN.{getD}
 use lib.Ieee.{binary32, binary64, ofBits, toBits}
 use Rattle.models.specs.Answers.{Stepped}
+use Rattle.pmc_mean.specs.Calls as OfPmc
 use Rattle.pmc_mean.specs.declared.PMCMean.{PMCMean}
-use Rattle.swing.specs.Model.{Ends}
+use Rattle.swing.specs.Model.{LineEnds}
+use Rattle.swing.specs.Calls as OfSwing
+use Rattle.swing.specs.Run.{Given}
 use Rattle.swing.specs.declared.Swing.{Swing}
-use Rattle.exports.specs.Face.{wordOf}
-use Rattle.exports.specs.Words.{kindOf, bitsOf, small, boundIn, timeIn, wordOfTime}
+use Rattle.exports.specs.Face.{wordOf, stepRow}
+use Rattle.exports.specs.Words.{boundKind, boundBits, noCount, small, boundIn, timeIn, wordOfTime}
+
+abbrev pub pmcLength : ℕ
+pmcLength = 7
+
+abbrev pub swingLength : ℕ
+swingLength = 13
 
 -- ---- PMC-Mean, seven words: the bound's kind and bits; the least and the greatest value; the sum; the length; the last word
 unfoldable pub pmcRow : PMCMean → Bool → List ℕ
 pmcRow s fits =
-    kindOf (s .«error_bound»)
-    ∷ bitsOf (s .«error_bound»)
+    boundKind (s .«error_bound»)
+    ∷ boundBits (s .«error_bound»)
     ∷ toBits binary32 (s .«min_value»)
     ∷ toBits binary32 (s .«max_value»)
     ∷ toBits binary64 (s .«sum_of_values»)
@@ -32,15 +41,15 @@ pmcIn row =
       «min_value» = ofBits binary32 (getD row 2 0 % 2 ^ 32);
       «max_value» = ofBits binary32 (getD row 3 0 % 2 ^ 32);
       «sum_of_values» = ofBits binary64 (getD row 4 0);
-      length = cond (small (getD row 2 0) && small (getD row 3 0)) (getD row 5 0) 65537;
+      length = cond (small (getD row 2 0) && small (getD row 3 0)) (getD row 5 0) noCount;
     }
 
 -- ---- Swing, thirteen words: the bound's kind and bits; the first and the last time; the first value; slope and intercept of the upper and of the lower
 -- line; the fraction of the slope with the least error; the length; the last word
 unfoldable pub swingRow : Swing → Bool → List ℕ
 swingRow s fits =
-    kindOf (s .«error_bound»)
-    ∷ bitsOf (s .«error_bound»)
+    boundKind (s .«error_bound»)
+    ∷ boundBits (s .«error_bound»)
     ∷ wordOfTime (s .«start_time»)
     ∷ wordOfTime (s .«end_time»)
     ∷ toBits binary64 (s .«first_value»)
@@ -71,14 +80,25 @@ swingIn row =
     }
 
 -- ---- the row of what a step or a fresh state gives
-abbrev pub pmcStep : Stepped PMCMean → List ℕ
-pmcStep t = pmcRow (t .state) (t .fits)
+abbrev pub pmcFresh : PMCMean → List ℕ
+pmcFresh s = pmcRow s false
 
-abbrev pub swingStep : Stepped Swing → List ℕ
-swingStep t = swingRow (t .state) (t .fits)
+abbrev pub swingFresh : Swing → List ℕ
+swingFresh s = swingRow s false
 
-abbrev pub endsAt : ℕ → ℕ → Ends
-endsAt first last = record { first = first; last = last }
+abbrev pub pmcStepRow : Stepped PMCMean → List ℕ
+pmcStepRow t = pmcRow (t .state) (t .fits)
 
-abbrev pub twoWords : Ends → List ℕ
-twoWords e = e .first ∷ e .last ∷ []
+abbrev pub swingStepRow : Stepped Swing → List ℕ
+swingStepRow t = swingRow (t .state) (t .fits)
+
+-- the row that a step leaves, which the next one is lent
+abbrev pub pmcAfter : List ℕ → ℕ → List ℕ
+pmcAfter row value = stepRow pmcLength pmcStepRow row (OfPmc.fitAnswer (pmcIn row) value)
+
+abbrev pub swingAfter : List ℕ → Given → List ℕ
+swingAfter row g = stepRow swingLength swingStepRow row (OfSwing.fitAnswer (swingIn row) (g .time) (g .bits))
+
+-- the first and the last value of a line
+abbrev pub endsRow : LineEnds → List ℕ
+endsRow e = e .first ∷ e .last ∷ []

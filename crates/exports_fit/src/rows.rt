@@ -1,28 +1,33 @@
-// The rows of states, and the words of answers.
+// The rows of states, and the answers of the calls as what goes into a row.
 
+use exports::FloatAnswer;
+use exports::PairAnswer;
 use exports::words;
+use models::ValueAnswer;
+use models::Verdict;
 use pmc_mean::PMCMean;
 use swing::Swing;
 ghost use mathlib.Core.Path.{_≡_};
 ghost use mathlib.Core.Bool.{cond};
-ghost use mathlib.Core.List.{_++_};
 ghost use Prim.Native.Nat.{_≤_};
-ghost use lib.ListN.{length, drop};
-ghost use Rattle.models.specs.Answers.{answered};
-ghost use Rattle.exports.specs.Face.{numberOf, rowAfter, oneWord};
-ghost use Rattle.exports_fit.specs.Row.{pmcIn, pmcRow, swingIn, swingRow, endsAt, twoWords};
+ghost use lib.ListN.{length};
+ghost use Rattle.exports.specs.Words.{noCount};
+ghost use Rattle.exports_fit.specs.Row.{pmcLength, pmcIn, pmcRow, swingLength, swingIn, swingRow};
+ghost use Rattle.exports_fit.specs.inner.Answers.{pmcStepOf, pmcCostOf, pmcModelOf, swingStepOf, swingCostOf, swingModelOf};
 
 // ---- PMC-Mean
 
+pub const PMC_WORDS: usize = 7;
+
 // The length, or one that no state may have.
 fn length_in(is: bool, word: u64) -> usize
-    ensures { λ r. ⌜ r ≡ cond is word 65537 ⌝ }
+    ensures { λ r. ⌜ r ≡ cond is word noCount ⌝ }
 {
-    if is { word as usize } else { 65537 }
+    if is { word as usize } else { words::NO_COUNT }
 }
 
 pub fn pmc_in(row: &[u64]) -> PMCMean
-    requires { ⌜ 7 ≤ length (now row) ⌝ }
+    requires { ⌜ pmcLength ≤ length (now row) ⌝ }
     ensures { λ r. ⌜ r ≡ pmcIn (now (row .entry)) ⌝ }
 {
     let error_bound = words::bound_in(row[0], row[1]);
@@ -36,12 +41,11 @@ pub fn pmc_in(row: &[u64]) -> PMCMean
     }
 }
 
-pub fn put_pmc(row: &mut [u64], s: PMCMean, fits: bool)
-    requires { ⌜ 7 ≤ length (now row) ⌝ }
-    ensures { λ _. ⌜ now (row .exit) ≡ pmcRow s fits ++ drop 7 (now (row .entry)) ⌝ }
+pub fn pmc_words(s: PMCMean, fits: bool) -> [u64; PMC_WORDS]
+    ensures { λ r. ⌜ r ≡ pmcRow s fits ⌝ }
 {
     let b = s.error_bound;
-    let out = [
+    [
         words::kind_of(b),
         words::bits_of(b),
         numbers::bits_of_f32(s.min_value) as u64,
@@ -49,14 +53,15 @@ pub fn put_pmc(row: &mut [u64], s: PMCMean, fits: bool)
         numbers::bits_of_f64(s.sum_of_values),
         s.length as u64,
         exports::word_of(fits) as u64,
-    ];
-    exports::put_words(&out, row);
+    ]
 }
 
 // ---- Swing
 
+pub const SWING_WORDS: usize = 13;
+
 pub fn swing_in(row: &[u64]) -> Swing
-    requires { ⌜ 13 ≤ length (now row) ⌝ }
+    requires { ⌜ swingLength ≤ length (now row) ⌝ }
     ensures { λ r. ⌜ r ≡ swingIn (now (row .entry)) ⌝ }
 {
     let error_bound = words::bound_in(row[0], row[1]);
@@ -75,12 +80,11 @@ pub fn swing_in(row: &[u64]) -> Swing
     }
 }
 
-pub fn put_swing(row: &mut [u64], s: Swing, fits: bool)
-    requires { ⌜ 13 ≤ length (now row) ⌝ }
-    ensures { λ _. ⌜ now (row .exit) ≡ swingRow s fits ++ drop 13 (now (row .entry)) ⌝ }
+pub fn swing_words(s: Swing, fits: bool) -> [u64; SWING_WORDS]
+    ensures { λ r. ⌜ r ≡ swingRow s fits ⌝ }
 {
     let b = s.error_bound;
-    let out = [
+    [
         words::kind_of(b),
         words::bits_of(b),
         words::word_of_time(s.start_time),
@@ -94,31 +98,99 @@ pub fn put_swing(row: &mut [u64], s: Swing, fits: bool)
         numbers::bits_of_f64(s.slope_with_minimum_mse_denominator),
         s.length as u64,
         exports::word_of(fits) as u64,
-    ];
-    exports::put_words(&out, row);
+    ]
 }
 
-// ---- the words of an answer, and its number: 4 where the row does not hold them
+// ---- answers
 
-pub fn put_one(out: &mut [u32], word: u32) -> u32
-    ensures number { λ r. ⌜ r ≡ numberOf 1 (length (now (out .entry))) (answered word) ⌝ }
-    ensures row { λ r. ⌜ now (out .exit) ≡ rowAfter 1 oneWord (now (out .entry)) (answered word) ⌝ }
-{
-    if out.len() < 1 {
-        return 4;
-    }
-    out[0] = word;
-    0
+pub struct PmcStep {
+    pub verdict: Verdict,
+    pub state: PMCMean,
+    pub fits: bool,
 }
 
-pub fn put_two(out: &mut [u32], first: u32, last: u32) -> u32
-    ensures number { λ r. ⌜ r ≡ numberOf 2 (length (now (out .entry))) (answered (endsAt first last)) ⌝ }
-    ensures row { λ r. ⌜ now (out .exit) ≡ rowAfter 2 twoWords (now (out .entry)) (answered (endsAt first last)) ⌝ }
+pub fn pmc_step(answer: pmc_mean::FitAnswer) -> PmcStep
+    ensures { λ r. ⌜ r ≡ pmcStepOf answer ⌝ }
 {
-    if out.len() < 2 {
-        return 4;
+    match answer {
+        pmc_mean::FitAnswer::Refused(r, s) => PmcStep {
+            verdict: Verdict::Refused(r),
+            state: s,
+            fits: false,
+        },
+        pmc_mean::FitAnswer::Fits(t) => PmcStep {
+            verdict: Verdict::Passed,
+            state: t,
+            fits: true,
+        },
+        pmc_mean::FitAnswer::NoFit(t) => PmcStep {
+            verdict: Verdict::Passed,
+            state: t,
+            fits: false,
+        },
     }
-    out[0] = first;
-    out[1] = last;
-    0
+}
+
+pub struct SwingStep {
+    pub verdict: Verdict,
+    pub state: Swing,
+    pub fits: bool,
+}
+
+pub fn swing_step(answer: swing::FitAnswer) -> SwingStep
+    ensures { λ r. ⌜ r ≡ swingStepOf answer ⌝ }
+{
+    match answer {
+        swing::FitAnswer::Refused(r, s) => SwingStep {
+            verdict: Verdict::Refused(r),
+            state: s,
+            fits: false,
+        },
+        swing::FitAnswer::Fits(t) => SwingStep {
+            verdict: Verdict::Passed,
+            state: t,
+            fits: true,
+        },
+        swing::FitAnswer::NoFit(t) => SwingStep {
+            verdict: Verdict::Passed,
+            state: t,
+            fits: false,
+        },
+    }
+}
+
+pub fn pmc_cost(answer: pmc_mean::CostAnswer) -> FloatAnswer
+    ensures { λ r. ⌜ r ≡ pmcCostOf answer ⌝ }
+{
+    match answer {
+        pmc_mean::CostAnswer::Refused(r, _) => FloatAnswer::Refused(r),
+        pmc_mean::CostAnswer::Answered(x) => FloatAnswer::Answered(x),
+    }
+}
+
+pub fn swing_cost(answer: swing::CostAnswer) -> FloatAnswer
+    ensures { λ r. ⌜ r ≡ swingCostOf answer ⌝ }
+{
+    match answer {
+        swing::CostAnswer::Refused(r, _) => FloatAnswer::Refused(r),
+        swing::CostAnswer::Answered(x) => FloatAnswer::Answered(x),
+    }
+}
+
+pub fn pmc_model(answer: pmc_mean::ModelAnswer) -> ValueAnswer
+    ensures { λ r. ⌜ r ≡ pmcModelOf answer ⌝ }
+{
+    match answer {
+        pmc_mean::ModelAnswer::Refused(r, _) => ValueAnswer::Refused(r),
+        pmc_mean::ModelAnswer::Answered(bits) => ValueAnswer::Answered(bits),
+    }
+}
+
+pub fn swing_model(answer: swing::ModelAnswer) -> PairAnswer
+    ensures { λ r. ⌜ r ≡ swingModelOf answer ⌝ }
+{
+    match answer {
+        swing::ModelAnswer::Refused(r, _) => PairAnswer::Refused(r),
+        swing::ModelAnswer::Answered(first, last) => PairAnswer::Answered(first, last),
+    }
 }

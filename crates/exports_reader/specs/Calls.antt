@@ -1,26 +1,26 @@
 -- What the calls of the reader's C face answer and leave: the number, and the lent memory afterwards, by what the call behind says. Assumes nothing.
 use mathlib.Core.Bool.{cond, _&&_}
-use mathlib.Core.List.{List, [], _∷_, _++_}
+use mathlib.Core.List.{List, [], _∷_}
 use Prim.Native.Nat.{ℕ}
 use lib.Dec.{leb, ltb}
-use lib.ListN.{length, drop}
-use Rattle.models.specs.Answers.{SaidOn, Cause, _when_, judge, judgedMemory}
-use Rattle.exports.specs.Face.{plainNumber, rowOn}
+use lib.ListN.{length}
+use Rattle.models.specs.Answers.{SaidOn, stateless, answered, Cause, _when_, judge, judgedMemory, faultNumber}
+use Rattle.exports.specs.Face.{plainNumber, rowIn}
 use Rattle.exports_stream.specs.Calls.{openingOf}
 use Rattle.reader.specs.Calls.{openedAt, Taken, endAnswer}
 use Rattle.reader.specs.declared.position.Position.{Position}
-use Rattle.exports_reader.specs.Row.{rowLength, rowOf, positionIn}
+use Rattle.exports_reader.specs.Row.{readerLength, readerRow, positionIn}
 
 -- ---- open: a mode above 1 is 3, and a row that is too short is 4
 
 abbrev pub openCauses : ℕ → ℕ → List Cause
-openCauses mode words = 3 when ltb 1 mode ∷ 4 when ltb words rowLength ∷ []
+openCauses mode words = 3 when ltb 1 mode ∷ 4 when ltb words readerLength ∷ []
 
 unfoldable pub openNumber : ℕ → List ℕ → ℕ
-openNumber mode row = judge (λ (n : ℕ). n) (openCauses mode (length row)) 0
+openNumber mode row = judge faultNumber (openCauses mode (length row)) 0
 
 unfoldable pub openRow : ℕ → ℕ → List ℕ → List ℕ
-openRow mode opening row = judgedMemory row (openCauses mode (length row)) (rowOf (openedAt (openingOf mode opening)) ++ drop rowLength row)
+openRow mode opening row = judgedMemory row (openCauses mode (length row)) (rowIn readerRow row (answered (openedAt (openingOf mode opening))))
 
 -- ---- next: the row is read before anything is judged, so a row that is too short is 4 first. It moves exactly if the value is handed over.
 
@@ -28,12 +28,12 @@ abbrev pub oneValue : Taken → List ℕ
 oneValue t = t .value ∷ []
 
 abbrev pub movedRow : Taken → List ℕ
-movedRow t = rowOf (t .after)
+movedRow t = readerRow (t .after)
 
 unfoldable pub nextRow : List ℕ → List ℕ → SaidOn Position Taken → List ℕ
-nextRow row out said = cond (leb rowLength (length row) && leb 1 (length out)) (rowOn rowLength movedRow row said) row
+nextRow row out said = cond (leb readerLength (length row) && leb 1 (length out)) (rowIn movedRow row (stateless said)) row
 
 -- ---- end
 
 unfoldable pub endNumber : List ℕ → List ℕ → ℕ
-endNumber bytes row = cond (leb rowLength (length row)) (plainNumber (endAnswer bytes (positionIn row))) 4
+endNumber bytes row = cond (leb readerLength (length row)) (plainNumber (endAnswer bytes (positionIn row))) 4

@@ -7,28 +7,29 @@ use lib.Dec.{eqb, leb}
 use lib.ListN.{getD}
 use Rattle.exports.specs.Face.{wordOf}
 use Rattle.exports.specs.Words.{small}
+use Rattle.stream.specs.Format.{opening}
 use Rattle.reader.specs.declared.position.Position.{Position}
 
-abbrev pub rowLength : ℕ
-rowLength = 6
+abbrev pub readerLength : ℕ
+readerLength = 6
 
-unfoldable pub rowOf : Position → List ℕ
-rowOf p = p .at .last ∷ p .at .lead ∷ p .at .trail ∷ wordOf (p .«with_first») ∷ p .at .place ∷ p .at .count ∷ []
+unfoldable pub readerRow : Position → List ℕ
+readerRow p = p .at .last ∷ p .at .lead ∷ p .at .trail ∷ wordOf (p .«with_first») ∷ p .at .place ∷ p .at .count ∷ []
 
 -- words of 32 bits where a reader has such, and a flag of 0 or 1
 unfoldable pub standsForReader : List ℕ → Bool
 standsForReader row = small (getD row 0 0) && (small (getD row 1 0) && (small (getD row 2 0) && leb (getD row 3 0) 1))
 
 -- where no stream allows a reader: it has a place and no value
-abbrev pub spoiled : Position
-spoiled = record { «with_first» = false; at = record { last = 0; lead = 255; trail = 0; place = 1; count = 0 } }
+abbrev pub spoiledPosition : Position
+spoiledPosition = record { «with_first» = false; at = record { last = 0; lead = opening .lead; trail = opening .trail; place = 1; count = 0 } }
 
-abbrev pub read : List ℕ → Position
-read row =
+abbrev pub readPosition : List ℕ → Position
+readPosition row =
     record {
       «with_first» = eqb (getD row 3 0) 1;
       at = record { last = getD row 0 0; lead = getD row 1 0; trail = getD row 2 0; place = getD row 4 0; count = getD row 5 0 };
     }
 
 unfoldable pub positionIn : List ℕ → Position
-positionIn row = cond (standsForReader row) (read row) spoiled
+positionIn row = cond (standsForReader row) (readPosition row) spoiledPosition

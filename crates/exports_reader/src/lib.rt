@@ -7,7 +7,7 @@ ghost use Rattle.exports.specs.Face.{askNumber, askRow, numberOf, rowAfter, one
 ghost use Rattle.exports_stream.specs.Calls.{openingOf, countIn};
 ghost use Rattle.reader.specs.Calls.{nextAnswer};
 ghost use Rattle.reader.specs.Run.{lastAnswer};
-ghost use Rattle.exports_reader.specs.Row.{rowLength, positionIn};
+ghost use Rattle.exports_reader.specs.Row.{readerLength, positionIn};
 ghost use Rattle.exports_reader.specs.Calls.{openNumber, openRow, oneValue, nextRow, endNumber};
 use models::ValueAnswer;
 use models::Verdict;
@@ -25,23 +25,19 @@ pub extern "C" fn modelardb_reader_open(mode: u32, opening: u32, reader: &mut [u
     if 1 < mode {
         return 3;
     }
-    if reader.len() < 6 {
-        return 4;
-    }
     let start = position::start(exports_stream::opening_of(mode, opening));
-    row::put_position(reader, start);
-    0
+    exports::put_said(Verdict::Passed, &row::position_words(start), reader)
 }
 
 // The next value into out[0]; the row becomes the reader behind it.
 #[no_mangle]
 pub extern "C" fn modelardb_reader_next(bytes: &[u8], reader: &mut [u64], out: &mut [u32]) -> u32
-    ensures number { λ r. ⌜ r ≡ askNumber rowLength (now (reader .entry)) 1 (length (now (out .entry))) (nextAnswer (now (bytes .entry)) (positionIn (now (reader .entry)))) ⌝ }
+    ensures number { λ r. ⌜ r ≡ askNumber readerLength (now (reader .entry)) 1 (length (now (out .entry))) (nextAnswer (now (bytes .entry)) (positionIn (now (reader .entry)))) ⌝ }
     ensures row { λ r. ⌜ now (reader .exit) ≡ nextRow (now (reader .entry)) (now (out .entry)) (nextAnswer (now (bytes .entry)) (positionIn (now (reader .entry)))) ⌝ }
-    ensures value { λ r. ⌜ now (out .exit) ≡ askRow rowLength (now (reader .entry)) 1 oneValue (now (out .entry)) (nextAnswer (now (bytes .entry)) (positionIn (now (reader .entry)))) ⌝ }
+    ensures value { λ r. ⌜ now (out .exit) ≡ askRow readerLength (now (reader .entry)) 1 oneValue (now (out .entry)) (nextAnswer (now (bytes .entry)) (positionIn (now (reader .entry)))) ⌝ }
 {
-    if reader.len() < 6 {
-        return 4;
+    if reader.len() < row::WORDS {
+        return exports::TOO_SHORT;
     }
     let step = position::step_from(bytes, row::position_in(reader));
     let answer = step.answer;
@@ -49,11 +45,10 @@ pub extern "C" fn modelardb_reader_next(bytes: &[u8], reader: &mut [u64], out: &
         ValueAnswer::Refused(r) => exports::number_with(r, 1, out.len()),
         ValueAnswer::Answered(value) => {
             if out.len() < 1 {
-                return 4;
+                return exports::TOO_SHORT;
             }
             out[0] = value;
-            row::put_position(reader, step.after);
-            0
+            exports::put_said(Verdict::Passed, &row::position_words(step.after), reader)
         }
     }
 }
@@ -63,8 +58,8 @@ pub extern "C" fn modelardb_reader_next(bytes: &[u8], reader: &mut [u64], out: &
 pub extern "C" fn modelardb_reader_end(bytes: &[u8], reader: &[u64]) -> u32
     ensures { λ r. ⌜ r ≡ endNumber (now (bytes .entry)) (now (reader .entry)) ⌝ }
 {
-    if reader.len() < 6 {
-        return 4;
+    if reader.len() < row::WORDS {
+        return exports::TOO_SHORT;
     }
     match position::end_from(bytes, row::position_in(reader)) {
         Verdict::Refused(r) => models::number_of(r),
@@ -86,14 +81,6 @@ pub extern "C" fn modelardb_reader_last_value(
     ensures value { λ r. ⌜ now (out .exit) ≡ rowAfter 1 oneWord (now (out .entry)) (lastAnswer (now (bytes .entry)) (countIn mode count) (openingOf mode opening)) ⌝ }
 {
     let n = exports_stream::count_in(mode, count);
-    match reader::last_value(bytes, n, exports_stream::opening_of(mode, opening)) {
-        ValueAnswer::Refused(r) => exports::number_with(r, 1, out.len()),
-        ValueAnswer::Answered(value) => {
-            if out.len() < 1 {
-                return 4;
-            }
-            out[0] = value;
-            0
-        }
-    }
+    let answer = reader::last_value(bytes, n, exports_stream::opening_of(mode, opening));
+    exports::put_value(answer, out)
 }

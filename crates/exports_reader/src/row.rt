@@ -1,34 +1,32 @@
 // Where a reader stands as a row of six words (specs/Row.antt): to the row, and back. A row that stands
 // for no reader stands for one that the call behind refuses.
 ghost use mathlib.Core.Path.{_≡_};
-ghost use mathlib.Core.List.{_++_};
 ghost use Prim.Native.Nat.{_≤_};
-ghost use lib.ListN.{length, drop};
-ghost use Rattle.exports_reader.specs.Row.{rowOf, standsForReader, positionIn};
+ghost use lib.ListN.{length};
+ghost use Rattle.exports_reader.specs.Row.{readerLength, readerRow, standsForReader, positionIn};
 use exports::words;
 use macaque_v::MacaqueV;
 use macaque_v::read_run::Cursor;
 use reader::position::Position;
 
-// The words to the front of the row.
-pub fn put_position(row: &mut [u64], p: Position)
-    requires { ⌜ 6 ≤ length (now row) ⌝ }
-    ensures { λ _. ⌜ now (row .exit) ≡ rowOf p ++ drop 6 (now (row .entry)) ⌝ }
+pub const WORDS: usize = 6;
+
+pub fn position_words(p: Position) -> [u64; WORDS]
+    ensures { λ r. ⌜ r ≡ readerRow p ⌝ }
 {
     let at = p.at;
-    let out = [
+    [
         at.last as u64,
         at.lead as u64,
         at.trail as u64,
         exports::word_of(p.with_first) as u64,
         at.place as u64,
         at.count as u64,
-    ];
-    exports::put_words(&out, row);
+    ]
 }
 
 fn stands_for_reader(row: &[u64]) -> bool
-    requires { ⌜ 6 ≤ length (now row) ⌝ }
+    requires { ⌜ readerLength ≤ length (now row) ⌝ }
     ensures { λ r. ⌜ r ≡ standsForReader (now (row .entry)) ⌝ }
 {
     words::is_small(row[0]) & (words::is_small(row[1]) & (words::is_small(row[2]) & (row[3] <= 1)))
@@ -36,7 +34,7 @@ fn stands_for_reader(row: &[u64]) -> bool
 
 // Where the reader stands that a row stands for.
 pub fn position_in(row: &[u64]) -> Position
-    requires { ⌜ 6 ≤ length (now row) ⌝ }
+    requires { ⌜ readerLength ≤ length (now row) ⌝ }
     ensures { λ r. ⌜ r ≡ positionIn (now (row .entry)) ⌝ }
 {
     if !stands_for_reader(row) {

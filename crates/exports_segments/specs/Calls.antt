@@ -5,8 +5,8 @@ use mathlib.Core.List.{List, [], _∷_, _++_}
 use Prim.Native.Nat.{ℕ}
 use lib.Dec.{ltb}
 use lib.IntN.{ℤ}
-use lib.ListN.{length, drop}
-use Rattle.models.specs.Answers.{Said, answered, refused, Cause, _when_, judge, judgedMemory}
+use lib.ListN.{length}
+use Rattle.models.specs.Answers.{Cause, _when_, judge, judgedMemory, faultNumber}
 use Rattle.models.specs.declared.ErrorBound.{ErrorBound}
 use Rattle.parameters.specs.Forms.{Ends, formBytes}
 use Rattle.parameters.specs.Calls.{lengthAnswer, bytesAfter}
@@ -15,7 +15,7 @@ use Rattle.segments.specs.Calls.{writeCauses, writeAnswer, valuesAfter, residua
 use Rattle.segments.specs.declared.Segment.{Segment}
 use Rattle.segment_grid.specs.Segment.{endsIn}
 use Rattle.segment_grid.specs.Calls.{gridAnswer, gridMemory, sumAnswer}
-use Rattle.exports.specs.Face.{numberOf, rowAfter, plainNumber, oneWord}
+use Rattle.exports.specs.Face.{numberOf, rowIn, rowAfter, plainNumber, oneWord}
 
 -- ---- the words of an answer
 
@@ -27,11 +27,8 @@ endsWords ends = ends .0 ∷ ends .1 ∷ []
 abbrev pub segmentWords : Segment → List ℕ
 segmentWords s = s .«min_value» ∷ s .«max_value» ∷ s .«values_length» ∷ s .«residuals_length» ∷ []
 
--- ---- of what a call says: the row with the words at its front
-
-abbrev pub rowIn : {A : Type 0} → (A → List ℕ) → List ℕ → Said A → List ℕ
-rowIn words row (answered x) = words x ++ drop (length (words x)) row
-rowIn words row (refused n) = row
+abbrev pub segmentLength : ℕ
+segmentLength = 4
 
 -- a row of `room` words that is lent for `need` of them beside other outputs is one of the lent outputs: 4 is judged before any of them is touched
 abbrev pub rowShort : ℕ → ℕ → Cause
@@ -40,7 +37,7 @@ rowShort need room = 4 when ltb room need
 -- ---- encode: the bytes of a form, and the row that takes their number
 
 unfoldable pub encodeNumber : Form → List ℕ → List ℕ → ℕ
-encodeNumber form out row = judge (λ (n : ℕ). n) (rowShort 1 (length row) ∷ []) (plainNumber (lengthAnswer (formBytes form) out))
+encodeNumber form out row = judge faultNumber (rowShort 1 (length row) ∷ []) (plainNumber (lengthAnswer (formBytes form) out))
 
 unfoldable pub encodeOut : Form → List ℕ → List ℕ → List ℕ
 encodeOut form out row = judgedMemory out (rowShort 1 (length row) ∷ []) (bytesAfter (formBytes form) out)
@@ -51,11 +48,11 @@ encodeRow form out row = judgedMemory row (rowShort 1 (length row) ∷ []) (rowI
 -- ---- writing a segment: 1, 3, then 4 for the row, then what the call behind says, which is 4 for the other two outputs
 
 abbrev pub segmentCauses : ℕ → ErrorBound → List ℕ → ℕ → List Cause
-segmentCauses model b xs room = writeCauses model b xs ++ (rowShort 4 room ∷ [])
+segmentCauses model b xs room = writeCauses model b xs ++ (rowShort segmentLength room ∷ [])
 
 unfoldable pub segmentNumber : ℕ → ℕ → ℕ → ErrorBound → List ℕ → List ℕ → List ℕ → List ℕ → ℕ
 segmentNumber model first last b xs valuesOut residualsOut row =
-    judge (λ (n : ℕ). n) (segmentCauses model b xs (length row)) (plainNumber (writeAnswer model first last b xs valuesOut residualsOut))
+    judge faultNumber (segmentCauses model b xs (length row)) (plainNumber (writeAnswer model first last b xs valuesOut residualsOut))
 
 unfoldable pub segmentValuesOut : ℕ → ℕ → ℕ → ErrorBound → List ℕ → List ℕ → List ℕ → List ℕ → List ℕ
 segmentValuesOut model first last b xs valuesOut residualsOut row =
@@ -79,7 +76,7 @@ gridOut model ts min max values residuals out = gridMemory model ts (endsIn mode
 
 -- the output is judged in its place in 01's order: after 3 and 12, before 10, 9, 11 and the residual stream's own
 unfoldable pub sumNumber : Bool → ℕ → List ℤ → ℕ → ℕ → List ℕ → List ℕ → List ℕ → ℕ
-sumNumber form model ts min max values residuals out = numberOf 1 (length out) (sumAnswer form model ts (endsIn model min max values) residuals)
+sumNumber way model ts min max values residuals out = numberOf 1 (length out) (sumAnswer way model ts (endsIn model min max values) residuals)
 
 unfoldable pub sumOut : Bool → ℕ → List ℤ → ℕ → ℕ → List ℕ → List ℕ → List ℕ → List ℕ
-sumOut form model ts min max values residuals out = rowAfter 1 oneWord out (sumAnswer form model ts (endsIn model min max values) residuals)
+sumOut way model ts min max values residuals out = rowAfter 1 oneWord out (sumAnswer way model ts (endsIn model min max values) residuals)

@@ -1,2 +1,3 @@
 -- How parameter bytes and segments cross the C face.
 pub mod Calls
+pub mod inner

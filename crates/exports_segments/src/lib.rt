@@ -4,7 +4,7 @@ ghost use mathlib.Core.Path.{_≡_};
 ghost use lib.ListN.{length};
 ghost use Rattle.models.specs.Answers.{verdict};
 ghost use Rattle.models.specs.Calls.{saysVerdict};
-ghost use Rattle.parameters.specs.Forms.{pmcMeanForm, swingForm, pmcMeanIn, swingIn};
+ghost use Rattle.parameters.specs.Forms.{pmcMeanForm, swingForm, swingFrom, pmcMeanFrom};
 ghost use Rattle.segment_grid.specs.Segment.{byAverage, overTimes};
 ghost use Rattle.exports.specs.Face.{boundOf, numberOf, rowAfter, oneWord};
 ghost use Rattle.exports_segments.specs.Calls.{endsWords, encodeNumber, encodeOut, encodeRow};
@@ -35,7 +35,7 @@ pub extern "C" fn modelardb_encode_values_for_pmc_mean(
     ensures row { λ r. ⌜ now (row .exit) ≡ encodeRow (pmcMeanForm value «residuals_min_value» «residuals_max_value») (now (out .entry)) (now (row .entry)) ⌝ }
 {
     if row.len() < 1 {
-        return 4;
+        return exports::TOO_SHORT;
     }
     let answer = parameters::encode_values_for_pmc_mean(
         value,
@@ -61,7 +61,7 @@ pub extern "C" fn modelardb_encode_values_for_swing(
     ensures row { λ r. ⌜ now (row .exit) ≡ encodeRow (swingForm «first_value» «last_value» «residuals_min_value» «residuals_max_value») (now (out .entry)) (now (row .entry)) ⌝ }
 {
     if row.len() < 1 {
-        return 4;
+        return exports::TOO_SHORT;
     }
     let answer = parameters::encode_values_for_swing(
         first_value,
@@ -82,11 +82,11 @@ pub extern "C" fn modelardb_decode_values_for_pmc_mean(
     values: &[u8],
     out: &mut [u32],
 ) -> u32
-    ensures number { λ r. ⌜ r ≡ numberOf 1 (length (now (out .entry))) (pmcMeanIn «min_value» «max_value» (now (values .entry))) ⌝ }
-    ensures row { λ r. ⌜ now (out .exit) ≡ rowAfter 1 oneWord (now (out .entry)) (pmcMeanIn «min_value» «max_value» (now (values .entry))) ⌝ }
+    ensures number { λ r. ⌜ r ≡ numberOf 1 (length (now (out .entry))) (pmcMeanFrom «min_value» «max_value» (now (values .entry))) ⌝ }
+    ensures row { λ r. ⌜ now (out .exit) ≡ rowAfter 1 oneWord (now (out .entry)) (pmcMeanFrom «min_value» «max_value» (now (values .entry))) ⌝ }
 {
     let answer = parameters::decode_values_for_pmc_mean(min_value, max_value, values);
-    rows::put_value(answer, out)
+    exports::put_value(answer, out)
 }
 
 // The first and the last value that Swing's parameter bytes give into out[0] and out[1].
@@ -97,11 +97,11 @@ pub extern "C" fn modelardb_decode_values_for_swing(
     values: &[u8],
     out: &mut [u32],
 ) -> u32
-    ensures number { λ r. ⌜ r ≡ numberOf 2 (length (now (out .entry))) (swingIn «min_value» «max_value» (now (values .entry))) ⌝ }
-    ensures row { λ r. ⌜ now (out .exit) ≡ rowAfter 2 endsWords (now (out .entry)) (swingIn «min_value» «max_value» (now (values .entry))) ⌝ }
+    ensures number { λ r. ⌜ r ≡ numberOf 2 (length (now (out .entry))) (swingFrom «min_value» «max_value» (now (values .entry))) ⌝ }
+    ensures row { λ r. ⌜ now (out .exit) ≡ rowAfter 2 endsWords (now (out .entry)) (swingFrom «min_value» «max_value» (now (values .entry))) ⌝ }
 {
     let answer = parameters::decode_values_for_swing(min_value, max_value, values);
-    rows::put_ends(answer, out)
+    exports::put_ends(rows::ends_in(answer), out)
 }
 
 // ---- writing a segment
@@ -149,7 +149,11 @@ fn judge_write(model: u32, error_bound: ErrorBound, residuals: &[u32], room: usi
     ensures { λ r. ⌜ saysVerdict r ≡ verdict (segmentCauses model «error_bound» (now (residuals .entry)) room) ⌝ }
 {
     let over = (1 < model) | (MacaqueV::MOST_RESIDUALS < residuals.len());
-    let short = models::when(Refusal::OutputTooShort, room < 4, Verdict::Passed);
+    let short = models::when(
+        Refusal::OutputTooShort,
+        room < rows::SEGMENT_WORDS,
+        Verdict::Passed,
+    );
     let limit = models::when(Refusal::OverLimit, over, short);
     models::when(
         Refusal::BoundNotAllowed,
@@ -211,7 +215,7 @@ pub extern "C" fn modelardb_segment_sum_by_average(
         values,
         residuals,
     );
-    rows::put_value(answer, out)
+    exports::put_value(answer, out)
 }
 
 // The sum of all its values into out[0], the model's over its timestamps.
@@ -229,5 +233,5 @@ pub extern "C" fn modelardb_segment_sum_over(
     ensures row { λ r. ⌜ now (out .exit) ≡ sumOut overTimes model (now (timestamps .entry)) «min_value» «max_value» (now (values .entry)) (now (residuals .entry)) (now (out .entry)) ⌝ }
 {
     let answer = segment_grid::sum_over(model, timestamps, min_value, max_value, values, residuals);
-    rows::put_value(answer, out)
+    exports::put_value(answer, out)
 }

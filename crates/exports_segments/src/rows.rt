@@ -2,50 +2,27 @@
 ghost use mathlib.Core.Path.{_≡_};
 ghost use Prim.Native.Nat.{_≤_};
 ghost use lib.ListN.{length};
-ghost use Rattle.models.specs.Calls.{saysValue};
-ghost use Rattle.parameters.specs.Calls.{saysLength, saysEnds};
+ghost use Rattle.parameters.specs.Calls.{saysLength};
 ghost use Rattle.segments.specs.Calls.{saysSegment};
-ghost use Rattle.exports.specs.Face.{numberOf, rowAfter, plainNumber, oneWord};
-ghost use Rattle.exports_segments.specs.Calls.{endsWords, segmentWords, rowIn};
-use models::ValueAnswer;
-use parameters::EndsAnswer;
+ghost use Rattle.exports.specs.Face.{plainNumber, rowIn, oneWord};
+ghost use Rattle.exports_segments.specs.Calls.{segmentLength, segmentWords};
+ghost use Rattle.exports_segments.specs.inner.Answers.{pairOf};
+use exports::PairAnswer;
+use models::Verdict;
 use parameters::LengthAnswer;
 use segments::SegmentAnswer;
 
-// ---- rows that are the only output: 4 has its place among the causes
-
-pub fn put_value(answer: ValueAnswer, out: &mut [u32]) -> u32
-    ensures number { λ r. ⌜ r ≡ numberOf 1 (length (now (out .entry))) (saysValue answer) ⌝ }
-    ensures row { λ r. ⌜ now (out .exit) ≡ rowAfter 1 oneWord (now (out .entry)) (saysValue answer) ⌝ }
+// The line's ends, as what goes into a row.
+pub fn ends_in(answer: parameters::EndsAnswer) -> PairAnswer
+    ensures { λ r. ⌜ r ≡ pairOf answer ⌝ }
 {
     match answer {
-        ValueAnswer::Refused(r) => exports::number_with(r, 1, out.len()),
-        ValueAnswer::Answered(bits) => {
-            if out.len() < 1 {
-                return 4;
-            }
-            out[0] = bits;
-            0
-        }
+        parameters::EndsAnswer::Refused(r) => PairAnswer::Refused(r),
+        parameters::EndsAnswer::Read(first, last) => PairAnswer::Answered(first, last),
     }
 }
 
-pub fn put_ends(answer: EndsAnswer, out: &mut [u32]) -> u32
-    ensures number { λ r. ⌜ r ≡ numberOf 2 (length (now (out .entry))) (saysEnds answer) ⌝ }
-    ensures row { λ r. ⌜ now (out .exit) ≡ rowAfter 2 endsWords (now (out .entry)) (saysEnds answer) ⌝ }
-{
-    match answer {
-        EndsAnswer::Refused(r) => exports::number_with(r, 2, out.len()),
-        EndsAnswer::Read(first, last) => {
-            if out.len() < 2 {
-                return 4;
-            }
-            out[0] = first;
-            out[1] = last;
-            0
-        }
-    }
-}
+pub const SEGMENT_WORDS: usize = 4;
 
 // ---- rows beside other outputs, already judged
 
@@ -58,14 +35,13 @@ pub fn put_length(answer: LengthAnswer, row: &mut [u64]) -> u32
         LengthAnswer::Refused(r) => models::number_of(r),
         LengthAnswer::Written(n) => {
             let words = [n as u64];
-            exports::put_words(&words, row);
-            0
+            exports::put_said(Verdict::Passed, &words, row)
         }
     }
 }
 
 pub fn put_segment(answer: SegmentAnswer, row: &mut [u64]) -> u32
-    requires { ⌜ 4 ≤ length (now row) ⌝ }
+    requires { ⌜ segmentLength ≤ length (now row) ⌝ }
     ensures number { λ r. ⌜ r ≡ plainNumber (saysSegment answer) ⌝ }
     ensures row { λ r. ⌜ now (row .exit) ≡ rowIn segmentWords (now (row .entry)) (saysSegment answer) ⌝ }
 {
@@ -78,8 +54,7 @@ pub fn put_segment(answer: SegmentAnswer, row: &mut [u64]) -> u32
                 s.values_length as u64,
                 s.residuals_length as u64,
             ];
-            exports::put_words(&words, row);
-            0
+            exports::put_said(Verdict::Passed, &words, row)
         }
     }
 }

@@ -3,17 +3,21 @@ use mathlib.Core.Path.{_≡_, refl, sym, ap, ap₂, _∙_}
 use mathlib.Core.Bool.{Bool, true, false, cond, _&&_, false≢true}
 use mathlib.Core.List.{List}
 use Prim.Native.Nat.{ℕ, _%_, _^_}
-use lib.Dec.{leb, eqb}
-use lib.ListN.{getD}
+use lib.Dec.{eqb}
+use lib.ListN.{length, getD}
 use Rattle.models.specs.declared.ErrorBound.{ErrorBound}
 use Rattle.macaque_v.specs.declared.MacaqueV.{MacaqueV}
 use Rattle.exports.proofs.Small.{low-is}
 use Rattle.exports.specs.Words.{small, boundIn}
-use Rattle.exports_stream.specs.Row.{standsForState, spoiled, read, writerIn}
+use Rattle.exports_stream.specs.Row.{writerLength, writerRow, standsForState, spoiledWriter, readWriter, writerIn}
 
 and-both : (a b : Bool) → (a && b) ≡ true → (a ≡ true) × (b ≡ true)
 and-both true b h = (refl, h)
 and-both false b h = absurd (false≢true h)
+
+pub writer-long : (m : MacaqueV) → length (writerRow m) ≡ writerLength
+unfolding writerRow
+writer-long m = refl
 
 -- the state whose five words of 32 bits are these
 abbrev pub stateWith : ErrorBound → List ℕ → ℕ → ℕ → ℕ → ℕ → ℕ → MacaqueV
@@ -31,7 +35,7 @@ stateWith b row min max last lead trail =
     }
 
 module _ (row : List ℕ) where
-  pub no-state : standsForState row ≡ false → spoiled (boundIn (getD row 0 0) (getD row 1 0)) ≡ writerIn row
+  pub no-state : standsForState row ≡ false → spoiledWriter (boundIn (getD row 0 0) (getD row 1 0)) ≡ writerIn row
   unfolding writerIn
   no-state h = sym (rw h)
 
@@ -49,4 +53,4 @@ module _ (row : List ℕ) where
       ap₂ (λ (x y : ℕ). stateWith b row x y (getD row 4 0 % 2 ^ 32) (getD row 5 0 % 2 ^ 32) (getD row 6 0 % 2 ^ 32)) (low-is (getD row 2 0) (t2 .0)) (low-is (getD row 3 0) (t3 .0))
       ∙ ap₂ (λ (x y : ℕ). stateWith b row (getD row 2 0) (getD row 3 0) x y (getD row 6 0 % 2 ^ 32)) (low-is (getD row 4 0) (t4 .0)) (low-is (getD row 5 0) (t5 .0))
       ∙ ap (λ (x : ℕ). stateWith b row (getD row 2 0) (getD row 3 0) (getD row 4 0) (getD row 5 0) x) (low-is (getD row 6 0) (t6 .0))
-      ∙ sym (ap (λ (t : Bool). cond t (read b row) (spoiled b)) h)
+      ∙ sym (ap (λ (t : Bool). cond t (readWriter b row) (spoiledWriter b)) h)

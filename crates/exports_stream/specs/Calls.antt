@@ -1,19 +1,21 @@
 -- What the calls of MacaqueV's C face answer and leave: the number, and the lent memory afterwards, by what the call behind says. Assumes nothing.
 use mathlib.Core.Bool.{cond, not}
 use mathlib.Core.List.{List, [], _∷_, _++_}
-use Prim.Native.Nat.{ℕ}
+use Prim.Native.Nat.{ℕ, _≤_}
 use lib.Dec.{eqb, leb, ltb}
-use lib.ListN.{length, drop}
-use Rattle.models.specs.Answers.{Said, answered, refused, SaidOn, answeredOn, refusedOn, Cause, _when_, judge, judgedMemory}
+use lib.ListN.{length}
+use Rattle.models.specs.Answers.{Said, Cause, _when_, judge, judgedMemory, faultNumber}
 use Rattle.models.specs.Bound.{boundAllowed}
 use Rattle.models.specs.declared.ErrorBound.{ErrorBound}
 use Rattle.macaque_v.specs.Calls.{newAnswer, writeAnswer, writeMemory}
 use Rattle.macaque_v.specs.Read.{gridAnswer, gridMemory, sumAnswer, reopenCauses, reopenAnswer, reopenMemory}
+use Rattle.macaque_v.specs.Made.{Made}
 use Rattle.macaque_v.specs.declared.MacaqueV.{MacaqueV}
 use Rattle.macaque_v.specs.declared.Opening.{Opening}
 use Rattle.macaque_v.specs.declared.Opening.the-variants.{First, On}
-use Rattle.exports.specs.Face.{boundOf, numberOf, rowAfter, plainNumber}
-use Rattle.exports_stream.specs.Row.{rowLength, rowOf, writerIn}
+use Rattle.exports.specs.Face.{boundOf, numberOf, rowIn, rowAfter, stepNumber, stepRow, plainNumber, oneWord}
+use Rattle.exports.specs.Words.{noCount}
+use Rattle.exports_stream.specs.Row.{writerLength, writerRow, writerIn}
 
 -- ---- how a stream opens: mode 0 stores the first value in full and looks at no other, mode 1 opens on the value
 
@@ -22,50 +24,36 @@ openingOf mode opening = cond (eqb mode 0) First (On opening)
 
 -- A mode above 1 is no mode, and is refused with 3 where a count above its limit is: with such a mode every count stands for one.
 abbrev pub countIn : ℕ → ℕ → ℕ
-countIn mode count = cond (leb mode 1) count 65537
-
--- ---- of what a call says: the number, and the row that it hands a state out in
-
-abbrev pub rowIn : List ℕ → Said MacaqueV → List ℕ
-rowIn row (answered m) = rowOf m ++ drop rowLength row
-rowIn row (refused n) = row
+countIn mode count = cond (leb mode 1) count noCount
 
 -- ---- new: its causes in 01's order, then what the call behind says
 
 abbrev pub newCauses : ErrorBound → ℕ → ℕ → List Cause
-newCauses b mode words = 1 when not (boundAllowed b) ∷ 3 when ltb 1 mode ∷ 4 when ltb words rowLength ∷ []
+newCauses b mode words = 1 when not (boundAllowed b) ∷ 3 when ltb 1 mode ∷ 4 when ltb words writerLength ∷ []
 
 unfoldable pub newNumber : ℕ → ℕ → ℕ → ℕ → List ℕ → ℕ
 newNumber kind bound mode opening row =
-    judge (λ (n : ℕ). n) (newCauses (boundOf kind bound) mode (length row)) (plainNumber (newAnswer (boundOf kind bound) (openingOf mode opening)))
+    judge faultNumber (newCauses (boundOf kind bound) mode (length row)) (plainNumber (newAnswer (boundOf kind bound) (openingOf mode opening)))
 
 unfoldable pub newRow : ℕ → ℕ → ℕ → ℕ → List ℕ → List ℕ
 newRow kind bound mode opening row =
-    judgedMemory row (newCauses (boundOf kind bound) mode (length row)) (rowIn row (newAnswer (boundOf kind bound) (openingOf mode opening)))
+    judgedMemory row (newCauses (boundOf kind bound) mode (length row)) (rowIn writerRow row (newAnswer (boundOf kind bound) (openingOf mode opening)))
 
--- ---- compress_values: the number, the row and the buffer. The row is read before anything is judged, so a row that is too short is 4 first.
+-- ---- compress_values: the number and the row of a step, and the buffer. The row is read before anything is judged, so a row that is too short is 4 first.
 
-abbrev pub numberOn : {S A : Type 0} → SaidOn S A → ℕ
-numberOn (answeredOn x) = 0
-numberOn (refusedOn n s) = n
+abbrev pub writeNumber : List ℕ → List ℕ → List ℕ → ℕ
+writeNumber row xs buf = stepNumber writerLength row (writeAnswer (writerIn row) xs buf)
 
-abbrev pub rowOn : List ℕ → SaidOn MacaqueV MacaqueV → List ℕ
-rowOn row (answeredOn m) = rowOf m ++ drop rowLength row
-rowOn row (refusedOn n s) = row
-
-unfoldable pub writeNumber : List ℕ → List ℕ → List ℕ → ℕ
-writeNumber row xs buf = cond (leb rowLength (length row)) (numberOn (writeAnswer (writerIn row) xs buf)) 4
-
-unfoldable pub writeRow : List ℕ → List ℕ → List ℕ → List ℕ
-writeRow row xs buf = cond (leb rowLength (length row)) (rowOn row (writeAnswer (writerIn row) xs buf)) row
+abbrev pub writeRow : List ℕ → List ℕ → List ℕ → List ℕ
+writeRow row xs buf = stepRow writerLength writerRow row (writeAnswer (writerIn row) xs buf)
 
 unfoldable pub writeBuffer : List ℕ → List ℕ → List ℕ → List ℕ
-writeBuffer row xs buf = cond (leb rowLength (length row)) (writeMemory (writerIn row) xs buf) buf
+writeBuffer row xs buf = cond (leb writerLength (length row)) (writeMemory (writerIn row) xs buf) buf
 
 -- ---- reopen: 1, 3, 12, then 4 for the row, and only then what the stream gives. Till then the buffer is untouched.
 
 abbrev pub reopenCausesWith : ErrorBound → ℕ → ℕ → ℕ → ℕ → ℕ → List Cause
-reopenCausesWith b room used count k words = reopenCauses b room used count k ++ (4 when ltb words rowLength ∷ [])
+reopenCausesWith b room used count k words = reopenCauses b room used count k ++ (4 when ltb words writerLength ∷ [])
 
 abbrev pub reopenFaceCauses : List ℕ → ℕ → ℕ → ℕ → ℕ → ℕ → ℕ → List ℕ → List Cause
 reopenFaceCauses buf used count k mode kind bound row = reopenCausesWith (boundOf kind bound) (length buf) used (countIn mode count) k (length row)
@@ -78,11 +66,11 @@ reopenLeft buf used count k mode opening kind bound = reopenMemory buf used (cou
 
 unfoldable pub reopenNumber : List ℕ → ℕ → ℕ → ℕ → ℕ → ℕ → ℕ → ℕ → List ℕ → ℕ
 reopenNumber buf used count k mode opening kind bound row =
-    judge (λ (n : ℕ). n) (reopenFaceCauses buf used count k mode kind bound row) (plainNumber (reopenSaid buf used count k mode opening kind bound))
+    judge faultNumber (reopenFaceCauses buf used count k mode kind bound row) (plainNumber (reopenSaid buf used count k mode opening kind bound))
 
 unfoldable pub reopenRow : List ℕ → ℕ → ℕ → ℕ → ℕ → ℕ → ℕ → ℕ → List ℕ → List ℕ
 reopenRow buf used count k mode opening kind bound row =
-    judgedMemory row (reopenFaceCauses buf used count k mode kind bound row) (rowIn row (reopenSaid buf used count k mode opening kind bound))
+    judgedMemory row (reopenFaceCauses buf used count k mode kind bound row) (rowIn writerRow row (reopenSaid buf used count k mode opening kind bound))
 
 unfoldable pub reopenBuffer : List ℕ → ℕ → ℕ → ℕ → ℕ → ℕ → ℕ → ℕ → List ℕ → List ℕ
 reopenBuffer buf used count k mode opening kind bound row =
@@ -102,4 +90,11 @@ unfoldable pub sumNumber : List ℕ → ℕ → ℕ → ℕ → List ℕ → ℕ
 sumNumber bytes count mode opening out = numberOf 1 (length out) (sumAnswer bytes (countIn mode count) (openingOf mode opening))
 
 unfoldable pub sumOut : List ℕ → ℕ → ℕ → ℕ → List ℕ → List ℕ
-sumOut bytes count mode opening out = rowAfter 1 (λ (bits : ℕ). bits ∷ []) out (sumAnswer bytes (countIn mode count) (openingOf mode opening))
+sumOut bytes count mode opening out = rowAfter 1 oneWord out (sumAnswer bytes (countIn mode count) (openingOf mode opening))
+
+-- ---- demand 3, of rows
+
+-- row and buffer are what one fresh run over xs leaves: the row's writer has made the bytes
+pub record RowMade (b : ErrorBound) (o : Opening) (xs buf row : List ℕ) : Type 0 where
+  pub words : writerLength ≤ length row
+  pub made : Made b o xs buf (writerIn row)

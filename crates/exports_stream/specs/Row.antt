@@ -1,28 +1,26 @@
 -- A writer's state as a row of ten words: the bound's kind and bits; the least, the greatest and the last kept value; the window's leading and
 -- trailing zeros; 1 where the first value is stored in full, else 0; the place; the length. Assumes nothing.
-use mathlib.Core.Bool.{Bool, true, false, cond, _&&_}
-use mathlib.Core.List.{List, [], _∷_, _++_}
-use Prim.Native.Nat.{ℕ, _^_}
-use lib.Dec.{eqb, leb, ltb}
-use lib.Ieee.{nan, binary32, toBits}
-use lib.ListN.{length, drop, getD}
-use Rattle.models.specs.Answers.{Said, answered, refused, SaidOn, answeredOn, refusedOn}
+use mathlib.Core.Bool.{Bool, false, cond, _&&_}
+use mathlib.Core.List.{List, [], _∷_}
+use Prim.Native.Nat.{ℕ}
+use lib.Dec.{eqb, leb}
+use lib.ListN.{getD}
 use Rattle.models.specs.Floats.{freshBits}
 use Rattle.models.specs.declared.ErrorBound.{ErrorBound}
-use Rattle.models.specs.declared.ErrorBound.the-variants.{Lossless, Absolute, Relative}
 use Rattle.exports.specs.Face.{wordOf}
-use Rattle.exports.specs.Words.{kindOf, bitsOf, small, boundIn}
+use Rattle.exports.specs.Words.{boundKind, boundBits, small, boundIn}
+use Rattle.stream.specs.Format.{opening}
 use Rattle.macaque_v.specs.declared.MacaqueV.{MacaqueV}
 
-abbrev pub rowLength : ℕ
-rowLength = 10
+abbrev pub writerLength : ℕ
+writerLength = 10
 
 -- ---- a state's words
 
-unfoldable pub rowOf : MacaqueV → List ℕ
-rowOf m =
-    kindOf (m .«error_bound»)
-    ∷ bitsOf (m .«error_bound»)
+unfoldable pub writerRow : MacaqueV → List ℕ
+writerRow m =
+    boundKind (m .«error_bound»)
+    ∷ boundBits (m .«error_bound»)
     ∷ m .«min_value»
     ∷ m .«max_value»
     ∷ m .«last_value»
@@ -45,22 +43,22 @@ standsForState row =
     && (small (getD row 6 0) && leb (getD row 7 0) 1))))
 
 -- the state that no buffer allows: it has a place and no value
-abbrev pub spoiled : ErrorBound → MacaqueV
-spoiled b =
+abbrev pub spoiledWriter : ErrorBound → MacaqueV
+spoiledWriter b =
     record {
       «error_bound» = b;
       «min_value» = freshBits;
       «max_value» = freshBits;
       «last_value» = 0;
-      «last_leading_zero_bits» = 255;
-      «last_trailing_zero_bits» = 0;
+      «last_leading_zero_bits» = opening .lead;
+      «last_trailing_zero_bits» = opening .trail;
       «with_first» = false;
       place = 1;
       length = 0;
     }
 
-abbrev pub read : ErrorBound → List ℕ → MacaqueV
-read b row =
+abbrev pub readWriter : ErrorBound → List ℕ → MacaqueV
+readWriter b row =
     record {
       «error_bound» = b;
       «min_value» = getD row 2 0;
@@ -76,4 +74,4 @@ read b row =
 unfoldable pub writerIn : List ℕ → MacaqueV
 writerIn row =
     let b = boundIn (getD row 0 0) (getD row 1 0) in
-    cond (standsForState row) (read b row) (spoiled b)
+    cond (standsForState row) (readWriter b row) (spoiledWriter b)

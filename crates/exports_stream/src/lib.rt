@@ -6,11 +6,14 @@ ghost use Prim.Native.Nat.{_≤_};
 ghost use lib.ListN.{length};
 ghost use Rattle.models.specs.Answers.{verdict};
 ghost use Rattle.models.specs.Calls.{saysVerdict};
+ghost use Rattle.macaque_v.specs.Calls.{writeAnswer};
 ghost use Rattle.macaque_v.specs.Read.{saysOpen};
-ghost use Rattle.exports.specs.Face.{plainNumber};
-ghost use Rattle.exports_stream.specs.Calls.{openingOf, countIn, rowIn, newCauses, reopenCausesWith};
-ghost use Rattle.exports_stream.specs.Calls.{newNumber, newRow, writeNumber, writeRow, writeBuffer};
+ghost use Rattle.exports.specs.Face.{plainNumber, rowIn, stepNumber, stepRow};
+ghost use Rattle.exports_stream.specs.Row.{writerLength, writerRow, writerIn};
+ghost use Rattle.exports_stream.specs.Calls.{openingOf, countIn, newCauses, reopenCausesWith};
+ghost use Rattle.exports_stream.specs.Calls.{newNumber, newRow, writeBuffer};
 ghost use Rattle.exports_stream.specs.Calls.{reopenNumber, reopenRow, reopenBuffer, gridNumber, gridOut, sumNumber, sumOut};
+use exports::words;
 use macaque_v::MacaqueV;
 use macaque_v::Opening;
 use macaque_v::WriteAnswer;
@@ -19,7 +22,6 @@ use macaque_v::read::OpenAnswer;
 use models::ErrorBound;
 use models::GridAnswer;
 use models::Refusal;
-use models::ValueAnswer;
 use models::Verdict;
 
 mod row;
@@ -53,19 +55,17 @@ pub extern "C" fn modelardb_macaque_v_compress_values(
     values: &[u32],
     buffer: &mut [u8],
 ) -> u32
-    ensures number { λ r. ⌜ r ≡ writeNumber (now (state .entry)) (now (values .entry)) (now (buffer .entry)) ⌝ }
-    ensures row { λ r. ⌜ now (state .exit) ≡ writeRow (now (state .entry)) (now (values .entry)) (now (buffer .entry)) ⌝ }
+    ensures number { λ r. ⌜ r ≡ stepNumber writerLength (now (state .entry)) (writeAnswer (writerIn (now (state .entry))) (now (values .entry)) (now (buffer .entry))) ⌝ }
+    ensures row { λ r. ⌜ now (state .exit) ≡ stepRow writerLength writerRow (now (state .entry)) (writeAnswer (writerIn (now (state .entry))) (now (values .entry)) (now (buffer .entry))) ⌝ }
     ensures bytes { λ r. ⌜ now (buffer .exit) ≡ writeBuffer (now (state .entry)) (now (values .entry)) (now (buffer .entry)) ⌝ }
 {
-    if state.len() < 10 {
-        return 4;
+    if state.len() < row::WORDS {
+        return exports::TOO_SHORT;
     }
-    let writer = row::writer_of(state);
-    match writer.compress_values(values, buffer) {
+    match row::writer_of(state).compress_values(values, buffer) {
         WriteAnswer::Refused(r, _) => models::number_of(r),
         WriteAnswer::Written(after) => {
-            row::put_writer(state, after);
-            0
+            exports::put_said(Verdict::Passed, &row::writer_words(after), state)
         }
     }
 }
@@ -131,16 +131,8 @@ pub extern "C" fn modelardb_macaque_v_sum(
     ensures number { λ r. ⌜ r ≡ sumNumber (now (bytes .entry)) count mode opening (now (out .entry)) ⌝ }
     ensures values { λ r. ⌜ now (out .exit) ≡ sumOut (now (bytes .entry)) count mode opening (now (out .entry)) ⌝ }
 {
-    match read::sum(bytes, count_in(mode, count), opening_of(mode, opening)) {
-        ValueAnswer::Refused(r) => exports::number_with(r, 1, out.len()),
-        ValueAnswer::Answered(bits) => {
-            if out.len() < 1 {
-                return 4;
-            }
-            out[0] = bits;
-            0
-        }
-    }
+    let answer = read::sum(bytes, count_in(mode, count), opening_of(mode, opening));
+    exports::put_value(answer, out)
 }
 
 // ---- how a stream opens
@@ -159,11 +151,7 @@ pub fn opening_of(mode: u32, opening: u32) -> Opening
 pub fn count_in(mode: u32, count: usize) -> usize
     ensures { λ r. ⌜ r ≡ countIn mode count ⌝ }
 {
-    if mode <= 1 {
-        count
-    } else {
-        MacaqueV::MOST_VALUES + 1
-    }
+    if mode <= 1 { count } else { words::NO_COUNT }
 }
 
 // ---- the causes of refusal of a call that hands out a state: the row has to hold it
@@ -171,7 +159,7 @@ pub fn count_in(mode: u32, count: usize) -> usize
 fn judge_new(error_bound: ErrorBound, mode: u32, words: usize) -> Verdict
     ensures { λ r. ⌜ saysVerdict r ≡ verdict (newCauses «error_bound» mode words) ⌝ }
 {
-    let short = models::when(Refusal::OutputTooShort, words < 10, Verdict::Passed);
+    let short = models::when(Refusal::OutputTooShort, words < row::WORDS, Verdict::Passed);
     let no_mode = models::when(Refusal::OverLimit, 1 < mode, short);
     models::when(
         Refusal::BoundNotAllowed,
@@ -193,21 +181,24 @@ fn judge_reopen(
 {
     match read::judge_reopen(error_bound, room, used, count, k) {
         Verdict::Refused(r) => Verdict::Refused(r),
-        Verdict::Passed => models::when(Refusal::OutputTooShort, words < 10, Verdict::Passed),
+        Verdict::Passed => models::when(
+            Refusal::OutputTooShort,
+            words < row::WORDS,
+            Verdict::Passed,
+        ),
     }
 }
 
 // The state's words to the front of the row, where there is one.
 fn put_opened(writer: OpenAnswer, state: &mut [u64]) -> u32
-    requires { ⌜ 10 ≤ length (now state) ⌝ }
+    requires { ⌜ writerLength ≤ length (now state) ⌝ }
     ensures number { λ r. ⌜ r ≡ plainNumber (saysOpen writer) ⌝ }
-    ensures row { λ r. ⌜ now (state .exit) ≡ rowIn (now (state .entry)) (saysOpen writer) ⌝ }
+    ensures row { λ r. ⌜ now (state .exit) ≡ rowIn writerRow (now (state .entry)) (saysOpen writer) ⌝ }
 {
     match writer {
         OpenAnswer::Refused(r) => models::number_of(r),
         OpenAnswer::Opened(m) => {
-            row::put_writer(state, m);
-            0
+            exports::put_said(Verdict::Passed, &row::writer_words(m), state)
         }
     }
 }

@@ -1,22 +1,21 @@
 // A writer's state as a row of ten words (specs/Row.antt): to the row, and back. A row that stands for no
 // state stands for one that the call behind refuses.
 ghost use mathlib.Core.Path.{_≡_};
-ghost use mathlib.Core.List.{_++_};
 ghost use Prim.Native.Nat.{_≤_};
-ghost use lib.ListN.{length, drop};
-ghost use Rattle.exports_stream.specs.Row.{rowOf, standsForState, writerIn};
+ghost use lib.ListN.{length};
+ghost use Rattle.exports_stream.specs.Row.{writerLength, writerRow, standsForState, writerIn};
 use exports::words;
 use macaque_v::MacaqueV;
 
+pub const WORDS: usize = 10;
+
 // ---- to the row
 
-// The state's words to the front of the row.
-pub fn put_writer(row: &mut [u64], m: MacaqueV)
-    requires { ⌜ 10 ≤ length (now row) ⌝ }
-    ensures { λ _. ⌜ now (row .exit) ≡ rowOf m ++ drop 10 (now (row .entry)) ⌝ }
+pub fn writer_words(m: MacaqueV) -> [u64; WORDS]
+    ensures { λ r. ⌜ r ≡ writerRow m ⌝ }
 {
     let b = m.error_bound;
-    let out = [
+    [
         words::kind_of(b),
         words::bits_of(b),
         m.min_value as u64,
@@ -27,14 +26,13 @@ pub fn put_writer(row: &mut [u64], m: MacaqueV)
         exports::word_of(m.with_first) as u64,
         m.place as u64,
         m.length as u64,
-    ];
-    exports::put_words(&out, row);
+    ]
 }
 
 // ---- from the row
 
 fn stands_for_state(row: &[u64]) -> bool
-    requires { ⌜ 10 ≤ length (now row) ⌝ }
+    requires { ⌜ writerLength ≤ length (now row) ⌝ }
     ensures { λ r. ⌜ r ≡ standsForState (now (row .entry)) ⌝ }
 {
     words::is_small(row[2])
@@ -45,7 +43,7 @@ fn stands_for_state(row: &[u64]) -> bool
 
 // The state that a row stands for.
 pub fn writer_of(row: &[u64]) -> MacaqueV
-    requires { ⌜ 10 ≤ length (now row) ⌝ }
+    requires { ⌜ writerLength ≤ length (now row) ⌝ }
     ensures { λ r. ⌜ r ≡ writerIn (now (row .entry)) ⌝ }
 {
     let error_bound = words::bound_in(row[0], row[1]);

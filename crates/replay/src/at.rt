@@ -3,14 +3,14 @@
 use crate::record;
 use crate::record::Verdict;
 use libc::STDOUT_FILENO;
-use replaying::line::Line;
 use replaying::line::MARKS;
+use replaying::line::TextLine;
 use replaying::line::WORDS;
 
 pub struct At {
     // The number of the line that is read, and what is read of it.
     number: u64,
-    line: Line,
+    line: TextLine,
     // Whether there was a title; the answers behind it, and those of them that differ; those of all titles.
     is_titled: bool,
     answers: u64,
@@ -24,7 +24,7 @@ impl At {
     pub fn start() -> At {
         At {
             number: 1,
-            line: Line::start(),
+            line: TextLine::start(),
             is_titled: false,
             answers: 0,
             different: 0,
@@ -67,15 +67,15 @@ impl At {
     fn with_line(self, words: &mut [u64; WORDS], marks: &mut [usize; MARKS]) -> At {
         let line = self.line;
         let whole = line.ended(words, marks);
-        let mut next = self.judged(whole, words, marks);
+        let mut next = self.compared(whole, words, marks);
         *marks = [0usize; MARKS];
-        next.line = Line::start();
+        next.line = TextLine::start();
         next.number = more(next.number);
         next
     }
 
     // The record of a whole line.
-    fn judged(self, line: Line, words: &[u64; WORDS], marks: &[usize; MARKS]) -> At {
+    fn compared(self, line: TextLine, words: &[u64; WORDS], marks: &[usize; MARKS]) -> At {
         if line.is_text() {
             return self;
         }

@@ -4,7 +4,7 @@ use mathlib.Core.Path.{sym}
 use mathlib.Core.List.{List}
 use lib.ListN.{length}
 use lib.Seq.{length-take-le}
-use Rattle.replaying.specs.Counts.{Counts}
+use Rattle.replaying.specs.inner.Counts.{Counts}
 
 pub counts : {A : Type 0} (n : ℕ) (xs : List A) → n ≤ length xs → Counts n xs
 counts n xs h = (h, sym (length-take-le n xs h))

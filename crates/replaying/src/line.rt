@@ -37,7 +37,7 @@ const LAST: usize = 13;
 
 // What is known of a line so far. Its marks are, for each list, where its words begin, 0 for a list that
 // is not named, and ENDS places on, where they end.
-pub struct Line {
+pub struct TextLine {
     // The list that is being filled, and how many words all have.
     list: usize,
     used: usize,
@@ -54,9 +54,9 @@ pub const MARKS: usize = 32;
 
 pub const ENDS: usize = 16;
 
-impl Line {
-    pub fn start() -> Line {
-        Line {
+impl TextLine {
+    pub fn start() -> TextLine {
+        TextLine {
             list: CALL,
             used: 0,
             word: 0,
@@ -69,7 +69,7 @@ impl Line {
     }
 
     // The line with one more byte.
-    pub fn with(self, byte: u8, words: &mut [u64; WORDS], marks: &mut [usize; MARKS]) -> Line {
+    pub fn with(self, byte: u8, words: &mut [u64; WORDS], marks: &mut [usize; MARKS]) -> TextLine {
         if self.is_text() {
             return self;
         }
@@ -92,7 +92,7 @@ impl Line {
         self.opened(list_of(byte), marks)
     }
 
-    fn with_digit(mut self, digit: u64) -> Line {
+    fn with_digit(mut self, digit: u64) -> TextLine {
         if 16 <= self.digits {
             return self.unsound();
         }
@@ -102,7 +102,7 @@ impl Line {
     }
 
     // The word so far is a count.
-    fn counted(mut self) -> Line {
+    fn counted(mut self) -> TextLine {
         if (self.count != 0) | (self.word == 0) {
             return self.unsound();
         }
@@ -113,7 +113,7 @@ impl Line {
     }
 
     // A list is named: one that comes behind the last.
-    fn opened(mut self, name: usize, marks: &mut [usize; MARKS]) -> Line {
+    fn opened(mut self, name: usize, marks: &mut [usize; MARKS]) -> TextLine {
         let list = shifted(name, self.list);
         if (list <= self.list) | (self.used == 0) | self.is_in_word() {
             return self.unsound();
@@ -128,7 +128,7 @@ impl Line {
     }
 
     // The word that was read, as often as its count says, behind the others.
-    pub fn ended(mut self, words: &mut [u64; WORDS], marks: &mut [usize; MARKS]) -> Line {
+    pub fn ended(mut self, words: &mut [u64; WORDS], marks: &mut [usize; MARKS]) -> TextLine {
         if !self.is_in_word() {
             return self;
         }
@@ -162,7 +162,7 @@ impl Line {
         (self.digits != 0) | (self.count != 0)
     }
 
-    fn commented(mut self) -> Line {
+    fn commented(mut self) -> TextLine {
         if !self.is_fresh() {
             return self.unsound();
         }
@@ -170,7 +170,7 @@ impl Line {
         self
     }
 
-    fn titled(mut self) -> Line {
+    fn titled(mut self) -> TextLine {
         if !self.is_fresh() {
             return self.unsound();
         }
@@ -178,7 +178,7 @@ impl Line {
         self
     }
 
-    fn unsound(mut self) -> Line {
+    fn unsound(mut self) -> TextLine {
         self.is_sound = false;
         self
     }

@@ -5,7 +5,7 @@ use crate::line::MARKS;
 use exports::words;
 ghost use mathlib.Core.Path.{_≡_};
 ghost use lib.ListN.{length};
-ghost use Rattle.replaying.specs.Counts.{Counts};
+ghost use Rattle.replaying.specs.inner.Counts.{Counts};
 
 // ---- memory. The contracts give its lengths, which lending it asks for.
 

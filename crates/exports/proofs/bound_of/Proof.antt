@@ -10,9 +10,6 @@ returns : tie.Need-returns
 unfolding boundOf
 returns c = rw (eq-eqb (c .before .args .kind) 0 (c .if1 .taken))
 
-value-of-f32-requires : tie.Need-value-of-f32-requires
-value-of-f32-requires c κs = search needs
-
 returns-2 : tie.Need-returns-2
 unfolding boundOf
 returns-2 c =
@@ -32,4 +29,4 @@ returns-4 c =
     rw (ne-eqb kind 0 (c .before .before .before .if1 .left), ne-eqb kind 1 (c .before .if2 .left), ne-eqb kind 2 (c .if3 .left))
 
 pub bound-of-spec : {M : Type 1} → statement M
-bound-of-spec = tie.close (tie.spec returns value-of-f32-requires returns-2 returns-3 returns-4)
+bound-of-spec = tie.close (tie.spec returns (λ c κs. search needs) returns-2 returns-3 returns-4)

@@ -5,9 +5,6 @@ use Rattle.exports.specs.Face.{refusalNumber}
 use Rattle.exports.proofs.number_with.Statement.{statement}
 use Rattle.exports.proofs.number_with.Tie as tie
 
-number-of-requires : tie.Need-number-of-requires
-number-of-requires c κs = search needs
-
 returns : tie.Need-returns
 unfolding refusalNumber
 returns c =
@@ -35,4 +32,4 @@ returns-4 c =
     rw (← c .before .before .before .number-of .ensures, lt-leb n 3 (c .before .before .if1 .left), ne-eqb n 12 (c .before .if2 .left), le-leb (a .need) (a .room) (c .if3 .left))
 
 pub number-with-spec : {M : Type 1} → statement M
-number-with-spec = tie.close (tie.spec number-of-requires returns returns-2 returns-3 returns-4)
+number-with-spec = tie.close (tie.spec (λ c κs. search needs) returns returns-2 returns-3 returns-4)

@@ -23,21 +23,6 @@ returns : tie.Need-returns
 unfolding endNumber
 returns c = sym (rw (lt-leb 6 (length (c .before .before .before .args .reader .now)) (c .if1 .taken)))
 
-position-in-requires : tie.Need-position-in-requires
-position-in-requires c κs = search needs
-
-end-from-requires : tie.Need-end-from-requires
-end-from-requires c κs = search needs
-
-enum-known-r : tie.Need-enum-known-r
-enum-known-r c = search needs
-
-number-of-requires : tie.Need-number-of-requires
-number-of-requires c κs = search needs
-
-enum-told : tie.Need-enum-told
-enum-told c = search needs
-
 returns-2 : tie.Need-returns-2
 returns-2 c = c .number-of .ensures ∙ ap (λ (v : Verdict). plainNumber (saysVerdict v)) (sym (c .before .before .r .given .1)) ∙ said (c .before .before .before .before)
 
@@ -49,10 +34,10 @@ modelardb-reader-end-spec =
     tie.close
     (tie.spec
     returns
-    position-in-requires
-    end-from-requires
-    enum-known-r
-    number-of-requires
-    enum-told
+    (λ c κs. search needs)
+    (λ c κs. search needs)
+    (λ c. search needs)
+    (λ c κs. search needs)
+    (λ c. search needs)
     returns-2
     returns-3)

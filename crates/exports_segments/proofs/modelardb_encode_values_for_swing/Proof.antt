@@ -12,18 +12,6 @@ returns c =
     let t = encode-short (swingForm (a .first-value) (a .last-value) (a .residuals-min-value) (a .residuals-max-value)) (a .out .now) (a .row .now) (c .if1 .taken) in
     (t .0, (t .1, t .2))
 
-encode-values-for-swing-requires : tie.Need-encode-values-for-swing-requires
-encode-values-for-swing-requires c κs = search needs
-
-put-length-requires : tie.Need-put-length-requires
-put-length-requires c κs = search needs
-
-same-length : tie.Need-same-length
-same-length c = search needs
-
-same-length-2 : tie.Need-same-length-2
-same-length-2 c = search needs
-
 returns-2 : tie.Need-returns-2
 returns-2 c =
     let k = c .before .before .before .before .before .before in
@@ -37,8 +25,8 @@ modelardb-encode-values-for-swing-spec =
     tie.close
     (tie.spec
     returns
-    encode-values-for-swing-requires
-    put-length-requires
-    same-length
-    same-length-2
+    (λ c κs. search needs)
+    (λ c κs. search needs)
+    (λ c. search needs)
+    (λ c. search needs)
     returns-2)

@@ -8,29 +8,11 @@ use Rattle.exports_segments.specs.Calls.{gridNumber, gridOut}
 use Rattle.exports_segments.proofs.modelardb_segment_grid.Statement.{statement}
 use Rattle.exports_segments.proofs.modelardb_segment_grid.Tie as tie
 
-grid-requires : tie.Need-grid-requires
-grid-requires c κs = search needs
-
-enum-known-r : tie.Need-enum-known-r
-enum-known-r c = search needs
-
-number-of-requires : tie.Need-number-of-requires
-number-of-requires c κs = search needs
-
-enum-told : tie.Need-enum-told
-enum-told c = search needs
-
-same-length : tie.Need-same-length
-same-length c = search needs
-
 returns : tie.Need-returns
 unfolding gridNumber gridOut
 returns c =
     let k = c .before .before .before .before .before .before in
     (c .number-of .ensures ∙ sym (ap (λ (a : GridAnswer). plainNumber (saysGrid a)) (c .before .before .r .given .1)) ∙ ap plainNumber (k .grid .ensures .0), k .grid .ensures .1)
-
-same-length-2 : tie.Need-same-length-2
-same-length-2 c = search needs
 
 returns-2 : tie.Need-returns-2
 unfolding gridNumber gridOut
@@ -42,11 +24,11 @@ pub modelardb-segment-grid-spec : {M : Type 1} → statement M
 modelardb-segment-grid-spec =
     tie.close
     (tie.spec
-    grid-requires
-    enum-known-r
-    number-of-requires
-    enum-told
-    same-length
+    (λ c κs. search needs)
+    (λ c. search needs)
+    (λ c κs. search needs)
+    (λ c. search needs)
+    (λ c. search needs)
     returns
-    same-length-2
+    (λ c. search needs)
     returns-2)

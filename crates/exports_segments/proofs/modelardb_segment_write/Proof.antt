@@ -22,24 +22,6 @@ judged c =
     let a = c .before .before .before .before .before .before .args in
     c .judge-write .ensures ∙ ap (λ (b : ErrorBound). verdict (segmentCauses (a .model) b (a .residuals .now) (length (a .segment .now)))) (c .before .bound-of .ensures)
 
-bound-of-requires : tie.Need-bound-of-requires
-bound-of-requires c κs = search needs
-
-judge-write-requires : tie.Need-judge-write-requires
-judge-write-requires c κs = search needs
-
-enum-known-r : tie.Need-enum-known-r
-enum-known-r c = search needs
-
-number-of-requires : tie.Need-number-of-requires
-number-of-requires c κs = search needs
-
-enum-told : tie.Need-enum-told
-enum-told c = search needs
-
-write-requires : tie.Need-write-requires
-write-requires c κs = search needs
-
 put-segment-requires : tie.Need-put-segment-requires
 put-segment-requires c κs =
     let k = c .before .before .before .before .before .before .before .before .before .before in
@@ -53,15 +35,6 @@ returns c =
     let a = k .before .before .before .before .before .before .args in
     let t = segment-refused (a .model) (a .first-value) (a .last-value) (boundOf (a .kind) (a .bound)) (a .residuals .now) (a .values-out .now) (a .residuals-out .now) (a .segment .now) _ (judged k) (c .before .before .r .given .0 .0) (c .before .before .r .given .1) in
     (c .number-of .ensures ∙ t .0, (t .1, (t .2, t .3)))
-
-same-length : tie.Need-same-length
-same-length c = search needs
-
-same-length-2 : tie.Need-same-length-2
-same-length-2 c = search needs
-
-same-length-3 : tie.Need-same-length-3
-same-length-3 c = search needs
 
 returns-2 : tie.Need-returns-2
 returns-2 c =
@@ -80,15 +53,15 @@ pub modelardb-segment-write-spec : {M : Type 1} → statement M
 modelardb-segment-write-spec =
     tie.close
     (tie.spec
-    bound-of-requires
-    judge-write-requires
-    enum-known-r
-    number-of-requires
-    enum-told
-    write-requires
+    (λ c κs. search needs)
+    (λ c κs. search needs)
+    (λ c. search needs)
+    (λ c κs. search needs)
+    (λ c. search needs)
+    (λ c κs. search needs)
     put-segment-requires
     returns
-    same-length
-    same-length-2
-    same-length-3
+    (λ c. search needs)
+    (λ c. search needs)
+    (λ c. search needs)
     returns-2)

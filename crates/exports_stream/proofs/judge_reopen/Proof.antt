@@ -1,27 +1,15 @@
 -- `exports_stream::judge_reopen` meets its contract: the causes of the call behind, then the row's. Assumes nothing.
 use borrow.Author.Needs.{needs}
-use mathlib.Core.Path.{_≡_, sym, ap, _∙_}
+use mathlib.Core.Path.{sym, ap, _∙_}
 use mathlib.Core.List.{[], _∷_}
 use lib.Dec.{ltb}
 use Rattle.models.specs.Answers.{_when_, judge}
 use Rattle.models.specs.Calls.{saysVerdict}
 use Rattle.models.proofs.Judged.{refused-first, passed-first}
 use Rattle.macaque_v.specs.Read.{reopenCauses}
-use Rattle.exports_stream.specs.Row.{rowLength}
+use Rattle.exports_stream.specs.Row.{writerLength}
 use Rattle.exports_stream.proofs.judge_reopen.Statement.{statement}
 use Rattle.exports_stream.proofs.judge_reopen.Tie as tie
-
-judge-reopen-requires : tie.Need-judge-reopen-requires
-judge-reopen-requires c κs = search needs
-
-enum-known-r : tie.Need-enum-known-r
-enum-known-r c = search needs
-
-enum-told : tie.Need-enum-told
-enum-told c = search needs
-
-when-requires : tie.Need-when-requires
-when-requires c κs = search needs
 
 returns : tie.Need-returns
 returns c =
@@ -36,10 +24,10 @@ returns-2 c =
     let a = c .before .before .before .before .args in
     c .when .ensures
     ∙ sym
-    (passed-first (reopenCauses (a .error-bound) (a .room) (a .used) (a .count) (a .k)) (4 when ltb (a .words) rowLength ∷ [])
+    (passed-first (reopenCauses (a .error-bound) (a .room) (a .used) (a .count) (a .k)) (4 when ltb (a .words) writerLength ∷ [])
     (sym (c .before .before .before .judge-reopen .ensures) ∙ ap saysVerdict (c .before .enum-told .given .1)))
 
 pub judge-reopen-spec : {M : Type 1} → statement M
 judge-reopen-spec =
     tie.close
-    (tie.spec judge-reopen-requires enum-known-r enum-told when-requires returns returns-2)
+    (tie.spec (λ c κs. search needs) (λ c. search needs) (λ c. search needs) (λ c κs. search needs) returns returns-2)

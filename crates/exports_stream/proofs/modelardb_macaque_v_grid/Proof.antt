@@ -7,7 +7,7 @@ use Rattle.models.specs.Calls.{saysGrid}
 use Rattle.macaque_v.specs.Read.{gridAnswer, gridMemory}
 use Rattle.macaque_v.specs.declared.Opening.{Opening}
 use Rattle.exports.specs.Face.{plainNumber}
-use Rattle.exports_stream.specs.Calls.{openingOf, countIn, gridNumber, gridOut}
+use Rattle.exports_stream.specs.Calls.{gridNumber, gridOut}
 use Rattle.exports_stream.proofs.modelardb_macaque_v_grid.Statement.{statement}
 use Rattle.exports_stream.proofs.modelardb_macaque_v_grid.Tie as tie
 
@@ -31,34 +31,10 @@ left c =
     let a = c .before .before .before .before .before .before .args in
     c .grid .ensures .1 ∙ ap₂ (λ (n : ℕ) (o : Opening). gridMemory (a .bytes .now) n o (a .out .now)) (c .before .before .before .count-in .ensures) (c .before .before .opening-of .ensures)
 
-count-in-requires : tie.Need-count-in-requires
-count-in-requires c κs = search needs
-
-opening-of-requires : tie.Need-opening-of-requires
-opening-of-requires c κs = search needs
-
-grid-requires : tie.Need-grid-requires
-grid-requires c κs = search needs
-
-enum-known-r : tie.Need-enum-known-r
-enum-known-r c = search needs
-
-number-of-requires : tie.Need-number-of-requires
-number-of-requires c κs = search needs
-
-enum-told : tie.Need-enum-told
-enum-told c = search needs
-
-same-length : tie.Need-same-length
-same-length c = search needs
-
 returns : tie.Need-returns
 returns c =
     let k = c .before .before .before .before .before .before in
     (c .number-of .ensures ∙ sym (ap (λ r. plainNumber (saysGrid r)) (c .before .before .r .given .1)) ∙ said k, left k)
-
-same-length-2 : tie.Need-same-length-2
-same-length-2 c = search needs
 
 returns-2 : tie.Need-returns-2
 returns-2 c =
@@ -69,13 +45,13 @@ pub modelardb-macaque-v-grid-spec : {M : Type 1} → statement M
 modelardb-macaque-v-grid-spec =
     tie.close
     (tie.spec
-    count-in-requires
-    opening-of-requires
-    grid-requires
-    enum-known-r
-    number-of-requires
-    enum-told
-    same-length
+    (λ c κs. search needs)
+    (λ c κs. search needs)
+    (λ c κs. search needs)
+    (λ c. search needs)
+    (λ c κs. search needs)
+    (λ c. search needs)
+    (λ c. search needs)
     returns
-    same-length-2
+    (λ c. search needs)
     returns-2)

@@ -22,27 +22,6 @@ judged c =
     let a = c .before .before .before .args in
     c .judge-new .ensures ∙ ap (λ (b : ErrorBound). verdict (newCauses b (a .mode) (length (a .state .now)))) (c .before .bound-of .ensures)
 
-bound-of-requires : tie.Need-bound-of-requires
-bound-of-requires c κs = search needs
-
-judge-new-requires : tie.Need-judge-new-requires
-judge-new-requires c κs = search needs
-
-enum-known-r : tie.Need-enum-known-r
-enum-known-r c = search needs
-
-number-of-requires : tie.Need-number-of-requires
-number-of-requires c κs = search needs
-
-enum-told : tie.Need-enum-told
-enum-told c = search needs
-
-opening-of-requires : tie.Need-opening-of-requires
-opening-of-requires c κs = search needs
-
-new-requires : tie.Need-new-requires
-new-requires c κs = search needs
-
 put-opened-requires : tie.Need-put-opened-requires
 put-opened-requires c κs =
     let k = c .before .before .before .before .before in
@@ -57,9 +36,6 @@ returns c =
     let t = new-refused (a .kind) (a .bound) (a .mode) (a .opening) (a .state .now) _ (judged k) (c .before .before .r .given .0 .0) (c .before .before .r .given .1) in
     (c .number-of .ensures ∙ t .0, t .1)
 
-same-length : tie.Need-same-length
-same-length c = search needs
-
 returns-2 : tie.Need-returns-2
 returns-2 c =
     let n = c .before .before .before .before in
@@ -73,14 +49,14 @@ pub modelardb-macaque-v-new-spec : {M : Type 1} → statement M
 modelardb-macaque-v-new-spec =
     tie.close
     (tie.spec
-    bound-of-requires
-    judge-new-requires
-    enum-known-r
-    number-of-requires
-    enum-told
-    opening-of-requires
-    new-requires
+    (λ c κs. search needs)
+    (λ c κs. search needs)
+    (λ c. search needs)
+    (λ c κs. search needs)
+    (λ c. search needs)
+    (λ c κs. search needs)
+    (λ c κs. search needs)
     put-opened-requires
     returns
-    same-length
+    (λ c. search needs)
     returns-2)

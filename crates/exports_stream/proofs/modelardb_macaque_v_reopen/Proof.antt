@@ -25,30 +25,6 @@ judged c =
     c .judge-reopen .ensures
     ∙ ap₂ (λ (b : ErrorBound) (n : ℕ). verdict (reopenCausesWith b (length (a .buffer .now)) (a .used) n (a .k) (length (a .state .now)))) (c .before .before .bound-of .ensures) (c .before .count-in .ensures)
 
-bound-of-requires : tie.Need-bound-of-requires
-bound-of-requires c κs = search needs
-
-count-in-requires : tie.Need-count-in-requires
-count-in-requires c κs = search needs
-
-judge-reopen-requires : tie.Need-judge-reopen-requires
-judge-reopen-requires c κs = search needs
-
-enum-known-r : tie.Need-enum-known-r
-enum-known-r c = search needs
-
-number-of-requires : tie.Need-number-of-requires
-number-of-requires c κs = search needs
-
-enum-told : tie.Need-enum-told
-enum-told c = search needs
-
-opening-of-requires : tie.Need-opening-of-requires
-opening-of-requires c κs = search needs
-
-reopen-requires : tie.Need-reopen-requires
-reopen-requires c κs = search needs
-
 put-opened-requires : tie.Need-put-opened-requires
 put-opened-requires c κs =
     let k = c .before .before .before .before .before .before .before .before in
@@ -62,12 +38,6 @@ returns c =
     let a = k .before .before .before .before .before .args in
     let t = reopen-refused (a .buffer .now) (a .used) (a .count) (a .k) (a .mode) (a .opening) (a .kind) (a .bound) (a .state .now) _ (judged k) (c .before .before .r .given .0 .0) (c .before .before .r .given .1) in
     (c .number-of .ensures ∙ t .0, (t .1, t .2))
-
-same-length : tie.Need-same-length
-same-length c = search needs
-
-same-length-2 : tie.Need-same-length-2
-same-length-2 c = search needs
 
 returns-2 : tie.Need-returns-2
 returns-2 c =
@@ -86,16 +56,16 @@ pub modelardb-macaque-v-reopen-spec : {M : Type 1} → statement M
 modelardb-macaque-v-reopen-spec =
     tie.close
     (tie.spec
-    bound-of-requires
-    count-in-requires
-    judge-reopen-requires
-    enum-known-r
-    number-of-requires
-    enum-told
-    opening-of-requires
-    reopen-requires
+    (λ c κs. search needs)
+    (λ c κs. search needs)
+    (λ c κs. search needs)
+    (λ c. search needs)
+    (λ c κs. search needs)
+    (λ c. search needs)
+    (λ c κs. search needs)
+    (λ c κs. search needs)
     put-opened-requires
     returns
-    same-length
-    same-length-2
+    (λ c. search needs)
+    (λ c. search needs)
     returns-2)

@@ -1,46 +1,35 @@
 -- `exports_stream::put_opened` meets its contract, case by case. Assumes nothing.
-use borrow.Author.Needs.{needs}
-use mathlib.Core.Path.{_≡_, sym, ap, _∙_}
+use mathlib.Core.Path.{sym, ap, _∙_}
+use lib.ListN.{length}
+use Rattle.models.specs.Answers.{answered}
+use Rattle.models.specs.declared.Verdict.the-variants.{Passed}
 use Rattle.macaque_v.specs.Read.{saysOpen}
 use Rattle.macaque_v.specs.declared.read.OpenAnswer.{OpenAnswer}
-use Rattle.exports.specs.Face.{plainNumber}
-use Rattle.exports_stream.specs.Calls.{rowIn}
+use Rattle.exports.specs.inner.Put.{worded}
+use Rattle.exports.proofs.Rows.{put-plain}
+use Rattle.exports_stream.specs.Row.{writerLength, writerRow}
+use Rattle.exports_stream.proofs.Words.{writer-long}
+use borrow.Author.Needs.{needs}
 use Rattle.exports_stream.proofs.put_opened.Statement.{statement}
 use Rattle.exports_stream.proofs.put_opened.Tie as tie
 
-enum-known-writer : tie.Need-enum-known-writer
-enum-known-writer c = search needs
-
-number-of-requires : tie.Need-number-of-requires
-number-of-requires c κs = search needs
-
-enum-known-writer-2 : tie.Need-enum-known-writer-2
-enum-known-writer-2 c = search needs
-
-put-writer-requires : tie.Need-put-writer-requires
-put-writer-requires c κs = search needs
-
-returns : tie.Need-returns
-returns c = search needs
-
-same-length : tie.Need-same-length
-same-length c = search needs
-
 returns-2 : tie.Need-returns-2
 returns-2 c =
-    let k = c .before .before .before .before .before in
-    let row = k .before .before .before .args .state .now in
-    let e = k .writer2 .given .1 in
-    (sym (ap (λ (w : OpenAnswer). plainNumber (saysOpen w)) e), c .before .before .put-writer .ensures ∙ sym (ap (λ (w : OpenAnswer). rowIn row (saysOpen w)) e))
+    let a = c .before .before .before .before .before .before .before .before .before .before .args in
+    let words = c .before .before .before .before .before .writer-words .ensures in
+    let e = ap answered words ∙ sym (ap (λ (w : OpenAnswer). worded writerRow (saysOpen w)) (c .before .before .before .before .before .before .before .writer2 .given .1)) in
+    put-plain writerRow writerLength (a .state .now) (saysOpen (a .writer)) Passed _ (c .before .before .before .before .before .before .before .before .before .before .pre) (ap length words ∙ writer-long (c .before .before .before .before .before .before .before .writer2 .given .0 .0)) e (c .before .before .put-said .ensures)
 
 pub put-opened-spec : {M : Type 1} → statement M
 put-opened-spec =
     tie.close
     (tie.spec
-    enum-known-writer
-    number-of-requires
-    enum-known-writer-2
-    put-writer-requires
-    returns
-    same-length
+    (λ c. search needs)
+    (λ c κs. search needs)
+    (λ c. search needs)
+    (λ c κs. search needs)
+    (λ c. search needs)
+    (λ c κs. search needs)
+    (λ c. search needs)
+    (λ c. search needs)
     returns-2)

@@ -9,21 +9,6 @@ use Rattle.exports.proofs.Small.{bound-small}
 use Rattle.exports.proofs.words.bound_in.Statement.{statement}
 use Rattle.exports.proofs.words.bound_in.Tie as tie
 
-is-small-requires : tie.Need-is-small-requires
-is-small-requires c κs = search needs
-
-is-small-requires-2 : tie.Need-is-small-requires-2
-is-small-requires-2 c κs = search needs
-
-low-requires : tie.Need-low-requires
-low-requires c κs = search needs
-
-low-requires-2 : tie.Need-low-requires-2
-low-requires-2 c κs = search needs
-
-bound-of-requires : tie.Need-bound-of-requires
-bound-of-requires c κs = search needs
-
 returns : tie.Need-returns
 returns c =
     let a = c .before .before .before .before .before .before .args in
@@ -41,10 +26,10 @@ pub bound-in-spec : {M : Type 1} → statement M
 bound-in-spec =
     tie.close
     (tie.spec
-    is-small-requires
-    is-small-requires-2
-    low-requires
-    low-requires-2
-    bound-of-requires
+    (λ c κs. search needs)
+    (λ c κs. search needs)
+    (λ c κs. search needs)
+    (λ c κs. search needs)
+    (λ c κs. search needs)
     returns
     returns-2)

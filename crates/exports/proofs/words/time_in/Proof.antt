@@ -4,17 +4,8 @@ use borrow.Author.Needs.{needs}
 use Rattle.exports.proofs.words.time_in.Statement.{statement}
 use Rattle.exports.proofs.words.time_in.Tie as tie
 
-cast-result : tie.Need-cast-result
-cast-result c = search needs
-
 returns : tie.Need-returns
 returns c = read-signed (c .before .args .w)
-
-sub-below : tie.Need-sub-below
-sub-below c = search needs
-
-cast-below : tie.Need-cast-below
-cast-below c = search needs
 
 sub-result : tie.Need-sub-result
 sub-result c = below-fits (c .before .args .w) (search needs) (search needs)
@@ -23,4 +14,4 @@ returns-2 : tie.Need-returns-2
 returns-2 c = read-below (c .before .args .w) (search needs) (search needs)
 
 pub time-in-spec : {M : Type 1} → statement M
-time-in-spec = tie.close (tie.spec cast-result returns sub-below cast-below sub-result returns-2)
+time-in-spec = tie.close (tie.spec (λ c. search needs) returns (λ c. search needs) (λ c. search needs) sub-result returns-2)

@@ -1,16 +1,15 @@
 -- `exports_fit::modelardb_swing_new` meets its contract, by what the call behind it said. Assumes nothing.
 use mathlib.Core.Path.{_≡_, sym, ap, _∙_}
-use mathlib.Core.Bool.{false}
-use mathlib.Core.List.{List}
-use Prim.Native.Nat.{ℕ}
-use native.Mathlib.Omega.{arith}
-use Rattle.models.specs.Refusals.{number}
+use lib.ListN.{length}
+use Rattle.models.specs.Answers.{answered}
+use Rattle.models.specs.Refusals.{faultOf}
+use Rattle.models.specs.declared.Verdict.the-variants.{Passed}
 use Rattle.swing.specs.Calls.{saysNew, newAnswer}
-use Rattle.swing.specs.declared.Swing.{Swing}
 use Rattle.exports.specs.Face.{boundOf}
-use Rattle.exports.proofs.Rows.{refused-row, short-row, all-words}
-use Rattle.exports_fit.specs.Row.{swingRow}
-use Rattle.exports_fit.proofs.Lengths.{swing-length}
+use Rattle.exports.specs.inner.Put.{worded}
+use Rattle.exports.proofs.Rows.{refused-row, put}
+use Rattle.exports_fit.specs.Row.{swingLength, swingFresh}
+use Rattle.exports_fit.proofs.Stands.{swingStateRow}
 use borrow.Author.Needs.{needs}
 use Rattle.exports_fit.proofs.of_swing.modelardb_swing_new.Statement.{statement}
 use Rattle.exports_fit.proofs.of_swing.modelardb_swing_new.Tie as tie
@@ -19,55 +18,27 @@ use Rattle.exports_fit.proofs.of_swing.modelardb_swing_new.Tie as tie
 said : (c : tie.After-new) → newAnswer (boundOf (c .before .before .before .args .kind) (c .before .before .before .args .bound)) ≡ saysNew (c .new .result)
 said c = ap newAnswer (sym (c .before .bound-of .ensures)) ∙ sym (c .new .ensures)
 
-abbrev words : Swing → List ℕ
-words s = swingRow s false
-
-bound-of-requires : tie.Need-bound-of-requires
-bound-of-requires c κs = search needs
-
-new-requires : tie.Need-new-requires
-new-requires c κs = search needs
-
-enum-known-r : tie.Need-enum-known-r
-enum-known-r c = search needs
-
-number-with-requires : tie.Need-number-with-requires
-number-with-requires c κs = search needs
-
-enum-known-s : tie.Need-enum-known-s
-enum-known-s c = search needs
-
 returns : tie.Need-returns
-returns c = short-row words (c .before .before .before .before .before .before .before .args .state .now) _ 13 (c .before .before .s .given .0 .0) (said (c .before .before .before .before) ∙ ap saysNew (c .before .before .s .given .1)) (omega arith)
-
-put-swing-requires : tie.Need-put-swing-requires
-put-swing-requires c κs = search needs
+returns c = refused-row swingFresh swingLength (c .before .before .before .before .before .before .before .args .state .now) _ (faultOf (c .before .before .r .given .0 .0)) (said (c .before .before .before .before) ∙ ap saysNew (c .before .before .r .given .1)) (c .number-with .ensures)
 
 returns-2 : tie.Need-returns-2
 returns-2 c =
-    let f = refused-row words (c .before .before .before .before .before .before .before .args .state .now) _ 13 (number (c .before .before .r .given .0 .0)) (said (c .before .before .before .before) ∙ ap saysNew (c .before .before .r .given .1)) in
-    (c .number-with .ensures ∙ f .0, f .1)
-
-same-length : tie.Need-same-length
-same-length c = search needs
-
-returns-3 : tie.Need-returns-3
-returns-3 c =
-    let s = c .before .before .before .before .before .before .s .given .0 .0 in
-    let f = all-words words (c .before .before .before .before .before .before .before .before .before .before .before .args .state .now) _ 13 s (said (c .before .before .before .before .before .before .before .before) ∙ ap saysNew (c .before .before .before .before .before .before .s .given .1)) (swing-length s false) (omega arith) in
-    (f .0, c .before .before .put-swing .ensures ∙ f .1)
+    let words = c .before .before .before .before .before .swing-words .ensures in
+    let e = ap answered words ∙ ap (worded swingFresh) (sym (said (c .before .before .before .before .before .before .before .before .before) ∙ ap saysNew (c .before .before .before .before .before .before .before .s .given .1))) in
+    put swingFresh swingLength (c .before .before .before .before .before .before .before .before .before .before .before .before .args .state .now) _ Passed _ (ap length words ∙ swingStateRow .long _) e (c .before .before .put-said .ensures)
 
 pub modelardb-swing-new-spec : {M : Type 1} → statement M
 modelardb-swing-new-spec =
     tie.close
     (tie.spec
-    bound-of-requires
-    new-requires
-    enum-known-r
-    number-with-requires
-    enum-known-s
+    (λ c κs. search needs)
+    (λ c κs. search needs)
+    (λ c. search needs)
+    (λ c κs. search needs)
+    (λ c. search needs)
+    (λ c κs. search needs)
+    (λ c. search needs)
+    (λ c κs. search needs)
     returns
-    put-swing-requires
-    returns-2
-    same-length
-    returns-3)
+    (λ c. search needs)
+    returns-2)

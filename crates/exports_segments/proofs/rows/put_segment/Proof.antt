@@ -1,58 +1,32 @@
--- `exports_segments::rows::put_segment` meets its contract, case by case. Assumes nothing.
-use borrow.Author.Needs.{needs}
-use mathlib.Core.Path.{sym, ap, _∙_}
+-- `rows::put_segment` meets its contract, case by case. Assumes nothing.
+use mathlib.Core.Path.{refl, sym, ap}
+use Rattle.models.specs.declared.Verdict.the-variants.{Passed}
 use Rattle.segments.specs.Calls.{saysSegment}
 use Rattle.segments.specs.declared.SegmentAnswer.{SegmentAnswer}
-use Rattle.exports.specs.Face.{plainNumber}
-use Rattle.exports_segments.specs.Calls.{segmentWords, rowIn}
+use Rattle.exports.specs.inner.Put.{worded}
+use Rattle.exports.proofs.Rows.{put-plain}
+use Rattle.exports_segments.specs.Calls.{segmentLength, segmentWords}
+use borrow.Author.Needs.{needs}
 use Rattle.exports_segments.proofs.rows.put_segment.Statement.{statement}
 use Rattle.exports_segments.proofs.rows.put_segment.Tie as tie
 
-enum-known-answer : tie.Need-enum-known-answer
-enum-known-answer c = search needs
-
-number-of-requires : tie.Need-number-of-requires
-number-of-requires c κs = search needs
-
-enum-known-answer-2 : tie.Need-enum-known-answer-2
-enum-known-answer-2 c = search needs
-
-cast-t7 : tie.Need-cast-t7
-cast-t7 c = search needs
-
-cast-t8 : tie.Need-cast-t8
-cast-t8 c = search needs
-
-slice-aggregate-put-words : tie.Need-slice-aggregate-put-words
-slice-aggregate-put-words c = search needs
-
-put-words-requires : tie.Need-put-words-requires
-put-words-requires c κs = search needs
-
-returns : tie.Need-returns
-returns c = search needs
-
-same-length : tie.Need-same-length
-same-length c = search needs
-
 returns-2 : tie.Need-returns-2
 returns-2 c =
-    let k = c .before .before .before .before .before .before .before .before in
-    let row = k .before .before .before .args .row .now in
-    let e = k .answer2 .given .1 in
-    (sym (ap (λ (a : SegmentAnswer). plainNumber (saysSegment a)) e), c .before .before .put-words .ensures ∙ sym (ap (λ (a : SegmentAnswer). rowIn segmentWords row (saysSegment a)) e))
+    let k = c .before .before .before .before .before .before .before .before .before .before .before in
+    let e = sym (ap (λ (a : SegmentAnswer). worded segmentWords (saysSegment a)) (c .before .before .before .before .before .before .before .before .answer2 .given .1)) in
+    put-plain segmentWords segmentLength (k .args .row .now) (saysSegment (k .args .answer)) Passed (segmentWords (c .before .before .before .before .before .before .before .before .answer2 .given .0 .0)) (k .pre) refl e (c .before .before .put-said .ensures)
 
 pub put-segment-spec : {M : Type 1} → statement M
 put-segment-spec =
     tie.close
     (tie.spec
-    enum-known-answer
-    number-of-requires
-    enum-known-answer-2
-    cast-t7
-    cast-t8
-    slice-aggregate-put-words
-    put-words-requires
-    returns
-    same-length
+    (λ c. search needs)
+    (λ c κs. search needs)
+    (λ c. search needs)
+    (λ c. search needs)
+    (λ c. search needs)
+    (λ c. search needs)
+    (λ c κs. search needs)
+    (λ c. search needs)
+    (λ c. search needs)
     returns-2)

@@ -6,67 +6,22 @@ use mathlib.Core.Path.{_≡_}
 use Rattle.replaying.proofs.lists.are_values.Statement.{statement}
 use Rattle.replaying.proofs.lists.are_values.Tie as tie
 
-abbrev Inv-loop : tie.InvT-loop
-Inv-loop held all marks name words i₀ i = (i ≤ length words) × (length held ≡ length words)
-
-abbrev μ-loop : tie.MeasureT-loop
-μ-loop held all marks name words i₀ i = length words - i
-
-left-requires : tie.Need-left-requires Inv-loop μ-loop
-left-requires c κs = search needs
-
-returns : tie.Need-returns Inv-loop μ-loop
-returns c = search needs
-
-loop-holds : tie.Need-loop-holds Inv-loop μ-loop
-loop-holds c = search needs
-
-mul-wide-value : tie.Need-mul-wide-value Inv-loop μ-loop
-mul-wide-value c = search needs
-
-shared-slice-read-wide-value : tie.Need-shared-slice-read-wide-value Inv-loop μ-loop
-shared-slice-read-wide-value c = search needs
-
-wide-value-requires : tie.Need-wide-value-requires Inv-loop μ-loop
-wide-value-requires c κs = search needs
-
-mul-if2 : tie.Need-mul-if2 Inv-loop μ-loop
-mul-if2 c = search needs
-
-shared-slice-read-if2 : tie.Need-shared-slice-read-if2 Inv-loop μ-loop
-shared-slice-read-if2 c = search needs
-
-returns-2 : tie.Need-returns-2 Inv-loop μ-loop
-returns-2 c = search needs
-
-add-i : tie.Need-add-i Inv-loop μ-loop
-add-i c = search needs
-
-loop-less : tie.Need-loop-less Inv-loop μ-loop
-loop-less c = search needs
-
-loop-again : tie.Need-loop-again Inv-loop μ-loop
-loop-again c = search needs
-
-returns-3 : tie.Need-returns-3 Inv-loop μ-loop
-returns-3 c = search needs
-
 pub are-values-spec : {M : Type 1} → statement M
 are-values-spec =
     tie.close
     (tie.spec
-    Inv-loop
-    μ-loop
-    left-requires
-    returns
-    loop-holds
-    mul-wide-value
-    shared-slice-read-wide-value
-    wide-value-requires
-    mul-if2
-    shared-slice-read-if2
-    returns-2
-    add-i
-    loop-less
-    loop-again
-    returns-3)
+    (λ held all marks name words i₀ i. (i ≤ length words) × (length held ≡ length words))
+    (λ held all marks name words i₀ i. length words - i)
+    (λ c κs. search needs)
+    (λ c. search needs)
+    (λ c. search needs)
+    (λ c. search needs)
+    (λ c. search needs)
+    (λ c κs. search needs)
+    (λ c. search needs)
+    (λ c. search needs)
+    (λ c. search needs)
+    (λ c. search needs)
+    (λ c. search needs)
+    (λ c. search needs)
+    (λ c. search needs))
