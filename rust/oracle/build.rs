@@ -188,7 +188,7 @@ impl Text {
     /// The text as one tree of modules, its paths turned to ours.
     fn into_modules(mut self, name: &str) -> String {
         for file in self.files() {
-            let own = format!("crate::{name}::");
+            let own = format!("crate::{name}::text::");
             file.text = file.text.replace("crate::", &own);
             file.text = file
                 .text

@@ -8,8 +8,9 @@ mod short;
 mod sides;
 
 use jobs::{Job, Lists};
+use oracle::builds::AT_HAND;
 use oracle::paper::models::ErrorBound::{self, Absolute, Lossless, Relative};
-use oracle::rust::{AT_HAND, Calls};
+use oracle::rust::Calls;
 use sides::{MOST_VALUES, Ours, Side};
 use std::process::ExitCode;
 

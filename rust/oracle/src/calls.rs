@@ -1,10 +1,10 @@
 //! The calls over one build of the Rust's text. `published` and `filled` each load this file.
 
 use super::direct::DIRECT;
-use super::models::macaque_v::{self, MacaqueV};
-use super::models::{self, pmc_mean, swing, timestamps};
-use super::types::{self, CompressedSegmentBuilder};
-use super::{maximum, minimum};
+use super::text::models::macaque_v::{self, MacaqueV};
+use super::text::models::{self, pmc_mean, swing, timestamps};
+use super::text::types::{self, CompressedSegmentBuilder};
+use super::text::{maximum, minimum};
 use crate::faults::caught;
 use crate::paper::macaque_v::Opening;
 use crate::paper::models::ErrorBound;

@@ -1,7 +1,7 @@
 //! The text's own entry points on its own types, for timing: nothing is turned around on the way.
 //! `published` and `filled` each load this file.
 
-use super::models::macaque_v::{self, MacaqueV};
+use super::text::models::macaque_v::{self, MacaqueV};
 use crate::paper::models::ErrorBound;
 use crate::rust::Direct;
 use crate::stand_in::List;

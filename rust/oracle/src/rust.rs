@@ -86,11 +86,3 @@ pub struct Chosen {
     pub extremes: Extremes,
     pub values: Vec<u8>,
 }
-
-/// The builds at hand: `filled` and `published`, or none.
-#[cfg(text_at_hand)]
-pub static AT_HAND: &[Calls] = &[crate::filled::CALLS, crate::published::CALLS];
-
-/// The builds at hand: none, since the text is not.
-#[cfg(not(text_at_hand))]
-pub static AT_HAND: &[Calls] = &[];

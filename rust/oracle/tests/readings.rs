@@ -9,6 +9,8 @@ use oracle::paper::swing::{self, Line, Swing};
 use oracle::paper::types::{Extremes, ModelBuilder, choose_model, pmc_mean_bytes, swing_bytes};
 
 const ONE: u32 = 0x3F80_0000;
+/// "At most 65,536 values a call or stream".
+const MOST: usize = 65_536;
 const NONE: Extremes = Extremes {
     min_value: NAN_32,
     max_value: NAN_32,
@@ -127,7 +129,7 @@ fn swing_states() {
     assert_eq!(outside.model(), Err(2));
     assert_eq!(fresh.model(), Err(11));
     let full = Swing {
-        length: 65_536,
+        length: MOST,
         start_time: 0,
         ..one
     };
@@ -267,8 +269,8 @@ fn reopening_zeroes_the_cut_byte_alone() {
     assert_eq!(reopen(0, 2, 2, Lossless), (Ok(0), [0xFE, 0x0E, 0xFF]));
     assert_eq!(reopen(70_000, 2, 1, Lossless).0, Err(12));
     assert_eq!(reopen(0, 4, 1, Lossless).0, Err(12));
-    assert_eq!(reopen(0, 4, 65_537, Lossless).0, Err(3));
-    assert_eq!(reopen(0, 4, 65_537, Absolute(0.0)).0, Err(1));
+    assert_eq!(reopen(0, 4, MOST + 1, Lossless).0, Err(3));
+    assert_eq!(reopen(0, 4, MOST + 1, Absolute(0.0)).0, Err(1));
     assert_eq!(reopen(0, 2, 1, Lossless).0, Err(8));
 }
 
@@ -302,7 +304,7 @@ fn writer_states() {
     assert_eq!(write_on(placed(17)).0, Err(2));
     assert_eq!(write_on(placed(0)).0, Err(2));
     let full = MacaqueV {
-        length: 65_536,
+        length: MOST,
         ..WRITER
     };
     assert_eq!(write_on(full).0, Err(3));
@@ -346,7 +348,7 @@ fn the_reader_holds_its_place() {
     };
     assert_eq!(reader.next_value().unwrap_err(), keep);
     let full = Reader {
-        length: 65_536,
+        length: MOST,
         ..reader
     };
     assert_eq!(full.next_value().unwrap_err().number, 3);
@@ -358,18 +360,18 @@ fn the_reader_holds_its_place() {
 
 #[test]
 fn the_most_values() {
-    let (times, values) = (Vec::from_iter(0..65_537), vec![ONE; 65_537]);
-    let most = &values[..65_536];
-    let model = choose_model(&times[..65_536], most, Lossless, 1).unwrap();
-    assert_eq!((model.id, model.length), (0, 65_536));
+    let (times, values) = (Vec::from_iter(0..=MOST as i64), vec![ONE; MOST + 1]);
+    let most = &values[..MOST];
+    let model = choose_model(&times[..MOST], most, Lossless, 1).unwrap();
+    assert_eq!((model.id, model.length), (0, MOST));
     assert_eq!(choose_model(&times, &values, Lossless, 1), Err(3));
     let mut buffer = vec![0; 16_384];
     let fresh = MacaqueV::new(Lossless, Opening::On(ONE)).unwrap();
     let full = fresh.compress_values(most, &mut buffer).unwrap();
-    assert_eq!((full.length, full.place), (65_536, 131_072));
+    assert_eq!((full.length, full.place), (MOST, 131_072));
     assert_eq!(full.compress_values(&[ONE], &mut buffer), Err(3));
     assert_eq!(full.compress_values(&[], &mut buffer), Ok(full));
-    let mut out = vec![0; 65_536];
-    let read = macaque_v::grid(&buffer, 65_536, Opening::On(ONE), &mut out);
+    let mut out = vec![0; MOST];
+    let read = macaque_v::grid(&buffer, MOST, Opening::On(ONE), &mut out);
     assert_eq!((read, out), (Ok(()), most.to_vec()));
 }

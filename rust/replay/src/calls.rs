@@ -57,8 +57,14 @@ pub const CALLS: [(&str, &[u64]); 38] = [
     ("modelardb_reader_last_value", &[3, 4, 5, 6, 7, 8]),
 ];
 
+/// What the call of a record answers, and the record with the memory as it is left.
+pub fn answered(record: &Record) -> (u64, Record) {
+    let mut left = record.clone();
+    (answer(&mut left), left)
+}
+
 /// What the call of a record answers; its memory becomes what the call leaves.
-pub fn answer(record: &mut Record) -> u64 {
+fn answer(record: &mut Record) -> u64 {
     match record.call {
         0..4 => of_numbers(record),
         4..9 => of_streams(record).into(),

@@ -1,17 +1,17 @@
 //! Inputs: any of a call's, and those at its limits.
 
+use crate::calls::answered;
 use crate::record::Record;
+use modelardb_rattle::ffi::{
+    MODEL_BUILDER_WORDS, PMC_MEAN_WORDS, READER_WORDS, SEGMENT_WORDS, SELECTED_MODEL_WORDS,
+    STATE_WORDS, SWING_WORDS,
+};
+use oracle::paper::{MOST_METADATA, MOST_RESIDUALS, MOST_VALUES};
 use side_by_side::face::{self, choice, fit, reader, segments};
-use side_by_side::inputs::{Inputs, SPECIAL};
+use side_by_side::inputs::{ABOUT_MOST, Inputs, ONE, SPECIAL};
 
 /// What memory holds before a call.
 const STALE: u8 = 0x5A;
-
-/// "At most 65,536 values a call or stream".
-const MOST: usize = 65_536;
-
-/// 1.0.
-const ONE: u32 = 0x3F80_0000;
 
 /// Records that no drawing finds: at the limits of counts, lists and states, and above them.
 pub fn at_limits(call: usize) -> Vec<Record> {
@@ -24,25 +24,27 @@ pub fn at_limits(call: usize) -> Vec<Record> {
 /// As many values as a call takes, all the same, so that their lines are short: each of them is coded in two
 /// bits, those of a repeat, but for a stream's first, which is stored in full.
 fn within_limits(call: usize) -> Vec<Record> {
-    let repeats = vec![0xAA; MOST / 4];
+    let repeats = vec![0xAA; MOST_VALUES / 4];
     let out = |places| vec![STALE.into(); places];
-    let most = MOST as u64;
+    let most = MOST_VALUES as u64;
     let record = Record::default();
     match call {
         // The bytes that it takes, and one less.
-        5 => [MOST / 4 + 4, MOST / 4 + 3].map(written).to_vec(),
+        5 => [MOST_VALUES / 4 + 4, MOST_VALUES / 4 + 3]
+            .map(written)
+            .to_vec(),
         6 => [0, 1, most].map(reopened).to_vec(),
         7 | 8 | 37 => vec![Record {
             x: vec![1, ONE],
             w: vec![most],
             p: repeats,
-            v: out(if call == 7 { MOST } else { 1 }),
+            v: out(if call == 7 { MOST_VALUES } else { 1 }),
             ..record
         }],
         13 | 14 => vec![Record {
             x: vec![ONE],
             w: vec![most],
-            v: out(if call == 14 { MOST } else { 1 }),
+            v: out(if call == 14 { MOST_VALUES } else { 1 }),
             ..record
         }],
         19 => vec![Record {
@@ -53,10 +55,10 @@ fn within_limits(call: usize) -> Vec<Record> {
         }],
         30 => vec![Record {
             x: vec![0, ONE, ONE, 0, 0],
-            v: vec![0; 255],
+            v: vec![0; MOST_RESIDUALS],
             p: vec![STALE; 8],
-            q: vec![STALE; 6 * 255],
-            r: vec![STALE.into(); 4],
+            q: vec![STALE; 6 * MOST_RESIDUALS],
+            r: vec![STALE.into(); SEGMENT_WORDS],
             ..record
         }],
         _ => vec![],
@@ -72,7 +74,7 @@ fn above_limits(call: usize) -> Vec<Record> {
         // and a reader behind as many values a place.
         let is_line = call != 16 || record.r.get(11).is_some_and(|&length| length > 1);
         let has_place = call != 35 || record.r.get(4).is_some_and(|&place| place > 0);
-        if call < 2 || record.answered().0 == 0 && is_line && has_place {
+        if call < 2 || answered(&record).0 == 0 && is_line && has_place {
             break record;
         }
     };
@@ -84,22 +86,22 @@ fn above_limits(call: usize) -> Vec<Record> {
             })
             .to_vec(),
         5 => {
-            record.v = vec![0; 65_537];
+            record.v = vec![0; MOST_VALUES + 1];
             vec![record]
         }
         6..=8 | 13 | 14 | 37 => {
             let place = usize::from(call == 6);
-            record.w[place] = 65_537;
+            record.w[place] = MOST_VALUES as u64 + 1;
             vec![record]
         }
         10 | 35 => with_length(record, 5),
         16 => with_length(record, 11),
         19 => {
-            record.w[2] = 65_537;
+            record.w[2] = MOST_VALUES as u64 + 1;
             vec![record]
         }
         20 | 21 | 31..=33 => {
-            record.t = vec![0; 65_537];
+            record.t = vec![0; MOST_VALUES + 1];
             vec![record]
         }
         23 => {
@@ -107,11 +109,11 @@ fn above_limits(call: usize) -> Vec<Record> {
             with_length(record, at)
         }
         25 => {
-            record.v = vec![0; 65_537];
+            record.v = vec![0; MOST_VALUES + 1];
             vec![record]
         }
         30 => {
-            record.v = vec![0; 256];
+            record.v = vec![0; MOST_RESIDUALS + 1];
             vec![record]
         }
         _ => vec![],
@@ -120,11 +122,11 @@ fn above_limits(call: usize) -> Vec<Record> {
 
 /// The most values, written with the first in full into so many bytes.
 fn written(bytes: usize) -> Record {
-    let mut row = vec![0; 10];
+    let mut row = vec![0; STATE_WORDS];
     face::new((0, 0), (0, 0), &mut row);
     Record {
         p: vec![STALE; bytes],
-        v: vec![ONE; MOST],
+        v: vec![ONE; MOST_VALUES],
         r: row,
         ..Record::default()
     }
@@ -134,9 +136,9 @@ fn written(bytes: usize) -> Record {
 fn reopened(k: u64) -> Record {
     Record {
         x: vec![1, ONE, 0, 0],
-        w: vec![MOST as u64 / 4, MOST as u64, k],
-        p: vec![0xAA; MOST / 4],
-        r: vec![STALE.into(); 10],
+        w: vec![MOST_VALUES as u64 / 4, MOST_VALUES as u64, k],
+        p: vec![0xAA; MOST_VALUES / 4],
+        r: vec![STALE.into(); STATE_WORDS],
         ..Record::default()
     }
 }
@@ -148,7 +150,7 @@ fn with_length(record: Record, place: usize) -> Vec<Record> {
         record.r[place] = length;
         record
     };
-    vec![at(65_535), at(65_536), at(65_537)]
+    ABOUT_MOST.map(|length| at(length as u64)).to_vec()
 }
 
 /// A record of a call.
@@ -202,7 +204,7 @@ fn handed(inputs: &mut Inputs, mut row: Vec<u64>) -> Vec<u64> {
         row[place] = match inputs.below(3) {
             0 => inputs.word(),
             1 => row[place].wrapping_add(1),
-            _ => inputs.pick(&[0, 1, 2, 255, 65_536, 1 << 32, u64::MAX]),
+            _ => inputs.pick(&[0, 1, 2, 255, MOST_VALUES as u64, 1 << 32, u64::MAX]),
         };
     }
     if inputs.below(10) == 0 {
@@ -215,8 +217,8 @@ fn handed(inputs: &mut Inputs, mut row: Vec<u64>) -> Vec<u64> {
 fn metadata(inputs: &mut Inputs) -> u64 {
     match inputs.below(10) {
         0 => 0,
-        1 => 65_536 + inputs.below(3),
-        2 => 65_535,
+        1 => u64::from(MOST_METADATA) + 1 + inputs.below(3),
+        2 => MOST_METADATA.into(),
         _ => 1 + inputs.below(60),
     }
 }
@@ -250,7 +252,7 @@ fn stream(inputs: &mut Inputs) -> ((u32, u32), usize, Vec<u64>, Vec<u8>) {
     let opening = face::opening_words(inputs.opening());
     let count = inputs.below(10) as usize;
     let values = inputs.values(count);
-    let mut row = vec![0; 10];
+    let mut row = vec![0; STATE_WORDS];
     face::new(face::bound_words(inputs.bound()), opening, &mut row);
     let mut bytes = vec![STALE; 6 * count];
     face::compress_values(&mut row, &values, &mut bytes);
@@ -265,7 +267,7 @@ fn of_streams(call: usize, inputs: &mut Inputs) -> Record {
         4 => {
             record.x = bound(inputs);
             record.x.extend(opening(inputs));
-            record.r = room(inputs, 10, STALE.into());
+            record.r = room(inputs, STATE_WORDS, STALE.into());
         }
         5 => {
             let more = inputs.below(5) as usize;
@@ -297,7 +299,7 @@ fn of_streams(call: usize, inputs: &mut Inputs) -> Record {
         record.x.extend(bound(inputs));
         record.w = vec![used, record.w[0], k];
         record.v = vec![];
-        record.r = room(inputs, 10, STALE.into());
+        record.r = room(inputs, STATE_WORDS, STALE.into());
     }
     record
 }
@@ -307,8 +309,8 @@ fn fitted(inputs: &mut Inputs, words: usize, step: fn(&mut [u64], i64, u32) -> u
     let mut row = vec![STALE.into(); words];
     let bound = face::bound_words(inputs.bound());
     match words {
-        7 => fit::pmc_mean_new(bound, &mut row),
-        13 => fit::swing_new(bound, &mut row),
+        PMC_MEAN_WORDS => fit::pmc_mean_new(bound, &mut row),
+        SWING_WORDS => fit::swing_new(bound, &mut row),
         _ => choice::new(bound, &mut row),
     };
     let count = inputs.below(6) as usize;
@@ -321,13 +323,13 @@ fn fitted(inputs: &mut Inputs, words: usize, step: fn(&mut [u64], i64, u32) -> u
 
 fn of_pmc_mean(call: usize, inputs: &mut Inputs) -> Record {
     let mut record = Record::default();
-    let row = fitted(inputs, 7, |row, _, value| {
+    let row = fitted(inputs, PMC_MEAN_WORDS, |row, _, value| {
         fit::pmc_mean_fit_value(row, value)
     });
     match call {
         9 => {
             record.x = bound(inputs);
-            record.r = room(inputs, 7, STALE.into());
+            record.r = room(inputs, PMC_MEAN_WORDS, STALE.into());
         }
         10 => {
             record.x = vec![inputs.value()];
@@ -353,11 +355,11 @@ fn of_pmc_mean(call: usize, inputs: &mut Inputs) -> Record {
 
 fn of_swing(call: usize, inputs: &mut Inputs) -> Record {
     let mut record = Record::default();
-    let row = fitted(inputs, 13, fit::swing_fit_data_point);
+    let row = fitted(inputs, SWING_WORDS, fit::swing_fit_data_point);
     match call {
         15 => {
             record.x = bound(inputs);
-            record.r = room(inputs, 13, STALE.into());
+            record.r = room(inputs, SWING_WORDS, STALE.into());
         }
         16 => {
             record.x = vec![inputs.value()];
@@ -408,11 +410,11 @@ fn time(inputs: &mut Inputs) -> u64 {
 
 fn of_the_choice(call: usize, inputs: &mut Inputs) -> Record {
     let mut record = Record::default();
-    let row = fitted(inputs, 20, choice::try_to_update_models);
+    let row = fitted(inputs, MODEL_BUILDER_WORDS, choice::try_to_update_models);
     match call {
         22 => {
             record.x = bound(inputs);
-            record.r = room(inputs, 20, STALE.into());
+            record.r = room(inputs, MODEL_BUILDER_WORDS, STALE.into());
         }
         23 => {
             record.x = vec![inputs.value()];
@@ -422,7 +424,7 @@ fn of_the_choice(call: usize, inputs: &mut Inputs) -> Record {
         24 => {
             record.w = vec![metadata(inputs)];
             record.s = handed(inputs, row);
-            record.r = room(inputs, 5, STALE.into());
+            record.r = room(inputs, SELECTED_MODEL_WORDS, STALE.into());
         }
         _ => {
             let count = inputs.below(7) as usize;
@@ -433,7 +435,7 @@ fn of_the_choice(call: usize, inputs: &mut Inputs) -> Record {
             }
             record.x = bound(inputs);
             record.w = vec![metadata(inputs)];
-            record.r = room(inputs, 5, STALE.into());
+            record.r = room(inputs, SELECTED_MODEL_WORDS, STALE.into());
         }
     }
     record
@@ -477,7 +479,7 @@ fn of_parameters(call: usize, inputs: &mut Inputs) -> Record {
             record.v = inputs.values(count);
             record.p = room(inputs, 8, STALE);
             record.q = room(inputs, 6 * count + 1, STALE);
-            record.r = room(inputs, 4, STALE.into());
+            record.r = room(inputs, SEGMENT_WORDS, STALE.into());
         }
     }
     record
@@ -493,7 +495,7 @@ fn of_reading(inputs: &mut Inputs) -> Record {
     };
     let residuals = inputs.pick(&[0, 1, 3]);
     let values = inputs.values(residuals);
-    let (mut p, mut q, mut row) = (vec![0; 8], vec![0; 40], vec![0; 4]);
+    let (mut p, mut q, mut row) = (vec![0; 8], vec![0; 40], vec![0; SEGMENT_WORDS]);
     let bound = face::bound_words(inputs.bound());
     segments::segment_write((model, ends), bound, &values, &mut p, &mut q, &mut row);
     p.truncate(row[2] as usize);
@@ -533,14 +535,14 @@ fn of_the_reader(call: usize, inputs: &mut Inputs) -> Record {
     let mut record = Record::default();
     if call == 34 {
         record.x = opening(inputs);
-        record.r = room(inputs, 6, STALE.into());
+        record.r = room(inputs, READER_WORDS, STALE.into());
         return record;
     }
     let (opened, count, _, mut bytes) = stream(inputs);
     if inputs.flip() {
         inputs.damage(&mut bytes);
     }
-    let mut row = vec![0; 6];
+    let mut row = vec![0; READER_WORDS];
     reader::open(opened, &mut row);
     for _ in 0..inputs.below(count as u64 + 1) {
         reader::next(&bytes, &mut row, &mut [0]);
@@ -559,7 +561,7 @@ fn of_the_reader(call: usize, inputs: &mut Inputs) -> Record {
 
 #[cfg(test)]
 mod tests {
-    use super::{Record, within_limits};
+    use super::{Record, answered, within_limits};
 
     /// At its limit a call is accepted, but for the write that lacks a byte.
     #[test]
@@ -567,7 +569,7 @@ mod tests {
         let answers = |call: usize| -> Vec<u64> {
             let records = within_limits(call).into_iter();
             let records = records.map(|record| Record { call, ..record });
-            records.map(|record| record.answered().0).collect()
+            records.map(|record| answered(&record).0).collect()
         };
         assert_eq!(answers(5), [0, 4]);
         assert_eq!(answers(6), [0, 0, 0]);

@@ -8,6 +8,7 @@ mod record;
 
 pub use calls::CALLS;
 
+use calls::answered;
 use record::Record;
 use side_by_side::inputs::Inputs;
 use std::collections::BTreeSet;
@@ -37,7 +38,7 @@ pub fn list() -> String {
     for (call, (name, _)) in CALLS.iter().enumerate() {
         _ = writeln!(text, "@{name}");
         for record in records(call) {
-            text += &record.line();
+            text += &record.line(&answered(&record));
         }
     }
     text
@@ -57,6 +58,6 @@ pub fn told() -> String {
 
 /// The refusals of a call that the list holds.
 pub fn refusals(call: usize) -> BTreeSet<u64> {
-    let numbers = records(call).into_iter().map(|record| record.answered().0);
+    let numbers = records(call).into_iter().map(|record| answered(&record).0);
     numbers.filter(|&number| number != 0).collect()
 }

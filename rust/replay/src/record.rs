@@ -1,6 +1,5 @@
 //! A record: a call, the numbers and the memory that it is handed.
 
-use crate::calls;
 use std::fmt::Write;
 
 /// What each list holds is said in crates/replay/src/calls.rt: `x` and `w` the numbers of 32 and of 64 bits in
@@ -20,16 +19,8 @@ pub struct Record {
 }
 
 impl Record {
-    /// The answer, and the record with the memory as it is left.
-    pub fn answered(&self) -> (u64, Self) {
-        let mut left = self.clone();
-        let number = calls::answer(&mut left);
-        (number, left)
-    }
-
     /// Its line. Behind the colon stand the answer and those lists that are not left as they were.
-    pub fn line(&self) -> String {
-        let (number, left) = self.answered();
+    pub fn line(&self, (number, left): &(u64, Self)) -> String {
         let mut line = format!("{:x}", self.call);
         let times: Vec<u64> = self.t.iter().map(|&time| time as u64).collect();
         for (name, words) in [('x', wide(&self.x)), ('w', self.w.clone()), ('t', times)] {

@@ -1,7 +1,8 @@
 //! What a part is given: the generator of inputs, the scale, the Rust's builds, and the counters.
 
 use crate::inputs::Inputs;
-use oracle::rust::{AT_HAND, Calls};
+use oracle::builds::AT_HAND;
+use oracle::rust::Calls;
 use std::fmt::Debug;
 use std::process::ExitCode;
 use std::time::Instant;

@@ -7,6 +7,7 @@ pub mod fit;
 pub mod reader;
 pub mod segments;
 
+use modelardb_rattle::Refusal;
 use modelardb_rattle::ffi::{STATE_WORDS, Words};
 use oracle::paper::macaque_v::{self, MacaqueV, Opening, Window};
 use oracle::paper::models::ErrorBound::{self, Absolute, Lossless, Relative};
@@ -84,6 +85,11 @@ pub fn safe_bound(bound: ErrorBound) -> modelardb_rattle::ErrorBound {
         Absolute(bound) => modelardb_rattle::ErrorBound::Absolute(bound),
         Relative(bound) => modelardb_rattle::ErrorBound::Relative(bound),
     }
+}
+
+/// An answer of the safe types, a refusal as its number.
+pub fn numbered<A>(answer: Result<A, Refusal>) -> Answer<A> {
+    answer.map_err(Refusal::number)
 }
 
 /// An opening's two words.

@@ -1,7 +1,17 @@
 //! Inputs: a small seeded generator, special floats, bounds, times and lists of values.
 
+use oracle::paper::MOST_VALUES;
 use oracle::paper::macaque_v::Opening;
 use oracle::paper::models::ErrorBound::{self, Absolute, Lossless, Relative};
+
+/// Values by their bits.
+pub const ONE: u32 = 0x3F80_0000;
+pub const TWO: u32 = 0x4000_0000;
+pub const INFINITY: u32 = 0x7F80_0000;
+pub const NAN: u32 = 0x7FC0_0000;
+
+/// One less than the most values of a call or stream, the most, and one more.
+pub const ABOUT_MOST: [usize; 3] = [MOST_VALUES - 1, MOST_VALUES, MOST_VALUES + 1];
 
 /// Zeros, ones, ends of ranges, infinities and NaNs: the floats at which rules change.
 pub const SPECIAL: [u32; 36] = [

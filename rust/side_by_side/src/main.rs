@@ -29,7 +29,7 @@ fn main() -> ExitCode {
         return ExitCode::from(2);
     };
     let name = words.next().unwrap_or_default();
-    if oracle::rust::AT_HAND.is_empty() {
+    if oracle::builds::AT_HAND.is_empty() {
         println!("skipped: the published Rust, since ORACLE_SRC names no folder with its text");
     }
     let named = parts::ALL.iter().filter(|part| part.is_named(&name));

@@ -199,46 +199,34 @@ pub fn swing_sum_by_average(
     }
 }
 
-/// 0 or the refusal's number; `out[0]` becomes the bits of the sum of the line's values at the times.
-pub fn swing_sum_over(
-    ((start_time, end_time), (first_value, last_value)): Ends,
-    timestamps: &[i64],
-    out: &mut [u32],
-) -> u32 {
-    let (start, length) = (out.as_mut_ptr(), out.len());
-    // SAFETY: each start and length are those of a slice lent for the call, and they do not overlap.
+/// How the two calls over a list of times look in C.
+type Drawing = unsafe extern "C" fn(i64, i64, u32, u32, *const i64, usize, *mut u32, usize) -> u32;
+
+/// One of them on slices.
+fn draw(call: Drawing, ends: Ends, timestamps: &[i64], out: &mut [u32]) -> u32 {
+    let ((start_time, end_time), (first_value, last_value)) = ends;
+    // SAFETY: the call is one of those two; each start and length are those of a slice lent for it, and
+    // they do not overlap.
     unsafe {
-        c::modelardb_swing_sum_over(
+        call(
             start_time,
             end_time,
             first_value,
             last_value,
             timestamps.as_ptr(),
             timestamps.len(),
-            start,
-            length,
+            out.as_mut_ptr(),
+            out.len(),
         )
     }
 }
 
+/// 0 or the refusal's number; `out[0]` becomes the bits of the sum of the line's values at the times.
+pub fn swing_sum_over(ends: Ends, timestamps: &[i64], out: &mut [u32]) -> u32 {
+    draw(c::modelardb_swing_sum_over, ends, timestamps, out)
+}
+
 /// 0 or the refusal's number; the front of `out` becomes the line's values at the times.
-pub fn swing_grid(
-    ((start_time, end_time), (first_value, last_value)): Ends,
-    timestamps: &[i64],
-    out: &mut [u32],
-) -> u32 {
-    let (start, length) = (out.as_mut_ptr(), out.len());
-    // SAFETY: each start and length are those of a slice lent for the call, and they do not overlap.
-    unsafe {
-        c::modelardb_swing_grid(
-            start_time,
-            end_time,
-            first_value,
-            last_value,
-            timestamps.as_ptr(),
-            timestamps.len(),
-            start,
-            length,
-        )
-    }
+pub fn swing_grid(ends: Ends, timestamps: &[i64], out: &mut [u32]) -> u32 {
+    draw(c::modelardb_swing_grid, ends, timestamps, out)
 }

@@ -2,6 +2,7 @@
 
 use crate::context::Context;
 use crate::parts::{pmc_mean, swing};
+use oracle::paper::MOST_METADATA;
 use oracle::paper::models::ErrorBound::{self, Lossless};
 use oracle::paper::numbers::canonical;
 use oracle::paper::refusal;
@@ -19,7 +20,7 @@ pub fn choice(context: &mut Context) {
         let (builder, next_time) = any_builder(context);
         let value = context.inputs.value();
         let (fits, next) = step(context, builder, next_time, value);
-        let m = 1 + context.inputs.below(65_535) as u32;
+        let m = 1 + context.inputs.below(MOST_METADATA.into()) as u32;
         choose(context, builder, m);
         if fits {
             choose(context, next, m);
@@ -91,8 +92,9 @@ pub fn choose(context: &mut Context, builder: ModelBuilder, m: u32) {
         let theirs = with_canonical_extremes((rust.choose)(builder, m));
         let (first, last) = (rust.swing_model)(builder.swing);
         let runs_off = theirs.id == SWING_ID && is_finite(first) && !is_finite(last);
-        // Listed: which of two zeros is the minimum.
-        let is_zero = !rust.is_filled() && zero(builder);
+        // Listed: which of two zeros is the minimum, also of a line's two ends.
+        let ends_at_zero = theirs.id == SWING_ID && f32::from_bits(last) == 0.0;
+        let is_zero = !rust.is_filled() && (zero(builder) || ends_at_zero);
         // Listed: a line that runs off to no finite value is chosen there; here PMC's model is.
         if runs_off && !is_zero {
             let of_pmc_mean = as_chosen(pmc_mean_model(rust, builder, m));

@@ -4,6 +4,7 @@
 mod fitting;
 
 use crate::context::Context;
+use crate::inputs::{ONE, TWO};
 use oracle::paper::macaque_v::{self, MacaqueV, Opening};
 use oracle::paper::models::ErrorBound::{Absolute, Lossless, Relative};
 use oracle::paper::models::is_value_within_error_bound;
@@ -15,8 +16,6 @@ use oracle::paper::types::{
 };
 use oracle::rust::{Call, Calls};
 
-const ONE: u32 = 0x3F80_0000;
-const TWO: u32 = 0x4000_0000;
 const INFINITY: u32 = 0x7F80_0000;
 const NONE: Extremes = Extremes {
     min_value: NAN_32,

@@ -1,7 +1,9 @@
 //! The listing program, as it was built, on inputs of its own: what it writes is the paper's text.
 
 use crate::context::Context;
+use crate::inputs::ONE;
 use modelardb_rattle::{ErrorBound, MacaqueV, Opening};
+use oracle::paper::MOST_VALUES;
 use oracle::paper::listing::list;
 use std::io::Write;
 use std::process::{Command, Stdio};
@@ -30,9 +32,9 @@ pub fn list_program(context: &mut Context) {
 fn limits() -> Vec<(&'static str, Vec<u8>)> {
     let case_b = [4, 0, 0, 0, 0x3F, 0x80, 0, 0, 0xB0, 0x91, 0xFE, 0xFF];
     let case_a = [&[3], &case_b[1..11]].concat();
-    let mut repeats = written(&vec![0x3F80_0000; 65_536], false);
+    let mut repeats = written(&vec![ONE; MOST_VALUES], false);
     let rows_of_repeats = repeats.clone();
-    repeats[..4].copy_from_slice(&65_535u32.to_le_bytes());
+    repeats[..4].copy_from_slice(&(MOST_VALUES as u32 - 1).to_le_bytes());
     vec![
         ("case a", case_a),
         ("case b", case_b.to_vec()),

@@ -5,6 +5,7 @@ use crate::inputs::SPECIAL;
 use oracle::paper::numbers::canonical;
 use oracle::paper::pmc_mean::{self, PMCMean};
 use oracle::paper::refusal;
+use oracle::paper::{MOST_METADATA, MOST_VALUES};
 
 /// A step's answer: whether it fits, and the state's row.
 type Step = (bool, [u64; 6]);
@@ -25,7 +26,7 @@ pub fn pmc_mean(context: &mut Context) {
         of_state(context, state);
     }
     for value in SPECIAL {
-        for length in [0, 1, 2, 3, 255, 65_535, 65_536] {
+        for length in [0, 1, 2, 3, 255, MOST_VALUES - 1, MOST_VALUES] {
             of_value(context, value, length);
         }
     }
@@ -57,7 +58,7 @@ fn without_zero_signs((fits, mut row): Step) -> Step {
 }
 
 fn of_state(context: &mut Context, state: PMCMean) {
-    let m = 1 + context.inputs.below(65_535) as u32;
+    let m = 1 + context.inputs.below(MOST_METADATA.into()) as u32;
     let paper = (state.model(), state.bytes_per_value(m));
     let input = || format!("PMC model {:X?}, M {m}", state.row());
     // "A state of length 0 asked for its model or cost": 11. There it is answered.
@@ -90,6 +91,6 @@ pub fn any_state(context: &mut Context) -> PMCMean {
         min_value: f32::from_bits(canonical(inputs.value())),
         max_value: f32::from_bits(canonical(inputs.value())),
         sum_of_values: inputs.wide(),
-        length: inputs.below(65_536) as usize,
+        length: inputs.below(MOST_VALUES as u64) as usize,
     }
 }

@@ -6,6 +6,7 @@ use oracle::paper::Answer;
 use oracle::paper::models::ErrorBound::Lossless;
 use oracle::paper::refusal;
 use oracle::paper::swing::{self, Line, Swing};
+use oracle::paper::{MOST_METADATA, MOST_VALUES};
 
 pub fn swing(context: &mut Context) {
     for _ in 0..context.rounds(120_000) {
@@ -40,7 +41,7 @@ fn step(context: &mut Context, state: Swing, time: i64, value: u32) -> Swing {
 }
 
 fn of_state(context: &mut Context, state: Swing) {
-    let m = 1 + context.inputs.below(65_535) as u32;
+    let m = 1 + context.inputs.below(MOST_METADATA.into()) as u32;
     let paper = (state.model(), state.bytes_per_value(m));
     let input = || format!("Swing model {:X?}, M {m}", state.row());
     // "A state of length 0 asked for its model or cost": 11. There it is answered.
@@ -62,7 +63,7 @@ fn of_state(context: &mut Context, state: Swing) {
 pub fn any_state(context: &mut Context) -> (Swing, i64) {
     let length = match context.inputs.below(4) {
         0 => context.inputs.below(3),
-        _ => context.inputs.below(65_536),
+        _ => context.inputs.below(MOST_VALUES as u64),
     };
     let times = context.inputs.times(3);
     let inputs = &mut context.inputs;

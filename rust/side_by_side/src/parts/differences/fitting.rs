@@ -2,8 +2,10 @@
 //! the compiled library, also where the published text is not at hand.
 
 use crate::context::Context;
-use modelardb_rattle::{self as library, ErrorBound as Bound, Line as LibraryLine, Refusal};
-use oracle::paper::Answer;
+use crate::face::numbered;
+use crate::inputs::{INFINITY, ONE, TWO};
+use modelardb_rattle::{self as library, ErrorBound as Bound, Line as LibraryLine};
+use oracle::paper::MOST_VALUES;
 use oracle::paper::models::ErrorBound::{Absolute, Lossless, Relative};
 use oracle::paper::models::maximum_allowed_deviation;
 use oracle::paper::numbers::{NAN_32, canonical};
@@ -12,10 +14,6 @@ use oracle::paper::swing::{self, Line, Swing};
 use oracle::paper::types::{ModelBuilder, choose_model};
 use oracle::rust::Calls;
 use std::fmt::Debug;
-
-const ONE: u32 = 0x3F80_0000;
-const TWO: u32 = 0x4000_0000;
-const INFINITY: u32 = 0x7F80_0000;
 
 pub fn fitting(context: &mut Context) {
     deviation(context);
@@ -41,11 +39,6 @@ fn row<A: PartialEq + Debug + Clone>(
     for rust in context.rust.iter().filter(|rust| !rust.is_filled()) {
         context.listed(paper.clone(), theirs(rust), listed.clone(), what);
     }
-}
-
-/// A refusal of the library as its number.
-fn numbered<A>(answer: Result<A, Refusal>) -> Answer<A> {
-    answer.map_err(Refusal::number)
 }
 
 /// 1: The published deviation is 0.99 × bound, or divides by 100.1.
@@ -179,7 +172,7 @@ fn lines(context: &mut Context) {
 fn full_states(context: &mut Context) {
     let mut paper = PMCMean::new(Lossless).expect("an allowed bound");
     let mut ours = library::PMCMean::new(Bound::Lossless).expect("an allowed bound");
-    for _ in 0..65_536 {
+    for _ in 0..MOST_VALUES {
         (_, paper) = paper.fit_value(ONE).expect("a value under the limit");
         ours.fit_value(1.0).expect("a value under the limit");
     }

@@ -2,10 +2,13 @@
 //! lent afterwards are compared, and the library's memory stands between guards.
 
 use super::kinds::{Ask, Kind};
+use super::run::Point;
 use crate::context::Context;
 use crate::face::{choice, fit};
-use crate::lent::{Left, TIME_GUARD, VALUE_GUARD, WORD_GUARD, compared, to_read};
-use modelardb_rattle::ffi::{self, Ends, Words};
+use crate::lent::{
+    Left, STALE_VALUE, STALE_WORD, TIME_GUARD, VALUE_GUARD, WORD_GUARD, compared, to_read,
+};
+use modelardb_rattle::ffi::{self, Ends, SELECTED_MODEL_WORDS, Words};
 
 /// A fresh state into the row.
 pub fn new(context: &mut Context, kind: &Kind, bound: Words, row: &[u64]) -> Left<u64> {
@@ -20,13 +23,13 @@ pub fn new(context: &mut Context, kind: &Kind, bound: Words, row: &[u64]) -> Lef
     )
 }
 
+/// The row of a fresh state.
+pub fn fresh(context: &mut Context, kind: &Kind, bound: Words) -> Vec<u64> {
+    new(context, kind, bound, &vec![STALE_WORD; kind.words]).1
+}
+
 /// A point tried with the state of the row.
-pub fn step(
-    context: &mut Context,
-    kind: &Kind,
-    row: &[u64],
-    (time, value): (i64, u32),
-) -> Left<u64> {
+pub fn step(context: &mut Context, kind: &Kind, row: &[u64], (time, value): Point) -> Left<u64> {
     let [paper, library] = kind.step;
     let input = || format!("{} step with {value:08X} at {time}", kind.name);
     compared(
@@ -36,6 +39,26 @@ pub fn step(
         |row| library(row, time, value),
         input,
     )
+}
+
+/// The row of a fresh state that was stepped over the points; a refused step leaves it alone.
+pub fn stepped(context: &mut Context, kind: &Kind, bound: Words, points: &[Point]) -> Vec<u64> {
+    let mut row = fresh(context, kind, bound);
+    for &point in points {
+        (_, row) = step(context, kind, &row, point);
+    }
+    row
+}
+
+/// All that the state of the row can be asked, with a place to spare behind the answer.
+pub fn asked(context: &mut Context, kind: &Kind, row: &[u64], m: usize) {
+    for question in kind.asks {
+        let out = &[STALE_VALUE; 3][..question.words + 1];
+        ask(context, question, row, m, out);
+    }
+    if kind.is_builder() {
+        finish(context, row, m, &[STALE_WORD; SELECTED_MODEL_WORDS + 1]);
+    }
 }
 
 /// A cost or a model of the state of the row into `out`.

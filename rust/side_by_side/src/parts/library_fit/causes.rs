@@ -6,10 +6,9 @@ mod of_states;
 
 use super::both;
 use super::kinds::KINDS;
-use super::{METADATA, STALE_WORD};
 use crate::context::Context;
+use crate::lent::STALE_WORD;
 use crate::order::{BOUNDS, in_order, rooms};
-use oracle::paper::refusal::LIMIT;
 
 pub fn causes(context: &mut Context) {
     of_new(context);
@@ -32,9 +31,4 @@ fn of_new(context: &mut Context) {
             }
         }
     }
-}
-
-/// Each metadata size, and 3 where it is out of its limits.
-fn sizes() -> [(usize, u32); METADATA.len()] {
-    METADATA.map(|m| (m, if (1..65_536).contains(&m) { 0 } else { LIMIT }))
 }

@@ -1,8 +1,13 @@
 //! Costs and the choice by them: every metadata size, and every length.
 
 use super::kinds::{BUILDER, PMC_MEAN, SWING};
-use super::runs::stepped;
+use super::{both, metadata};
 use crate::context::Context;
+use crate::inputs::{ONE, TWO};
+use oracle::paper::MOST_VALUES;
+
+/// The greatest length.
+const MOST: u64 = MOST_VALUES as u64;
 
 /// Where the lengths stand in a builder's row.
 const LENGTHS: [usize; 2] = [5, 18];
@@ -15,25 +20,20 @@ const FEW: [[u64; 2]; 8] = [
     [3, 2],
     [12, 13],
     [12, 14],
-    [65_535, 65_536],
-    [65_536, 65_536],
+    [MOST - 1, MOST],
+    [MOST, MOST],
 ];
 
 pub fn costs(context: &mut Context) {
     // A rising line, of which PMC-Mean takes the first value only.
-    let row = stepped(
-        context,
-        &BUILDER,
-        (0, 0),
-        &[(0, 0x3F80_0000), (1, 0x4000_0000)],
-    );
+    let row = both::stepped(context, &BUILDER, (0, 0), &[(0, ONE), (1, TWO)]);
     for lengths in FEW {
-        for m in 0..=65_537 {
+        for m in 0..=metadata::MOST + 2 {
             asked(context, &row, lengths, m);
         }
     }
-    for length in 0..=65_537 {
-        let m = context.inputs.pick(&[1, 12, 65_535]);
+    for length in 0..=MOST + 1 {
+        let m = context.inputs.pick(&[1, 12, metadata::MOST]);
         let more = context.inputs.below(3);
         asked(context, &row, [length, length + more], m);
     }
@@ -49,7 +49,7 @@ fn asked(context: &mut Context, row: &[u64], lengths: [u64; 2], m: usize) {
     if lengths[1] == 1 {
         row[10] = row[9];
     }
-    PMC_MEAN.asked(context, &row[..PMC_MEAN.words], m);
-    SWING.asked(context, &row[PMC_MEAN.words..], m);
-    BUILDER.asked(context, &row, m);
+    both::asked(context, &PMC_MEAN, &row[..PMC_MEAN.words], m);
+    both::asked(context, &SWING, &row[PMC_MEAN.words..], m);
+    both::asked(context, &BUILDER, &row, m);
 }

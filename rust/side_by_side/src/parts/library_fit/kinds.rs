@@ -1,12 +1,8 @@
 //! What steps over points: PMC-Mean, Swing and the builder of both, by their calls, the paper's and the
 //! library's.
 
-use super::{STALE_VALUE, STALE_WORD, both};
-use crate::context::Context;
 use crate::face::{choice, fit};
-use modelardb_rattle::ffi::{
-    self, MODEL_BUILDER_WORDS, PMC_MEAN_WORDS, SELECTED_MODEL_WORDS, SWING_WORDS, Words,
-};
+use modelardb_rattle::ffi::{self, MODEL_BUILDER_WORDS, PMC_MEAN_WORDS, SWING_WORDS, Words};
 
 type New = fn(Words, &mut [u64]) -> u32;
 type Step = fn(&mut [u64], i64, u32) -> u32;
@@ -30,6 +26,28 @@ pub struct Ask {
     pub call: [Asking; 2],
 }
 
+/// A cost of one word, and a model of so many, which does not depend on the metadata's size.
+const fn asks(
+    names: [&'static str; 2],
+    words: usize,
+    cost: [Asking; 2],
+    model: [Asking; 2],
+) -> [Ask; 2] {
+    let [cost_name, model_name] = names;
+    [
+        Ask {
+            name: cost_name,
+            words: 1,
+            call: cost,
+        },
+        Ask {
+            name: model_name,
+            words,
+            call: model,
+        },
+    ]
+}
+
 pub const PMC_MEAN: Kind = Kind {
     name: "PMC",
     words: PMC_MEAN_WORDS,
@@ -39,21 +57,15 @@ pub const PMC_MEAN: Kind = Kind {
         |row, _, value| fit::pmc_mean_fit_value(row, value),
         |row, _, value| ffi::pmc_mean_fit_value(row, value),
     ],
-    asks: &[
-        Ask {
-            name: "PMC cost",
-            words: 1,
-            call: [fit::pmc_mean_bytes_per_value, ffi::pmc_mean_bytes_per_value],
-        },
-        Ask {
-            name: "PMC model",
-            words: 1,
-            call: [
-                |row, _, out| fit::pmc_mean_model(row, out),
-                |row, _, out| ffi::pmc_mean_model(row, out),
-            ],
-        },
-    ],
+    asks: &asks(
+        ["PMC cost", "PMC model"],
+        1,
+        [fit::pmc_mean_bytes_per_value, ffi::pmc_mean_bytes_per_value],
+        [
+            |row, _, out| fit::pmc_mean_model(row, out),
+            |row, _, out| ffi::pmc_mean_model(row, out),
+        ],
+    ),
 };
 
 pub const SWING: Kind = Kind {
@@ -62,24 +74,18 @@ pub const SWING: Kind = Kind {
     holds: [false, true],
     new: [fit::swing_new, ffi::swing_new],
     step: [fit::swing_fit_data_point, ffi::swing_fit_data_point],
-    asks: &[
-        Ask {
-            name: "Swing cost",
-            words: 1,
-            call: [fit::swing_bytes_per_value, ffi::swing_bytes_per_value],
-        },
-        Ask {
-            name: "Swing model",
-            words: 2,
-            call: [
-                |row, _, out| fit::swing_model(row, out),
-                |row, _, out| ffi::swing_model(row, out),
-            ],
-        },
-    ],
+    asks: &asks(
+        ["Swing cost", "Swing model"],
+        2,
+        [fit::swing_bytes_per_value, ffi::swing_bytes_per_value],
+        [
+            |row, _, out| fit::swing_model(row, out),
+            |row, _, out| ffi::swing_model(row, out),
+        ],
+    ),
 };
 
-/// Asked for its choice, it answers in words of its own: [`both::finish`].
+/// Asked for its choice, it answers in words of its own.
 pub const BUILDER: Kind = Kind {
     name: "builder",
     words: MODEL_BUILDER_WORDS,
@@ -97,22 +103,5 @@ pub const KINDS: [Kind; 3] = [PMC_MEAN, SWING, BUILDER];
 impl Kind {
     pub fn is_builder(&self) -> bool {
         self.holds == [true, true]
-    }
-
-    /// The row of a fresh state.
-    pub fn fresh(&self, context: &mut Context, bound: Words) -> Vec<u64> {
-        let row = vec![STALE_WORD; self.words];
-        let (_, row) = both::new(context, self, bound, &row);
-        row
-    }
-
-    /// All that the state of the row can be asked, with a place to spare behind the answer.
-    pub fn asked(&self, context: &mut Context, row: &[u64], m: usize) {
-        for ask in self.asks {
-            both::ask(context, ask, row, m, &[STALE_VALUE; 3][..ask.words + 1]);
-        }
-        if self.is_builder() {
-            both::finish(context, row, m, &[STALE_WORD; SELECTED_MODEL_WORDS + 1]);
-        }
     }
 }

@@ -1,21 +1,20 @@
 //! Sums and grids: of a constant, and of lines between any two values at any times.
 
-use super::STALE_VALUE;
 use super::both::{self, GRID, SUM_OVER};
-use super::safe::numbered;
 use crate::context::Context;
-use crate::face::fit;
-use crate::inputs::SPECIAL;
+use crate::face::{fit, numbered};
+use crate::inputs::{ABOUT_MOST, SPECIAL};
+use crate::lent::STALE_VALUE;
 use crate::parts::swing;
 use modelardb_rattle::ffi::Ends;
 use modelardb_rattle::{self as library, Line};
-use oracle::paper::Answer;
+use oracle::paper::{Answer, MOST_VALUES};
 
 /// None, few, the limit, and what lies beyond it.
-const COUNTS: [usize; 8] = [0, 1, 2, 3, 255, 65_536, 65_537, usize::MAX];
+const COUNTS: [usize; 8] = [0, 1, 2, 3, 255, MOST_VALUES, MOST_VALUES + 1, usize::MAX];
 
 pub fn lines(context: &mut Context) {
-    let mut out = vec![STALE_VALUE; 65_538];
+    let mut out = vec![STALE_VALUE; MOST_VALUES + 2];
     for value in SPECIAL {
         for count in COUNTS {
             constant(context, value, count);
@@ -38,20 +37,20 @@ pub fn lines(context: &mut Context) {
         let own = context.inputs.flip();
         by_each_call(context, ends, if own { &around } else { &times });
     }
-    for count in [65_535, 65_536, 65_537] {
+    for count in ABOUT_MOST {
         out.truncate(count);
         let times = context.inputs.times(count);
         let ends = ((times[0], times[count - 1]), (0x41A0_0000, 0xC1A4_0000));
         both::drawn(context, GRID, ends, &times, &out);
         both::drawn(context, GRID, ends, &times, &out[1..]);
         both::drawn(context, SUM_OVER, ends, &times, &out[..1]);
-        out.resize(65_538, STALE_VALUE);
+        out.resize(MOST_VALUES + 2, STALE_VALUE);
     }
 }
 
 /// A constant's sum and grid: outputs just long enough, with places to spare, and too short.
 fn constant(context: &mut Context, value: u32, count: usize) {
-    let room = count.min(65_537);
+    let room = count.min(MOST_VALUES + 1);
     for (sum, out) in [(1, room), (2, room + 3), (0, room.saturating_sub(1))] {
         let memory = vec![STALE_VALUE; room + 3];
         both::constant(

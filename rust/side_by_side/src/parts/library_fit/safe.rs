@@ -1,8 +1,8 @@
 //! The safe types over the same calls, beside the paper's program.
 
-use super::runs::Run;
+use super::run::Run;
 use crate::context::Context;
-use crate::face::{self, fit::metadata};
+use crate::face::{self, fit::metadata, numbered};
 use modelardb_rattle::{self as library, ModelBuilder, PMCMean, Refusal, SelectedModel, Swing};
 use oracle::paper::{Answer, pmc_mean, swing, types};
 
@@ -111,9 +111,4 @@ fn model(ours: SelectedModel) -> types::Model {
         last_value: ours.last_value_bits(),
         bytes_per_value: ours.bytes_per_value().to_bits(),
     }
-}
-
-/// A refusal as its number.
-pub fn numbered<A>(answer: Result<A, Refusal>) -> Answer<A> {
-    answer.map_err(Refusal::number)
 }

@@ -1,10 +1,11 @@
 //! Every run of up to five of the dozen special values, by each kind of state and by the whole rule.
 
+use super::both;
 use super::kinds::{BUILDER, KINDS, Kind};
-use super::{STALE_WORD, both};
 use crate::context::Context;
 use crate::face::{self, choice::builder_in};
 use crate::inputs::DOZEN;
+use crate::lent::STALE_WORD;
 use crate::parts::choice;
 use crate::parts::macaque_v::short_lists;
 use modelardb_rattle::ffi::SELECTED_MODEL_WORDS;
@@ -34,7 +35,7 @@ pub fn short_runs(context: &mut Context) {
     for (bound, times) in BOUNDS {
         let words = face::bound_words(bound);
         for kind in &KINDS {
-            let row = kind.fresh(context, words);
+            let row = both::fresh(context, kind, words);
             runs_from(context, kind, &row, &times);
         }
         for list in &lists {
@@ -49,7 +50,7 @@ pub fn short_runs(context: &mut Context) {
 /// Each of the dozen at each of the times, from a state on.
 fn runs_from(context: &mut Context, kind: &Kind, row: &[u64], times: &[i64]) {
     let m = 1 + context.inputs.below(16) as usize;
-    kind.asked(context, row, m);
+    both::asked(context, kind, row, m);
     if kind.is_builder() && row[5] > 0 {
         choice::choose(context, builder_in(row), m as u32);
     }
@@ -68,7 +69,7 @@ fn runs_from(context: &mut Context, kind: &Kind, row: &[u64], times: &[i64]) {
 /// Lossless 1.0, NaN, 1.0: at the NaN both models fail, and the third value does not fit again.
 fn at_a_nan(context: &mut Context) {
     let (one, nan) = (0x3F80_0000, 0x7FC0_0000);
-    let mut row = BUILDER.fresh(context, (0, 0));
+    let mut row = both::fresh(context, &BUILDER, (0, 0));
     let mut flags = vec![];
     for point in [(0, one), (1, nan), (2, one)] {
         (_, row) = both::step(context, &BUILDER, &row, point);

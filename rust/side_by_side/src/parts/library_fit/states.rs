@@ -1,11 +1,14 @@
 //! Handed-in states: any bits in each word of a row, alone and together.
 
-use super::METADATA;
-use super::both;
 use super::kinds::{KINDS, Kind};
-use super::runs::{Point, stepped};
+use super::run::Point;
+use super::{both, metadata};
 use crate::context::Context;
 use crate::face;
+use oracle::paper::MOST_VALUES;
+
+/// The greatest length.
+const MOST: u64 = MOST_VALUES as u64;
 
 /// Ends of ranges, limits, and words too large for what they stand for: flags and lengths, values of 32
 /// and of 64 bits, times.
@@ -14,9 +17,9 @@ const WORDS: [u64; 32] = [
     1,
     2,
     3,
-    65_535,
-    65_536,
-    65_537,
+    MOST - 1,
+    MOST,
+    MOST + 1,
     0x3F80_0000, // 1 in 32 bits
     0x7F80_0000, // infinity
     0x7F80_0001, // NaNs
@@ -69,7 +72,7 @@ fn any_run(context: &mut Context, kind: &Kind) -> (Vec<u64>, i64) {
     let (times, values) = (context.inputs.times(count), context.inputs.values(count));
     let bound = face::bound_words(context.inputs.bound());
     let points: Vec<Point> = times.iter().copied().zip(values).collect();
-    let row = stepped(context, kind, bound, &points);
+    let row = both::stepped(context, kind, bound, &points);
     (row, times.last().copied().unwrap_or(0))
 }
 
@@ -78,9 +81,9 @@ fn handed_in(context: &mut Context, kind: &Kind, row: &[u64], last: i64) {
     let inputs = &mut context.inputs;
     let later = [1, 1, 60, 0, -1, 1 << 34, i64::MAX - last.max(0)];
     let point = (last + inputs.pick(&later), inputs.value());
-    let m = inputs.pick(&METADATA);
+    let m = inputs.pick(&metadata::SIZES);
     both::step(context, kind, row, point);
-    kind.asked(context, row, m);
+    both::asked(context, kind, row, m);
 }
 
 /// A row of any words: each field as it may be, with none to three of them changed.
@@ -93,13 +96,13 @@ fn any_row(context: &mut Context, kind: &Kind) -> (Vec<u64>, i64) {
     if has_pmc_mean {
         row.extend(bound.row());
         row.extend([inputs.value(), inputs.value()].map(u64::from));
-        row.extend([inputs.wide().to_bits(), inputs.below(65_538)]);
+        row.extend([inputs.wide().to_bits(), inputs.below(MOST + 2)]);
         row.push(inputs.below(8).min(1));
     }
     if has_swing {
         let length = match inputs.below(3) {
             0 => inputs.below(3),
-            _ => inputs.below(65_538),
+            _ => inputs.below(MOST + 2),
         };
         row.extend(bound.row());
         row.extend([times[0] as u64, times[usize::from(length > 1)] as u64]);

@@ -1,11 +1,13 @@
 //! Each call of the compiled face and the paper's on the same lent memory: the number and all that is
 //! lent afterwards are compared, and the library's memory stands between guards.
 
-use super::Source;
+use super::source::{Outputs, Source};
 use crate::context::Context;
 use crate::face::segments as face;
 use crate::lent::{BYTE_GUARD, Left, Lent, TIME_GUARD, VALUE_GUARD, WORD_GUARD, compared, to_read};
+use modelardb_rattle::Segment;
 use modelardb_rattle::ffi::{self, Pair, StoredSegment};
+use oracle::paper::{MOST_RESIDUALS, refusal};
 
 type Encode = fn(Pair, Pair, &mut [u8], &mut [u64]) -> u32;
 type Decode = fn(Pair, &[u8], &mut [u32]) -> u32;
@@ -89,9 +91,6 @@ pub fn decoded(
     left
 }
 
-/// The three outputs of a written segment: parameter bytes, residual bytes and the row.
-pub type Outputs = (Vec<u8>, Vec<u8>, Vec<u64>);
-
 /// A segment into the outputs: the number, and what they hold afterwards.
 pub fn written(context: &mut Context, source: &Source, outputs: &Outputs) -> (u32, Outputs) {
     let (mut values, mut residuals, mut row) = outputs.clone();
@@ -139,6 +138,23 @@ pub fn written_as(
         (ours, contents.as_ref(), is_kept),
         input,
     );
+}
+
+/// The segment as both wrote it; over 255 residuals are 3.
+pub fn segment_of(context: &mut Context, source: &Source) -> Option<Segment> {
+    let (number, (mut values, mut residuals, row)) = written(context, source, &source.outputs());
+    let is_over = source.residuals.len() > MOST_RESIDUALS;
+    let expected = if is_over { refusal::LIMIT } else { 0 };
+    context.same("255 residuals", expected, number, || source.to_string());
+    values.truncate(row[2] as usize);
+    residuals.truncate(row[3] as usize);
+    (number == 0).then_some(Segment {
+        model_type_id: source.model,
+        min_value_bits: row[0] as u32,
+        max_value_bits: row[1] as u32,
+        values,
+        residuals,
+    })
 }
 
 /// A segment's grid or sum into `out`.

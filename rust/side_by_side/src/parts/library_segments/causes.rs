@@ -1,42 +1,20 @@
 //! Every cause of refusal with every other. Each choice below carries the number of the cause that it
 //! brings in, or 0; the call must answer the first of them in document 01's order.
 
+mod of_parts;
 mod of_reading;
 
-use super::{STALE, STALE_VALUE, STALE_WORD, Source, both};
+use super::both;
+use super::source::Source;
 use crate::context::Context;
+use crate::inputs::{NAN, ONE, TWO};
+use crate::lent::{STALE, STALE_VALUE, STALE_WORD};
 use crate::order::{BOUNDS, in_order, rooms};
 use modelardb_rattle::ffi::{Pair, SEGMENT_WORDS, Words};
-use oracle::paper::refusal::{FORM, LIMIT, NO_MODEL, OUTPUT};
+use of_parts::{FORMS, MODELS};
+use oracle::paper::refusal::{FORM, LIMIT, OUTPUT};
 
-const ONE: u32 = 0x3F80_0000;
-const TWO: u32 = 0x4000_0000;
 const FIVE: u32 = 0x40A0_0000;
-const NAN: u32 = 0x7FC0_0000;
-const INFINITY: u32 = 0x7F80_0000;
-
-/// Parameter bytes and a segment's extremes, with the causes that they bring to PMC-Mean and to Swing. The
-/// bytes of a line that is not drawn, 11, are read all the same.
-const FORMS: [(&[u8], Pair, [u32; 2]); 11] = [
-    (&[], (ONE, TWO), [0, 0]),
-    (&[7], (ONE, TWO), [0, 0]),
-    (&[], (INFINITY, INFINITY), [0, 0]),
-    (&[], (ONE, INFINITY), [0, NO_MODEL]),
-    (&[7], (NAN, ONE), [0, NO_MODEL]),
-    (&[0, 0, 0, 0x40], (ONE, TWO), [0, FORM]),
-    (&[3, 0, 0, 0, 0x40], (ONE, INFINITY), [FORM, 0]),
-    (&[4, 0, 0, 0, 0x40], (ONE, TWO), [FORM, FORM]),
-    (
-        &[0, 0, 0x80, 0x3F, 0, 0, 0x80, 0x7F],
-        (ONE, TWO),
-        [FORM, NO_MODEL],
-    ),
-    (&[1, 2], (ONE, TWO), [FORM, FORM]),
-    (&[0; 9], (ONE, TWO), [FORM, FORM]),
-];
-
-/// Models, and the cause that their number brings.
-const MODELS: [(u32, u32); 4] = [(0, 0), (1, 0), (2, LIMIT), (u32::MAX, LIMIT)];
 
 pub fn causes(context: &mut Context) {
     of_encoding(context);

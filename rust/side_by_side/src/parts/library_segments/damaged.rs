@@ -1,10 +1,12 @@
 //! Damaged segments: each bit flipped, each part cut anywhere, a byte more, other forms, counts, models,
 //! extremes and timestamps. They are drawn and summed, and held against the segment's shape.
 
-use super::{STALE_VALUE, Source, both};
+use super::both;
+use super::source::Source;
 use crate::context::Context;
 use crate::face::segments as face;
 use crate::inputs::SPECIAL;
+use crate::lent::STALE_VALUE;
 use crate::parts::segments::refusal_of;
 use modelardb_rattle::Segment;
 use modelardb_rattle::ffi::StoredSegment;
@@ -32,7 +34,7 @@ type Sound = (Segment, Vec<i64>);
 /// One of any values.
 fn any_segment(context: &mut Context, count: usize) -> Sound {
     let source = Source::any(context, count);
-    let segment = source.written(context).expect("few residuals");
+    let segment = both::segment_of(context, &source).expect("few residuals");
     (segment, source.times(context))
 }
 

@@ -1,10 +1,11 @@
 //! Parameter bytes: written over special floats exhaustively, in every room, and read in every length and
 //! with every flag.
 
-use super::{STALE, STALE_VALUE, STALE_WORD, both, safe};
+use super::{both, safe};
 use crate::context::Context;
 use crate::face::segments::extremes;
 use crate::inputs::{DOZEN, SPECIAL};
+use crate::lent::{STALE, STALE_VALUE, STALE_WORD};
 use crate::parts::parameters::any_form;
 use modelardb_rattle::ffi::Pair;
 use oracle::paper::numbers::canonical;

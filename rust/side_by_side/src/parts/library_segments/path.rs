@@ -1,13 +1,17 @@
 //! The whole path: a run is fitted, a model is chosen, a segment is written with the values behind it,
 //! drawn and summed.
 
-use super::{STALE_VALUE, STALE_WORD, Source, both, safe};
+use super::source::Source;
+use super::{both, safe};
 use crate::context::Context;
-use crate::face::{self, segments::read};
-use crate::parts::library_fit::{Run, choose, numbered};
+use crate::face::{self, numbered, segments::read};
+use crate::inputs::ABOUT_MOST;
+use crate::lent::{STALE_VALUE, STALE_WORD};
+use crate::parts::library_fit::{Run, choose};
 use crate::parts::segments::{compare_reading, compare_writing};
 use modelardb_rattle::ffi::{SELECTED_MODEL_WORDS, StoredSegment};
 use modelardb_rattle::{self as library, Segment};
+use oracle::paper::MOST_VALUES;
 use oracle::paper::models::ErrorBound::{self, Absolute, Lossless, Relative};
 use oracle::paper::refusal;
 use oracle::paper::types::{Model, PMC_MEAN_ID};
@@ -50,7 +54,7 @@ fn along(context: &mut Context, run: &Run) {
     let times = &run.times[..model.length + residuals.len()];
     let ends = (model.first_value, model.last_value);
     let source = Source::new((model.id, ends), run.bound, residuals);
-    let segment = source.written(context).expect("few residuals");
+    let segment = both::segment_of(context, &source).expect("few residuals");
     parameters_come_back(context, &source, &segment);
     residuals_are_kept(context, run, &segment, times);
     safe::read(context, &segment, times);
@@ -129,14 +133,16 @@ fn beside_the_rust(
 
 /// A segment of 65,536 timestamps, of which 255 are residuals', and of one more: 3.
 fn at_the_limit(context: &mut Context, bound: ErrorBound) {
-    let times: Vec<i64> = (0..65_537).map(|time| 10 * time - 300_000).collect();
+    let times: Vec<i64> = (0..=MOST_VALUES as i64)
+        .map(|time| 10 * time - 300_000)
+        .collect();
     for model in [PMC_MEAN_ID, 1] {
         let inputs = &mut context.inputs;
         let ends = (inputs.reading(), inputs.reading());
         let source = Source::new((model, ends), bound, inputs.values(255));
-        let segment = source.written(context).expect("few residuals");
+        let segment = both::segment_of(context, &source).expect("few residuals");
         let stored = StoredSegment::from(&segment);
-        for (total, refusal) in [(65_535, 0), (65_536, 0), (65_537, refusal::LIMIT)] {
+        for (total, refusal) in ABOUT_MOST.into_iter().zip([0, 0, refusal::LIMIT]) {
             let (times, out) = (&times[..total], vec![STALE_VALUE; total]);
             for call in [both::GRID, both::BY_AVERAGE, both::OVER] {
                 let (number, _) = both::read(context, call, stored, times, &out);

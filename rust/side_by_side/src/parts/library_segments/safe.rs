@@ -1,9 +1,9 @@
 //! The safe calls over the same face, beside the paper's program.
 
-use super::Source;
+use super::source::Source;
 use crate::context::Context;
+use crate::face::numbered;
 use crate::face::segments as face;
-use crate::parts::library_fit::numbered;
 use crate::parts::segments::decoded;
 use modelardb_rattle::ErrorBound::{Absolute, Lossless, Relative};
 use modelardb_rattle::ffi::{Pair, StoredSegment};

@@ -1,9 +1,11 @@
 //! Segments written and read: every number of residuals, special values, any; with room to spare, with
 //! just enough, with one place too few.
 
-use super::{STALE, STALE_VALUE, STALE_WORD, Source, both, safe};
+use super::source::Source;
+use super::{both, safe};
 use crate::context::Context;
 use crate::inputs::{DOZEN, SPECIAL};
+use crate::lent::{STALE, STALE_VALUE, STALE_WORD};
 use crate::parts::macaque_v::short_lists;
 use modelardb_rattle::Segment;
 use modelardb_rattle::ffi::{SEGMENT_WORDS, StoredSegment};
@@ -54,7 +56,7 @@ fn special(context: &mut Context) {
 }
 
 fn every_way(context: &mut Context, source: &Source) {
-    let segment = source.written(context);
+    let segment = both::segment_of(context, source);
     safe::written(context, source, segment.as_ref());
     if let Some(segment) = segment {
         just_enough(context, source, &segment);

@@ -81,42 +81,28 @@ pub fn reopened(context: &mut Context, buffer: &[u8], at: At, row: &[u64]) -> Le
     (number, after, bytes)
 }
 
-/// Reads into `out`; the number and what is there afterwards.
-pub fn drawn(
-    context: &mut Context,
-    bytes: &[u8],
-    count: usize,
-    opening: Words,
-    out: &[u32],
-) -> (u32, Vec<u32>) {
-    let mut paper = out.to_vec();
-    let number = face::grid(bytes, count, opening, &mut paper);
-    let mut lent = Lent::new(out, VALUE_GUARD);
-    let mut stream = Lent::new(bytes, BYTE_GUARD);
-    let ours = ffi::macaque_v_grid(stream.lend(), count, opening, lent.lend());
-    let left = (ours, lent.content(), stream.content());
-    let expected = (number, Some(paper.clone()), Some(bytes.to_vec()));
-    let input = || format!("drawn {count} of {bytes:02X?} {opening:X?} into {out:X?}");
-    context.same("library", expected, left, input);
-    (number, paper)
-}
+/// Reading into an output.
+type Read = fn(&[u8], usize, Words, &mut [u32]) -> u32;
 
-/// Sums into `out`; the number and what is there afterwards.
-pub fn summed(
+/// The paper's and the library's.
+pub const GRID: [Read; 2] = [face::grid, ffi::macaque_v_grid];
+pub const SUM: [Read; 2] = [face::sum, ffi::macaque_v_sum];
+
+/// Reads into `out`; the number and what is there afterwards.
+pub fn read(
     context: &mut Context,
-    bytes: &[u8],
-    count: usize,
-    opening: Words,
+    [paper, library]: [Read; 2],
+    (bytes, count, opening): (&[u8], usize, Words),
     out: &[u32],
 ) -> (u32, Vec<u32>) {
-    let mut paper = out.to_vec();
-    let number = face::sum(bytes, count, opening, &mut paper);
+    let mut after = out.to_vec();
+    let number = paper(bytes, count, opening, &mut after);
     let mut lent = Lent::new(out, VALUE_GUARD);
     let mut stream = Lent::new(bytes, BYTE_GUARD);
-    let ours = ffi::macaque_v_sum(stream.lend(), count, opening, lent.lend());
+    let ours = library(stream.lend(), count, opening, lent.lend());
     let left = (ours, lent.content(), stream.content());
-    let expected = (number, Some(paper.clone()), Some(bytes.to_vec()));
-    let input = || format!("summed {count} of {bytes:02X?} {opening:X?} into {out:X?}");
+    let expected = (number, Some(after.clone()), Some(bytes.to_vec()));
+    let input = || format!("read {count} of {bytes:02X?} {opening:X?} into {out:X?}");
     context.same("library", expected, left, input);
-    (number, paper)
+    (number, after)
 }

@@ -1,12 +1,15 @@
 //! Every cause of refusal with every other, for the order in which they are judged, and rows and
 //! outputs too short, just long enough and longer.
 
+use super::Stream;
 use super::both::{self, At};
-use super::{STALE, STALE_VALUE, STALE_WORD, Stream};
 use crate::context::Context;
 use crate::face;
+use crate::inputs::ONE;
+use crate::lent::{STALE, STALE_VALUE, STALE_WORD};
 use crate::order::{BOUNDS, FEW_BOUNDS};
 use modelardb_rattle::ffi::STATE_WORDS;
+use oracle::paper::MOST_VALUES;
 use oracle::paper::macaque_v::Opening;
 use oracle::paper::models::ErrorBound;
 
@@ -14,8 +17,6 @@ const MODES: [u32; 4] = [0, 1, 2, u32::MAX];
 
 /// A row's lengths: none, one word less, just enough, and more.
 const ROWS: [usize; 4] = [0, STATE_WORDS - 1, STATE_WORDS, STATE_WORDS + 2];
-
-const ONE: u32 = 0x3F80_0000;
 
 pub fn causes(context: &mut Context) {
     of_new(context);
@@ -49,17 +50,30 @@ fn of_new(context: &mut Context) {
 /// Counts around the right one and around the limit.
 fn counts(count: usize) -> [usize; 7] {
     let less = count.saturating_sub(1);
-    [count, less, count + 1, 65_536, 65_537, 1 << 32, usize::MAX]
+    [
+        count,
+        less,
+        count + 1,
+        MOST_VALUES,
+        MOST_VALUES + 1,
+        1 << 32,
+        usize::MAX,
+    ]
 }
 
 fn of_reading(context: &mut Context, stream: &Stream, bytes: &[u8]) {
     for mode in MODES {
         let opening = (mode, stream.opening.1);
         for count in counts(stream.count()) {
-            for room in [0, stream.count(), stream.count() + 2, 65_536] {
+            for room in [0, stream.count(), stream.count() + 2, MOST_VALUES] {
                 let out = vec![STALE_VALUE; room];
-                both::drawn(context, bytes, count, opening, &out);
-                both::summed(context, bytes, count, opening, &out[..room.min(2)]);
+                both::read(context, both::GRID, (bytes, count, opening), &out);
+                both::read(
+                    context,
+                    both::SUM,
+                    (bytes, count, opening),
+                    &out[..room.min(2)],
+                );
             }
         }
     }
@@ -96,7 +110,13 @@ fn of_write(context: &mut Context) {
     let fresh = face::opening_words(Opening::WithFirst);
     for ((kind, bits), _) in BOUNDS {
         for length in ROWS {
-            for (place, written) in [(0, 0), (0, 1), (40, 3), (41, 65_536), (48, 65_537)] {
+            for (place, written) in [
+                (0, 0),
+                (0, 1),
+                (40, 3),
+                (41, MOST_VALUES as u64),
+                (48, MOST_VALUES as u64 + 1),
+            ] {
                 let mut row = vec![STALE_WORD; STATE_WORDS + 2];
                 both::opened(context, (0, 0), fresh, &row);
                 let words = [kind.into(), bits.into(), 0, 0, 0, 255, 0, 1, place, written];

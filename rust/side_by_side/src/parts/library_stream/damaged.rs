@@ -2,8 +2,9 @@
 //! drawn, summed and reopened; one that is accepted all the same is written on.
 
 use super::both::At;
-use super::{STALE, STALE_VALUE, STALE_WORD, Stream, both, room_for};
+use super::{Stream, both, room_for};
 use crate::context::Context;
+use crate::lent::{STALE, STALE_VALUE, STALE_WORD};
 use modelardb_rattle::ffi::STATE_WORDS;
 
 pub fn damaged(context: &mut Context) {
@@ -92,8 +93,13 @@ fn with_others(context: &mut Context, stream: &Stream) {
 /// Draws, sums and reopens what may be a stream.
 pub(super) fn used_as_it_is(context: &mut Context, bytes: &[u8], at: At) {
     let out = vec![STALE_VALUE; at.count];
-    both::drawn(context, bytes, at.count, at.opening, &out);
-    both::summed(context, bytes, at.count, at.opening, &[STALE_VALUE]);
+    both::read(context, both::GRID, (bytes, at.count, at.opening), &out);
+    both::read(
+        context,
+        both::SUM,
+        (bytes, at.count, at.opening),
+        &[STALE_VALUE],
+    );
     let k = context.inputs.below(at.count as u64 + 1) as usize;
     let buffer = [bytes, &[STALE; 3]].concat();
     let row = [STALE_WORD; STATE_WORDS];
@@ -110,7 +116,12 @@ fn written_on(context: &mut Context, row: &[u64], mut buffer: Vec<u8>, k: usize,
     let (_, row, buffer) = both::written(context, row, &values, &buffer);
     let used = row[8].div_ceil(8) as usize;
     let out = vec![STALE_VALUE; k + 2];
-    let (number, _) = both::drawn(context, &buffer[..used], k + 2, at.opening, &out);
+    let (number, _) = both::read(
+        context,
+        both::GRID,
+        (&buffer[..used], k + 2, at.opening),
+        &out,
+    );
     let input = || format!("written on at {k}: {at:X?} {buffer:02X?}");
     context.same("read back", 0, number, input);
 }

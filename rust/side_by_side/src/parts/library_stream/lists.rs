@@ -1,12 +1,14 @@
 //! Lists written and read: in one go and in pieces, with room to spare, with just enough, with one
 //! byte too few.
 
-use super::{STALE_VALUE, Stream, both, room_for};
+use super::{Stream, both, room_for};
 use crate::context::Context;
 use crate::face;
 use crate::inputs::DOZEN;
+use crate::lent::STALE_VALUE;
 use crate::parts::macaque_v::{self, BOUNDS};
 use modelardb_rattle as library;
+use oracle::paper::MOST_VALUES;
 use oracle::paper::macaque_v::Opening;
 use oracle::paper::models::ErrorBound::{self, Absolute, Lossless, Relative};
 use oracle::paper::refusal;
@@ -16,7 +18,20 @@ use oracle::rust;
 /// Around what is special: few values, a machine word's bits, the library's own array of 1,024 values,
 /// and the limit.
 const LENGTHS: [usize; 14] = [
-    0, 1, 2, 63, 64, 65, 1000, 1023, 1024, 1025, 2049, 65_535, 65_536, 65_537,
+    0,
+    1,
+    2,
+    63,
+    64,
+    65,
+    1000,
+    1023,
+    1024,
+    1025,
+    2049,
+    MOST_VALUES - 1,
+    MOST_VALUES,
+    MOST_VALUES + 1,
 ];
 
 /// Every list of up to four of the dozen special values.
@@ -74,8 +89,13 @@ fn written_and_read(
     let stream = Stream::new(context, bound, opening, values);
     let (bytes, count) = (&stream.bytes, values.len());
     let out = vec![STALE_VALUE; count + 1];
-    let (number, drawn) = both::drawn(context, bytes, count, stream.opening, &out);
-    let (_, sum) = both::summed(context, bytes, count, stream.opening, &[STALE_VALUE; 2]);
+    let (number, drawn) = both::read(context, both::GRID, (bytes, count, stream.opening), &out);
+    let (_, sum) = both::read(
+        context,
+        both::SUM,
+        (bytes, count, stream.opening),
+        &[STALE_VALUE; 2],
+    );
     if number == 0 {
         if bound == Lossless {
             let input = || format!("read back {opening:X?} {values:08X?}");

@@ -1,11 +1,10 @@
 //! Document 01's marked cases a to l through the compiled calls, held against the paper's own words.
 
-use super::{STALE, STALE_VALUE, both};
+use super::both;
 use crate::context::Context;
+use crate::inputs::{ONE, TWO};
+use crate::lent::{STALE, STALE_VALUE};
 use modelardb_rattle::ffi::{STATE_WORDS, Words};
-
-const ONE: u32 = 0x3F80_0000;
-const TWO: u32 = 0x4000_0000;
 
 const FIRST: Words = (0, 0);
 const ON_ONE: Words = (1, ONE);
@@ -60,7 +59,12 @@ fn written(context: &mut Context, letter: char, values: &[u32], bytes: &[u8]) {
 
 /// The case is drawn, summed and reopened at its end as the paper says.
 fn read(context: &mut Context, (letter, bytes, count, answer): Case, opening: Words) {
-    let (number, values) = both::drawn(context, bytes, count, opening, &vec![STALE_VALUE; count]);
+    let (number, values) = both::read(
+        context,
+        both::GRID,
+        (bytes, count, opening),
+        &vec![STALE_VALUE; count],
+    );
     let drawn = if number == 0 {
         Ok(&values[..])
     } else {
@@ -68,7 +72,7 @@ fn read(context: &mut Context, (letter, bytes, count, answer): Case, opening: Wo
     };
     let input = || format!("marked case {letter}");
     context.same("library", answer, drawn, input);
-    let (sum, _) = both::summed(context, bytes, count, opening, &[STALE_VALUE]);
+    let (sum, _) = both::read(context, both::SUM, (bytes, count, opening), &[STALE_VALUE]);
     let at = both::At {
         used: bytes.len(),
         count,

@@ -22,17 +22,11 @@ pub use states::states;
 
 use crate::context::Context;
 use crate::face;
+use crate::lent::{STALE, STALE_WORD};
 use both::At;
 use modelardb_rattle::ffi::{STATE_WORDS, Words};
 use oracle::paper::macaque_v::Opening;
 use oracle::paper::models::ErrorBound;
-
-/// What a buffer holds before a call.
-const STALE: u8 = 0x5A;
-
-/// What a row or an output holds before a call.
-const STALE_WORD: u64 = 0x5A5A;
-const STALE_VALUE: u32 = 0x5A5A;
 
 /// How many bytes any such values fit in: none takes more than 45 bits.
 fn room_for(count: usize) -> usize {

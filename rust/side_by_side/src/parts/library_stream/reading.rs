@@ -1,11 +1,15 @@
 //! The reader: streams read value by value, whole, damaged and with any bits in its row.
 
 use super::states::WORDS;
-use super::{STALE_VALUE, STALE_WORD, Stream, both};
+use super::{Stream, both};
 use crate::context::Context;
 use crate::face;
-use crate::lent::{BYTE_GUARD, Lent, VALUE_GUARD, WORD_GUARD, compared, to_read};
+use crate::inputs::ONE;
+use crate::lent::{
+    BYTE_GUARD, Lent, STALE_VALUE, STALE_WORD, VALUE_GUARD, WORD_GUARD, compared, to_read,
+};
 use modelardb_rattle::ffi::{self, READER_WORDS, Words};
+use oracle::paper::MOST_VALUES;
 
 pub fn reading(context: &mut Context) {
     for mode in 0..4 {
@@ -41,7 +45,12 @@ fn read_through(context: &mut Context, bytes: &[u8], count: usize, opening: Word
     for read in 0..=count {
         let end = ended(context, bytes, &row);
         last(context, bytes, read, opening, &[STALE_VALUE]);
-        let (drawn, all) = both::drawn(context, bytes, read, opening, &vec![STALE_VALUE; read]);
+        let (drawn, all) = both::read(
+            context,
+            both::GRID,
+            (bytes, read, opening),
+            &vec![STALE_VALUE; read],
+        );
         let input = || format!("read {read} of {bytes:02X?} {opening:X?}");
         context.same("grid", drawn, end, input);
         if end == 0 {
@@ -49,7 +58,12 @@ fn read_through(context: &mut Context, bytes: &[u8], count: usize, opening: Word
         }
         let (number, after, out) = next(context, bytes, &row, &[STALE_VALUE]);
         if number != 0 {
-            let (drawn, _) = both::drawn(context, bytes, read + 1, opening, &vec![0; read + 1]);
+            let (drawn, _) = both::read(
+                context,
+                both::GRID,
+                (bytes, read + 1, opening),
+                &vec![0; read + 1],
+            );
             context.same("grid", drawn, number, input);
             break;
         }
@@ -57,18 +71,19 @@ fn read_through(context: &mut Context, bytes: &[u8], count: usize, opening: Word
         row = after;
     }
     last(context, bytes, count, opening, &[]);
-    last(context, bytes, 65_537, opening, &[STALE_VALUE; 2]);
+    last(context, bytes, MOST_VALUES + 1, opening, &[STALE_VALUE; 2]);
     last(context, bytes, count, (2, 0), &[STALE_VALUE]);
 }
 
 /// A stream of 65,536 repeats: a next behind them is 3, and an end is not.
 fn most_values(context: &mut Context) {
-    let stream = vec![0b1010_1010; 16_384];
-    let row = [0x3F80_0000, 255, 0, 0, 131_070, 65_535];
+    let stream = vec![0b1010_1010; MOST_VALUES / 4];
+    let read = MOST_VALUES as u64 - 1;
+    let row = [ONE.into(), 255, 0, 0, 2 * read, read];
     let (_, row, _) = next(context, &stream, &row, &[STALE_VALUE]);
     ended(context, &stream, &row);
     next(context, &stream, &row, &[STALE_VALUE]);
-    last(context, &stream, 65_536, (1, 0x3F80_0000), &[STALE_VALUE]);
+    last(context, &stream, MOST_VALUES, (1, ONE), &[STALE_VALUE]);
 }
 
 fn opened(context: &mut Context, opening: Words, row: &[u64]) -> (u32, Vec<u64>) {

@@ -5,6 +5,7 @@
 use super::Stream;
 use super::damaged::{cut, flipped, used_as_it_is};
 use crate::context::Context;
+use oracle::paper::MOST_VALUES;
 use oracle::paper::macaque_v::Opening;
 use oracle::paper::models::ErrorBound::{Absolute, Lossless};
 
@@ -37,7 +38,7 @@ pub fn repeats(context: &mut Context) {
             }
         }
     }
-    for count in [1_000, 1_024, 1_025, 1_052, 2_048, 65_536] {
+    for count in [1_000, 1_024, 1_025, 1_052, 2_048, MOST_VALUES] {
         let values = vec![0x41A0_0000; count];
         let stream = Stream::new(context, Lossless, Opening::WithFirst, &values);
         used_as_it_is(context, &stream.bytes, stream.at(0));

@@ -1,8 +1,10 @@
 //! Streams reopened at every value and written on: the bytes and the state of one fresh run.
 
-use super::{STALE, STALE_WORD, Stream, both};
+use super::{Stream, both};
 use crate::context::Context;
+use crate::lent::{STALE, STALE_WORD};
 use modelardb_rattle::ffi::STATE_WORDS;
+use oracle::paper::MOST_VALUES;
 
 pub fn resumed(context: &mut Context) {
     for _ in 0..context.rounds(1_500) {
@@ -15,7 +17,7 @@ pub fn resumed(context: &mut Context) {
         let stream = Stream::any(context, count);
         at_every_value(context, &stream);
     }
-    for count in [2_100, 65_536] {
+    for count in [2_100, MOST_VALUES] {
         let stream = Stream::any(context, count);
         for k in [
             0,

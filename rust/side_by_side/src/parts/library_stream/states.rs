@@ -1,9 +1,11 @@
 //! Handed-in states: any bits in each of the ten words, alone and together, with buffers around the
 //! place that the state names.
 
-use super::{STALE, Stream, both};
+use super::{Stream, both};
 use crate::context::Context;
+use crate::lent::STALE;
 use modelardb_rattle::ffi::STATE_WORDS;
+use oracle::paper::MOST_VALUES;
 
 /// Ends of ranges, limits, and words too large for what they stand for.
 pub const WORDS: [u64; 28] = [
@@ -21,9 +23,9 @@ pub const WORDS: [u64; 28] = [
     254,
     255,
     256,
-    65_535,
-    65_536,
-    65_537,
+    MOST_VALUES as u64 - 1,
+    MOST_VALUES as u64,
+    MOST_VALUES as u64 + 1,
     0x3F80_0000,
     0x7FC0_0000,
     0x7FFF_FFFF,

@@ -1,13 +1,13 @@
 //! Fitting, the choice, and lines.
 
-use super::{Example, NAN, ONE, Said, left, said};
+use super::example::{Example, Said, left, said};
+use crate::inputs::{NAN, ONE};
 use modelardb_rattle::ErrorBound::{self, Absolute, Lossless};
 use modelardb_rattle::ffi::{
     self, MODEL_BUILDER_WORDS, PMC_MEAN_WORDS, SELECTED_MODEL_WORDS, SWING_WORDS,
 };
 use modelardb_rattle::{Line, ModelBuilder, PMCMean, Swing, choose_model, swing};
-
-const LATEST: i64 = 1 << 52;
+use oracle::paper::{MOST_VALUES, TIME_LIMIT};
 
 pub const EXAMPLES: &[Example] = &[
     (
@@ -17,7 +17,7 @@ pub const EXAMPLES: &[Example] = &[
     ),
     (
         "PMC-Mean: value number 65,537 is refused, 3",
-        || average(&[1.0; 65_537]),
+        || average(&[1.0; MOST_VALUES + 1]),
         Err(3),
     ),
     (
@@ -37,7 +37,7 @@ pub const EXAMPLES: &[Example] = &[
     ),
     (
         "Swing: a second point at 2^52 + 1: 10",
-        || line_of(Lossless, &[(0, 1.0), (LATEST + 1, 1.0)]),
+        || line_of(Lossless, &[(0, 1.0), (TIME_LIMIT + 1, 1.0)]),
         Err(10),
     ),
     (
@@ -49,7 +49,7 @@ pub const EXAMPLES: &[Example] = &[
         "a Swing state of length 1 must keep the time limits too: 2",
         || {
             let (mut row, mut out) = ([0; SWING_WORDS], [0; 2]);
-            row[2..4].fill(LATEST as u64 + 1);
+            row[2..4].fill(TIME_LIMIT as u64 + 1);
             row[11] = 1;
             left(ffi::swing_model(&row, &mut out), vec![])
         },
@@ -73,7 +73,7 @@ pub const EXAMPLES: &[Example] = &[
     ),
     (
         "65,537 timestamps and one value: 12",
-        || chosen(&Vec::from_iter(0..65_537), &[1.0], Lossless),
+        || chosen(&Vec::from_iter(0..=MOST_VALUES as i64), &[1.0], Lossless),
         Err(12),
     ),
     (
@@ -83,7 +83,7 @@ pub const EXAMPLES: &[Example] = &[
     ),
     (
         "both models failed: the timestamp's own limits are judged: 10",
-        || after_failing(LATEST + 1),
+        || after_failing(TIME_LIMIT + 1),
         Err(10),
     ),
     (
@@ -116,7 +116,7 @@ pub const EXAMPLES: &[Example] = &[
     ),
     (
         "start and end of a Swing grid keep the limits: 10",
-        || drawn((-LATEST - 1, 10), (1.0, 2.0), &[]),
+        || drawn((-TIME_LIMIT - 1, 10), (1.0, 2.0), &[]),
         Err(10),
     ),
     (

@@ -1,6 +1,7 @@
 //! Parameter bytes and segments.
 
-use super::{Example, ONE, Said, TWO, left, said};
+use super::example::{Example, Said, left, said};
+use crate::inputs::{ONE, TWO};
 use modelardb_rattle::ErrorBound::Lossless;
 use modelardb_rattle::Model::{PMCMean, Swing};
 use modelardb_rattle::ffi::{self, SEGMENT_WORDS, Words};

@@ -1,11 +1,13 @@
 //! Streams of MacaqueV, and the bounds of what they keep.
 
-use super::{Example, NAN, ONE, Said, TWO, left, said};
+use super::example::{Example, Said, left, said};
+use crate::inputs::{NAN, ONE, TWO};
 use modelardb_rattle::ErrorBound::{self, Absolute, Lossless, Relative};
 use modelardb_rattle::ffi::{self, STATE_WORDS};
 use modelardb_rattle::{
     MacaqueV, Opening, is_value_within_error_bound, macaque_v, maximum_allowed_deviation_bits,
 };
+use oracle::paper::MOST_VALUES;
 
 const ON_ONE: Opening = Opening::On(1.0);
 
@@ -142,7 +144,7 @@ pub const EXAMPLES: &[Example] = &[
     ),
     (
         "n above 65,536 is 3",
-        || reopened(&[0x80], (65_537, 0), ON_ONE),
+        || reopened(&[0x80], (MOST_VALUES + 1, 0), ON_ONE),
         Err(3),
     ),
     (

@@ -1,17 +1,14 @@
 //! Calls on lists and lines.
 
 use super::super::both::{self, GRID, SUM_OVER};
-use super::super::{STALE_VALUE, STALE_WORD};
-use super::sizes;
+use super::super::metadata;
 use crate::context::Context;
+use crate::inputs::{INFINITY, NAN, ONE, TWO};
+use crate::lent::{STALE_VALUE, STALE_WORD};
 use crate::order::{FEW_BOUNDS, in_order, rooms};
 use modelardb_rattle::ffi::{Ends, SELECTED_MODEL_WORDS};
 use oracle::paper::refusal::{COUNTS, LIMIT, NO_MODEL, OUTPUT, TIMES};
-
-const ONE: u32 = 0x3F80_0000;
-const NAN: u32 = 0x7FC0_0000;
-const INFINITY: u32 = 0x7F80_0000;
-const LATEST: i64 = 1 << 52;
+use oracle::paper::{MOST_VALUES, TIME_LIMIT};
 
 /// How many times and values are handed in.
 const LENGTHS: [(usize, usize); 9] = [
@@ -21,9 +18,9 @@ const LENGTHS: [(usize, usize); 9] = [
     (3, 3),
     (3, 4),
     (4, 3),
-    (65_537, 65_537),
-    (65_537, 3),
-    (3, 65_537),
+    (MOST_VALUES + 1, MOST_VALUES + 1),
+    (MOST_VALUES + 1, 3),
+    (3, MOST_VALUES + 1),
 ];
 
 /// The whole rule: the last of the times is in order, equal to the one before, or beyond the limit. Both
@@ -31,21 +28,21 @@ const LENGTHS: [(usize, usize); 9] = [
 pub fn choices(context: &mut Context) {
     for (times, values) in LENGTHS {
         let of_lengths = [
-            if values > 65_536 { LIMIT } else { 0 },
+            if values > MOST_VALUES { LIMIT } else { 0 },
             if times != values { COUNTS } else { 0 },
             if times == 0 { NO_MODEL } else { 0 },
         ];
         let list: Vec<u32> = (0..values)
             .map(|at| if at == 1 { NAN } else { ONE })
             .collect();
-        for last in [None, Some(times as i64 - 2), Some(LATEST + 1)] {
+        for last in [None, Some(times as i64 - 2), Some(TIME_LIMIT + 1)] {
             let mut at: Vec<i64> = (0..times as i64).collect();
             let mut of_times = 0;
             if let (Some(time), Some(place)) = (last, at.last_mut()) {
                 (*place, of_times) = (time, TIMES);
             }
             for (bound, of_bound) in FEW_BOUNDS {
-                for (m, of_size) in sizes().into_iter().step_by(3) {
+                for (m, of_size) in metadata::judged().into_iter().step_by(3) {
                     for (room, short) in rooms(SELECTED_MODEL_WORDS) {
                         let out = vec![STALE_WORD; room];
                         let (number, _) = both::choose(context, (&at, &list), (bound, m), &out);
@@ -65,16 +62,16 @@ pub fn choices(context: &mut Context) {
 /// Times of a line's ends, and the cause.
 const END_TIMES: [((i64, i64), u32); 6] = [
     ((0, 10), 0),
-    ((-LATEST, LATEST), 0),
+    ((-TIME_LIMIT, TIME_LIMIT), 0),
     ((10, 10), TIMES),
     ((10, 0), TIMES),
-    ((-LATEST - 1, 10), TIMES),
-    ((0, LATEST + 1), TIMES),
+    ((-TIME_LIMIT - 1, 10), TIMES),
+    ((0, TIME_LIMIT + 1), TIMES),
 ];
 
 /// Values of a line's ends, and the cause.
 const END_VALUES: [((u32, u32), u32); 7] = [
-    ((ONE, 0x4000_0000), 0),
+    ((ONE, TWO), 0),
     ((0, 0x8000_0000), 0),
     ((NAN, 0xFFC1_2345), 0),
     ((INFINITY, INFINITY), 0),
@@ -85,13 +82,13 @@ const END_VALUES: [((u32, u32), u32); 7] = [
 
 /// Sums and grids of lines.
 pub fn lines(context: &mut Context) {
-    let many: Vec<i64> = (0..65_537).collect();
+    let many: Vec<i64> = (0..=MOST_VALUES as i64).collect();
     let lists: [(&[i64], u32); 9] = [
         (&[], 0),
         (&[5], 0),
-        (&[-LATEST, 0, LATEST], 0),
-        (&[-LATEST - 1, 0], TIMES),
-        (&[0, 1, LATEST + 1], TIMES),
+        (&[-TIME_LIMIT, 0, TIME_LIMIT], 0),
+        (&[-TIME_LIMIT - 1, 0], TIMES),
+        (&[0, 1, TIME_LIMIT + 1], TIMES),
         (&[0, 1, 1], TIMES),
         (&[1, 0], TIMES),
         (&many[1..], 0),
@@ -106,8 +103,8 @@ pub fn lines(context: &mut Context) {
             for (count, over) in [
                 (0, 0),
                 (3, 0),
-                (65_536, 0),
-                (65_537, LIMIT),
+                (MOST_VALUES, 0),
+                (MOST_VALUES + 1, LIMIT),
                 (usize::MAX, LIMIT),
             ] {
                 for (room, short) in [(0, OUTPUT), (1, 0), (2, 0)] {

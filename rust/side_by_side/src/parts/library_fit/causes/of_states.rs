@@ -1,15 +1,17 @@
 //! Calls on a state.
 
 use super::super::kinds::{BUILDER, Kind, PMC_MEAN, SWING};
-use super::super::{STALE_VALUE, STALE_WORD, both};
-use super::sizes;
+use super::super::{both, metadata};
 use crate::context::Context;
+use crate::inputs::ONE;
+use crate::lent::{STALE_VALUE, STALE_WORD};
 use crate::order::{BOUNDS, FEW_BOUNDS, in_order, rooms};
 use modelardb_rattle::ffi::Words;
 use oracle::paper::refusal::{LIMIT, NO_MODEL, OUTPUT, STATE, TIMES};
+use oracle::paper::{MOST_VALUES, TIME_LIMIT};
 
-const ONE: u32 = 0x3F80_0000;
-const LATEST: i64 = 1 << 52;
+/// The greatest length.
+const MOST: u64 = MOST_VALUES as u64;
 
 /// A state's length and times, and the cause that they bring to any call of Swing.
 #[derive(Clone, Copy, Debug)]
@@ -35,26 +37,26 @@ const STATES: [State; 14] = [
     state(0, i64::MIN, i64::MAX, 0),
     state(1, 5, 5, 0),
     state(1, 5, 6, STATE),
-    state(1, LATEST + 1, LATEST + 1, STATE),
-    state(2, -LATEST, 6, 0),
+    state(1, TIME_LIMIT + 1, TIME_LIMIT + 1, STATE),
+    state(2, -TIME_LIMIT, 6, 0),
     state(2, 5, 5, STATE),
     state(2, 6, 5, STATE),
-    state(2, -LATEST - 1, 6, STATE),
-    state(2, 5, LATEST + 1, STATE),
-    state(65_535, 5, 6, 0),
-    state(65_536, 5, 6, 0),
-    state(65_537, 5, 6, STATE),
+    state(2, -TIME_LIMIT - 1, 6, STATE),
+    state(2, 5, TIME_LIMIT + 1, STATE),
+    state(MOST - 1, 5, 6, 0),
+    state(MOST, 5, 6, 0),
+    state(MOST + 1, 5, 6, STATE),
     state(u64::MAX, 5, 6, STATE),
 ];
 
 impl State {
     /// The cause of PMC-Mean's state of that length.
     fn cause_of_length(self) -> u32 {
-        if self.length > 65_536 { STATE } else { 0 }
+        if self.length > MOST { STATE } else { 0 }
     }
 
     fn if_full(self) -> u32 {
-        if self.length == 65_536 { LIMIT } else { 0 }
+        if self.length == MOST { LIMIT } else { 0 }
     }
 
     fn if_empty(self) -> u32 {
@@ -81,11 +83,19 @@ impl State {
 }
 
 /// Times within the limits and beyond them.
-const TIMES_GIVEN: [i64; 7] = [i64::MIN, -LATEST - 1, 5, 6, 7, LATEST, LATEST + 1];
+const TIMES_GIVEN: [i64; 7] = [
+    i64::MIN,
+    -TIME_LIMIT - 1,
+    5,
+    6,
+    7,
+    TIME_LIMIT,
+    TIME_LIMIT + 1,
+];
 
 /// The cause that a time brings to any step.
 fn of_time(time: i64) -> u32 {
-    if (-LATEST..=LATEST).contains(&time) {
+    if (-TIME_LIMIT..=TIME_LIMIT).contains(&time) {
         0
     } else {
         TIMES
@@ -139,7 +149,7 @@ pub fn asks(context: &mut Context) {
 
 fn ask(context: &mut Context, kind: &Kind, row: Vec<u64>, causes: &[u32]) {
     for (at, ask) in kind.asks.iter().enumerate() {
-        for (m, over) in sizes() {
+        for (m, over) in metadata::judged() {
             // Only the cost looks at M.
             let over = if at == 0 { over } else { 0 };
             for (room, short_out) in rooms(ask.words) {
@@ -197,7 +207,7 @@ fn builder(
     row[19] = other_flag;
     // A word that is no flag makes no model a failed one.
     let all_live = flag > 1 || other_flag > 1;
-    for time in [-LATEST - 1, 6, 7] {
+    for time in [-TIME_LIMIT - 1, 6, 7] {
         let of_length = pmc_mean.cause_of_length();
         let [mut step, mut choice] = causes_of(
             flag,
@@ -217,8 +227,8 @@ fn builder(
         let (number, _) = both::step(context, &BUILDER, &row, (time, ONE));
         let input = || format!("builder {row:X?} at {time}");
         in_order(context, &step, number, input);
-        let m = if time == 6 { 65_536 } else { 12 };
-        choice.push(if m > 65_535 { LIMIT } else { 0 });
+        let m = if time == 6 { metadata::MOST + 1 } else { 12 };
+        choice.push(if m > metadata::MOST { LIMIT } else { 0 });
         for (room, short) in [(4, OUTPUT), (5, 0), (6, 0)] {
             let (number, _) = both::finish(context, &row, m, &vec![STALE_WORD; room]);
             let causes = [&choice[..], &[short]].concat();

@@ -1,15 +1,15 @@
 //! Calls that read a segment.
 
-use super::super::{STALE_VALUE, both};
-use super::{FORMS, MODELS};
+use super::super::both;
+use super::of_parts::{FORMS, MODELS};
 use crate::context::Context;
+use crate::lent::STALE_VALUE;
 use crate::order::in_order;
 use modelardb_rattle::ffi::StoredSegment;
 use oracle::paper::refusal::{
     COUNTS, ENDS_EARLY, FORM, LEFTOVER, LIMIT, NO_WINDOW, OUTPUT, TIMES, WINDOW,
 };
-
-const LATEST: i64 = 1 << 52;
+use oracle::paper::{MOST_VALUES, TIME_LIMIT};
 
 /// Residual bytes, how many residuals they count, and the cause. Streams are those of the paper's marked
 /// cases: their refusals do not depend on the opening value.
@@ -32,12 +32,12 @@ const RESIDUALS: [(&[u8], usize, u32); 15] = [
 ];
 
 pub fn causes(context: &mut Context) {
-    let many: Vec<i64> = (0..65_537).collect();
+    let many: Vec<i64> = (0..=MOST_VALUES as i64).collect();
     for (at, (residuals, count, of_stream)) in RESIDUALS.into_iter().enumerate() {
         let mut lists = lists(count);
         // The long ones with some of the streams only.
         if at % 5 == 0 {
-            lists.extend([65_536, 65_537].map(|total| (many[..total].to_vec(), 0)));
+            lists.extend([MOST_VALUES, MOST_VALUES + 1].map(|total| (many[..total].to_vec(), 0)));
         }
         for (values, extremes, of_form) in FORMS {
             for (model, of_model) in MODELS {
@@ -69,15 +69,15 @@ fn lists(count: usize) -> Vec<(Vec<i64>, u32)> {
 /// limit; with the last two equal, or falling.
 fn lists_of(total: usize) -> Vec<(Vec<i64>, u32)> {
     let from = |start: i64| -> Vec<i64> { (start..start + total as i64).collect() };
-    let (times, mut lists) = (from(0), vec![(from(0), 0), (from(-LATEST), 0)]);
+    let (times, mut lists) = (from(0), vec![(from(0), 0), (from(-TIME_LIMIT), 0)]);
     let mut with = |at: usize, time| {
         let mut times = times.clone();
         times[at] = time;
         lists.push((times, TIMES));
     };
     if total > 0 {
-        with(0, -LATEST - 1);
-        with(total - 1, LATEST + 1);
+        with(0, -TIME_LIMIT - 1);
+        with(total - 1, TIME_LIMIT + 1);
         with(total - 1, i64::MIN);
     }
     if total > 1 {
@@ -98,7 +98,7 @@ fn of_segment(
     let total = times.len();
     let is_no_line = segment.model == 1 && total == count + 1;
     let own = [
-        if total > 65_536 { LIMIT } else { 0 },
+        if total > MOST_VALUES { LIMIT } else { 0 },
         if total <= count { COUNTS } else { 0 },
         if is_no_line { TIMES } else { 0 },
     ];
