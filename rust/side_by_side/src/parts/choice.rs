@@ -92,7 +92,7 @@ pub fn choose(context: &mut Context, builder: ModelBuilder, m: u32) {
         let theirs = with_canonical_extremes((rust.choose)(builder, m));
         let (first, last) = (rust.swing_model)(builder.swing);
         let runs_off = theirs.id == SWING_ID && is_finite(first) && !is_finite(last);
-        // Listed: which of two zeros is the minimum, also of a line's two ends.
+        // Listed: which of two zeros is the minimum. All else of the choice is held to be the same.
         let ends_at_zero = theirs.id == SWING_ID && f32::from_bits(last) == 0.0;
         let is_zero = !rust.is_filled() && (zero(builder) || ends_at_zero);
         // Listed: a line that runs off to no finite value is chosen there; here PMC's model is.
@@ -100,8 +100,13 @@ pub fn choose(context: &mut Context, builder: ModelBuilder, m: u32) {
             let of_pmc_mean = as_chosen(pmc_mean_model(rust, builder, m));
             context.same("PMC's model", as_chosen(paper), of_pmc_mean, input);
         }
-        let is_listed = runs_off || is_zero;
-        context.same_or(is_listed, rust.name, as_chosen(paper), theirs, input);
+        let paper = as_chosen(paper);
+        if is_zero && !runs_off {
+            let alike = without_zero_signs(&paper) == without_zero_signs(&theirs);
+            context.same_or(alike, rust.name, paper, theirs, input);
+        } else {
+            context.same_or(runs_off, rust.name, paper, theirs, input);
+        }
     }
 }
 
@@ -143,6 +148,19 @@ fn with_canonical_extremes(chosen: Chosen) -> Chosen {
             max_value: canonical(chosen.extremes.max_value),
         },
         ..chosen
+    }
+}
+
+/// The same with +0 for each zero.
+fn without_zero_signs(chosen: &Chosen) -> Chosen {
+    let plus = |bits: u32| if bits << 1 == 0 { 0 } else { bits };
+    Chosen {
+        last_value: plus(chosen.last_value),
+        extremes: Extremes {
+            min_value: plus(chosen.extremes.min_value),
+            max_value: plus(chosen.extremes.max_value),
+        },
+        ..chosen.clone()
     }
 }
 
