@@ -2,3 +2,4 @@
 pub mod Promises
 pub mod Putting
 pub mod Finding
+pub mod Causes

@@ -1,12 +1,12 @@
 -- What the answers of this crate say, each map with the law that it tells its results apart; and what the two public calls answer.
 use mathlib.Core.Path.{_≡_, refl, ap}
-use mathlib.Core.Bool.{Bool, not}
-use mathlib.Core.List.{[], _∷_}
+use mathlib.Core.Bool.{Bool}
 use Prim.Native.Nat.{ℕ}
 use lib.Ieee.{Float, binary32, ofBits}
-use Rattle.models.specs.Answers.{Said, Done, answered, refused, _when_, judged, Injective, told-apart}
+use Rattle.models.specs.Answers.{Said, Done, answered, refused, judged, Injective, told-apart}
 use Rattle.models.specs.Refusals.{numbered-number, unsaid, faultOf}
-use Rattle.models.specs.Bound.{boundAllowed, within, deviation}
+use Rattle.models.specs.Bound.{within, deviation}
+use Rattle.models.specs.Causes.{boundCauses}
 use Rattle.models.specs.declared.ErrorBound.{ErrorBound}
 use Rattle.models.specs.declared.Verdict.{Verdict}
 use Rattle.models.specs.declared.Verdict.the-variants as OfVerdict
@@ -62,7 +62,7 @@ saysWithin (OfWithin.Refused r) = refused (faultOf r)
 
 unfoldable pub withinAnswer : ErrorBound → ℕ → ℕ → Said Bool
 withinAnswer b real approximate =
-    judged (1 when not (boundAllowed b) ∷ []) (within b (ofBits binary32 real) (ofBits binary32 approximate))
+    judged (boundCauses b) (within b (ofBits binary32 real) (ofBits binary32 approximate))
 
 within-told : (r : WithinAnswer) → unsaid OfWithin.Answered OfWithin.Refused (saysWithin r) ≡ r
 within-told (OfWithin.Answered is) = refl
@@ -77,7 +77,7 @@ saysDeviation (OfDeviation.Answered d) = answered d
 saysDeviation (OfDeviation.Refused r) = refused (faultOf r)
 
 unfoldable pub deviationAnswer : ErrorBound → Float → Said Float
-deviationAnswer b value = judged (1 when not (boundAllowed b) ∷ []) (deviation b value)
+deviationAnswer b value = judged (boundCauses b) (deviation b value)
 
 deviation-told : (r : DeviationAnswer) → unsaid OfDeviation.Answered OfDeviation.Refused (saysDeviation r) ≡ r
 deviation-told (OfDeviation.Answered d) = refl

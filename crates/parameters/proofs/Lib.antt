@@ -2,3 +2,4 @@
 pub mod Bytes
 pub mod Read
 pub mod ReadBack
+pub mod Causes

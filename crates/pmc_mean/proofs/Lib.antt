@@ -2,3 +2,4 @@
 pub mod Stores
 pub mod Runs
 pub mod First
+pub mod Causes

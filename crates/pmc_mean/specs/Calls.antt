@@ -1,12 +1,10 @@
 -- What the calls on a state say and answer: for each, its causes of refusal in 01's order, the answer, and the law that its results are told apart.
 use mathlib.Core.Path.{_≡_, refl, ap}
-use mathlib.Core.Bool.{not}
-use mathlib.Core.List.{List, [], _∷_}
+use mathlib.Core.List.{List, []}
 use Prim.Native.Nat.{ℕ}
 use lib.Ieee.{Float, binary32, ofBits, toBits}
-use Rattle.models.specs.Answers.{Said, answered, refused, SaidOn, answeredOn, refusedOn, Stepped, fitting, failing, Cause, _when_, judged, judgedOn, Injective, told-apart}
+use Rattle.models.specs.Answers.{Said, answered, refused, SaidOn, answeredOn, refusedOn, Stepped, fitting, failing, Cause, judged, judgedOn, Injective, told-apart}
 use Rattle.models.specs.Refusals.{numbered-number, unsaid, unsaidOn, unsaidStep, faultOf}
-use Rattle.models.specs.Bound.{boundAllowed}
 use Rattle.models.specs.Limits.{cost}
 use Rattle.models.specs.Causes as Shared
 use Rattle.models.specs.declared.ErrorBound.{ErrorBound}
@@ -27,7 +25,7 @@ saysNew (OfNew.Answered s) = answered s
 saysNew (OfNew.Refused r) = refused (faultOf r)
 
 unfoldable pub newAnswer : ErrorBound → Said PMCMean
-newAnswer b = judged (1 when not (boundAllowed b) ∷ []) (fresh b)
+newAnswer b = judged (Shared.boundCauses b) (fresh b)
 
 new-told : (r : NewAnswer) → unsaid OfNew.Answered OfNew.Refused (saysNew r) ≡ r
 new-told (OfNew.Answered s) = refl

@@ -9,11 +9,12 @@ use lib.Ieee.{binary32, ofBits, toBits}
 use Rattle.models.specs.Answers.{Said, Cause, _when_, judged, judgedMemory}
 use Rattle.models.specs.Floats.{plainBits}
 use Rattle.models.specs.Limits.{mostValues}
+use Rattle.models.specs.Causes.{countCauses}
 
 -- ---- sum: "length × value in f32"
 unfoldable pub sumAnswer : ℕ → ℕ → Said ℕ
 sumAnswer count value =
-    judged (3 when ltb mostValues count ∷ [])
+    judged (countCauses count)
     (toBits binary32 (Ieee.mul binary32 (Ieee.ofInt binary32 (pos count)) (ofBits binary32 value)))
 
 -- ---- grid: the value in the first `count` places of an output that has `room`; the others keep what they held

@@ -4,3 +4,4 @@ pub mod Written
 pub mod Owned
 pub mod Counted
 pub mod Placed
+pub mod Causes

@@ -21,7 +21,8 @@ use Rattle.stream.proofs.CodeWords.{values-long}
 use Rattle.stream.proofs.Writing.{place-after, count-after, length-kept}
 use Rattle.coding.specs.Keep.{keepRule}
 use Rattle.macaque_v.specs.State.{gatherMinMax, streamIn, stateOf, writerOf, opened}
-use Rattle.macaque_v.specs.Write.{boundCauses, coderBy}
+use Rattle.models.specs.Causes.{boundCauses}
+use Rattle.macaque_v.specs.Write.{coderBy}
 use Rattle.macaque_v.specs.inner.Write.{writtenBy}
 use Rattle.macaque_v.specs.Calls.{newAnswer, writeAnswer, writeMemory}
 use Rattle.macaque_v.specs.declared.MacaqueV.{MacaqueV}

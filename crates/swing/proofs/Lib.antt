@@ -5,3 +5,4 @@ pub mod Order
 pub mod Apart
 pub mod Slopes
 pub mod Points
+pub mod Causes

@@ -7,7 +7,6 @@ use lib.IntN.{ℤ}
 use lib.Ieee.{Float}
 use Rattle.models.specs.Answers.{Said, answered, refused, SaidOn, answeredOn, refusedOn, Stepped, fitting, failing, Cause, _when_, judged, judgedOn, Injective, told-apart}
 use Rattle.models.specs.Refusals.{numbered-number, unsaid, unsaidOn, unsaidStep, faultOf}
-use Rattle.models.specs.Bound.{boundAllowed}
 use Rattle.models.specs.Limits.{cost}
 use Rattle.models.specs.Causes as Shared
 use Rattle.models.specs.declared.ErrorBound.{ErrorBound}
@@ -31,7 +30,7 @@ saysNew (OfNew.Answered s) = answered s
 saysNew (OfNew.Refused r) = refused (faultOf r)
 
 unfoldable pub newAnswer : ErrorBound → Said Swing
-newAnswer b = judged (1 when not (boundAllowed b) ∷ []) (fresh b)
+newAnswer b = judged (Shared.boundCauses b) (fresh b)
 
 new-told : (r : NewAnswer) → unsaid OfNew.Answered OfNew.Refused (saysNew r) ≡ r
 new-told (OfNew.Answered s) = refl

@@ -6,3 +6,4 @@ pub mod Costs
 pub mod Chosen
 pub mod Accepted
 pub mod Steps
+pub mod Causes

@@ -9,6 +9,7 @@ use Rattle.models.specs.Answers.{Said, answered, refused, SaidOn, answeredOn, r
 use Rattle.models.specs.Refusals.{numbered-number, unsaid, unsaidOn, unsaidStep, faultOf}
 use Rattle.models.specs.Bound.{boundAllowed}
 use Rattle.models.specs.Limits.{metadataAllowed}
+use Rattle.models.specs.Causes.{boundCauses}
 use Rattle.models.specs.declared.ErrorBound.{ErrorBound}
 use Rattle.lines.specs.Line.{pointOf}
 use Rattle.pmc_mean.specs.State as Pmc
@@ -30,7 +31,7 @@ saysNew (OfNew.Answered b) = answered b
 saysNew (OfNew.Refused r) = refused (faultOf r)
 
 unfoldable pub newAnswer : ErrorBound → Said ModelBuilder
-newAnswer b = judged (1 when not (boundAllowed b) ∷ []) (fresh b)
+newAnswer b = judged (boundCauses b) (fresh b)
 
 new-told : (r : NewAnswer) → unsaid OfNew.Answered OfNew.Refused (saysNew r) ≡ r
 new-told (OfNew.Answered b) = refl

@@ -10,7 +10,7 @@ use Rattle.macaque_v.specs.Calls.{newAnswer}
 use Rattle.models.specs.Answers.{answered, refused, verdict}
 use Rattle.models.specs.Refusals.{faultOf}
 use Rattle.models.proofs.Judged.{refused-first, turned-back}
-use Rattle.macaque_v.specs.Write.{boundCauses}
+use Rattle.models.specs.Causes.{boundCauses}
 use denote.Ref.{now}
 use mathlib.Core.Path.{_≡_, sym, ap, _∙_}
 use Rattle.segments.proofs.write.Statement.{statement}
