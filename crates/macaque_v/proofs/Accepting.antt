@@ -10,13 +10,14 @@ use Rattle.models.specs.Answers.{answered, verdict, NoneHolds}
 use Rattle.models.specs.Limits.{mostValues}
 use Rattle.models.specs.Bound.{boundAllowed}
 use Rattle.models.specs.declared.ErrorBound.{ErrorBound}
+use Rattle.models.specs.Causes.{boundCauses}
 use Rattle.stream.specs.Made.{MadeBy}
 use Rattle.stream.proofs.Formats.{macaque-good}
 use Rattle.stream.specs.Needs.{GoodCoder}
 use Rattle.stream.proofs.Calls as calls
 use Rattle.coding.proofs.Keeping.{keeps}
 use Rattle.macaque_v.specs.State.{stateOf, isFirst, openingValue}
-use Rattle.macaque_v.specs.Write.{wroteBy, boundCauses, coderOf, coderBy}
+use Rattle.macaque_v.specs.Write.{wroteBy, coderOf, coderBy}
 use Rattle.macaque_v.specs.Calls.{lentBytes, writeCauses}
 use Rattle.macaque_v.specs.inner.Calls.{startCauses}
 use Rattle.macaque_v.specs.Made.{Made}

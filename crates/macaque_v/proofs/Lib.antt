@@ -11,3 +11,4 @@ pub mod ReadingTally
 pub mod ReadingEnd
 pub mod ReadingAll
 pub mod Drawing
+pub mod Causes

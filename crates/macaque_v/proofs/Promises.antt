@@ -15,8 +15,8 @@ use Rattle.stream.proofs.Calls as calls
 use Rattle.stream.proofs.Promises.{gathers-over-the-kept-values, gathers-each-value-once}
 use Rattle.stream.proofs.Writing.{kept-lossless}
 use Rattle.coding.specs.Keep.{keepRule}
-use Rattle.macaque_v.specs.State.{minMaxWith, gatherMinMax, modeOf, streamIn, writerOf, isFirst, openingValue, opened}
-use Rattle.macaque_v.specs.Write.{coderOf}
+use Rattle.macaque_v.specs.State.{minMaxWith, gatherMinMax, modeOf, streamIn, stateOf, writerOf, isFirst, openingValue, opened}
+use Rattle.macaque_v.specs.Write.{coderOf, coderBy}
 use Rattle.macaque_v.specs.Calls.{newAnswer, writeAnswer, writeMemory}
 use Rattle.macaque_v.specs.Read.{valuesIn, gridAnswer, gridMemory, reopenAnswer, reopenMemory}
 use Rattle.macaque_v.specs.Made.{stateOver, keptOf, Made, ResumesAsOne, Resumes}
@@ -74,12 +74,34 @@ module _ {b : ErrorBound} {o : Opening} {xs buf : List ℕ} {m : MacaqueV} (M : 
       let r = calls.resumed-as-one-run (coderOf b (isFirst o)) (coder-good b (isFirst o)) (openingValue o) (in-theory M) bx hl (no-bound-refuses b ok) most k le ys few room in
       record { opens = r .opens; accepts = r .accepts; made = by-theory b o (r .made) }
 
-  -- ---- demand 2: the bytes in use read back as the kept values, where the output has room; later places of it stay
+  -- ---- demand 2: the bytes in use read back as the kept values
+  pub values-read-back : Below 32 xs → openingValue o < 2 ^ 32 → valuesIn (take (wholeBytes (m .place)) buf) (length xs) o ≡ answered (keptOf b o xs)
+  values-read-back = calls.values-read-back (coderOf b (isFirst o)) (coder-good b (isFirst o)) (openingValue o) (in-theory M)
+
+  -- so the grid draws them, where the output has room; later places of it stay
   pub grid-reads-back : Below 32 xs → openingValue o < 2 ^ 32 → length xs ≤ mostValues → (out : List ℕ) → length xs ≤ length out
       → (gridAnswer (take (wholeBytes (m .place)) buf) (length xs) o (length out) ≡ answered tt)
       × (gridMemory (take (wholeBytes (m .place)) buf) (length xs) o out ≡ keptOf b o xs ++ drop (length xs) out)
   unfolding gridAnswer gridMemory
   grid-reads-back = calls.grid-reads-back (coderOf b (isFirst o)) (coder-good b (isFirst o)) (openingValue o) (in-theory M)
+
+-- ---- what a call leaves of lent bytes, from any writer, handed in or made
+
+-- "An empty write changes nothing": an accepted one answers the writer that it was handed, and whether or not it is accepted the buffer is what it was
+pub an-empty-write-changes-nothing : (m : MacaqueV) (buf : List ℕ) → Below 8 buf
+    → ((n : MacaqueV) → writeAnswer m [] buf ≡ answeredOn n → n ≡ m) × (writeMemory m [] buf ≡ buf)
+unfolding writeAnswer writeMemory
+an-empty-write-changes-nothing m = calls.an-empty-write-changes-nothing (coderBy m) (coder-good (m .«error_bound») (m .«with_first»)) (stateOf m)
+
+-- a write and a reopening leave the buffer as long as it was, accepted or not
+pub a-write-keeps-the-length : (m : MacaqueV) (ys buf : List ℕ) → length (writeMemory m ys buf) ≡ length buf
+unfolding writeMemory
+a-write-keeps-the-length m = calls.a-write-keeps-the-length (coderBy m) (coder-good (m .«error_bound») (m .«with_first»)) (stateOf m)
+
+pub reopening-keeps-the-length : (b : ErrorBound) (o : Opening) → openingValue o < 2 ^ 32 → (buf : List ℕ) (used n k : ℕ) → length (reopenMemory buf used n k o b) ≡ length buf
+unfolding reopenMemory
+reopening-keeps-the-length b o hl buf used n k =
+    calls.reopening-keeps-the-length (coderOf b (isFirst o)) (coder-good b (isFirst o)) (openingValue o) buf used n k hl
 
 -- "Minimum and maximum start fresh and take in each kept value from the left, the raw first one too, and never an input that was not kept": the writer after
 -- xs has those of what it kept of xs; the opening value is not among them

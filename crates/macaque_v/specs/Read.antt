@@ -2,20 +2,19 @@
 -- the law that a result is told apart. Assumes nothing.
 use mathlib.Core.Path.{_≡_, refl, ap}
 use mathlib.Core.Bool.{Bool}
-use mathlib.Core.List.{List, [], _∷_}
+use mathlib.Core.List.{List}
 use Prim.Native.Nat.{ℕ}
-use lib.Dec.{ltb}
 use lib.Ieee.{binary32, toBits}
-use Rattle.models.specs.Answers.{Said, Done, answered, refused, Cause, _when_, judge, Injective, told-apart}
+use Rattle.models.specs.Answers.{Said, Done, answered, refused, Cause, judge, Injective, told-apart}
 use Rattle.models.specs.Floats.{zeroF}
-use Rattle.models.specs.Limits.{mostValues}
+use Rattle.models.specs.Causes.{boundCauses, countCauses}
 use Rattle.models.specs.Refusals.{faultOf, numbered, numbered-number}
 use Rattle.models.specs.declared.ErrorBound.{ErrorBound}
 use Rattle.stream.specs.Format.{opening, openedOn, gatherFrom}
 use Rattle.stream.specs.Calls as theory
 pub use Rattle.stream.specs.Calls.{valuesRead, gridCauses, drawn, drawnIn}
 use Rattle.macaque_v.specs.State.{modeOf, streamIn, isFirst, openingValue}
-use Rattle.macaque_v.specs.Write.{boundCauses, coderOf}
+use Rattle.macaque_v.specs.Write.{coderOf}
 use Rattle.macaque_v.specs.ReadRun.{gatherSum}
 use Rattle.macaque_v.specs.declared.MacaqueV.{MacaqueV}
 use Rattle.macaque_v.specs.declared.Opening.{Opening}
@@ -50,7 +49,7 @@ summed first (answered vs) = answered (sumOf first vs)
 summed first (refused n) = refused n
 
 unfoldable pub sumAnswer : List ℕ → ℕ → Opening → Said ℕ
-sumAnswer bytes count o = judge refused (3 when ltb mostValues count ∷ []) (summed (isFirst o) (valuesIn bytes count o))
+sumAnswer bytes count o = judge refused (countCauses count) (summed (isFirst o) (valuesIn bytes count o))
 
 -- ---- reopening
 

@@ -1,9 +1,8 @@
 -- Writing with a state: the stream and the rule of a writer, and the state after a list. Assumes nothing.
-use mathlib.Core.Bool.{Bool, not}
-use mathlib.Core.List.{List, [], _∷_}
+use mathlib.Core.Bool.{Bool}
+use mathlib.Core.List.{List}
 use Prim.Native.Nat.{ℕ}
-use Rattle.models.specs.Answers.{Cause, _when_}
-use Rattle.models.specs.Bound.{boundAllowed}
+use Rattle.models.specs.Causes.{boundCauses}
 use Rattle.models.specs.declared.ErrorBound.{ErrorBound}
 use Rattle.stream.specs.Format.{Stream, State}
 use Rattle.stream.specs.Write.{wrote}
@@ -24,9 +23,6 @@ abbrev pub writerAt : MacaqueV → State Known → MacaqueV
 writerAt m s = writerOf (m .«error_bound») (m .«with_first») s
 
 -- the writer of a bound and a mode, as the theory has one: an error bound that is not allowed is refused first
-abbrev pub boundCauses : ErrorBound → List Cause
-boundCauses b = 1 when not (boundAllowed b) ∷ []
-
 abbrev pub coderOf : ErrorBound → Bool → Coder Known MacaqueV
 coderOf b first = record { stream = streamIn first; rule = keepRule b; first = boundCauses b; hold = writerOf b first; state = stateOf }
 

@@ -3,3 +3,4 @@ pub mod Allowed
 pub mod Held
 pub mod Promises
 pub mod Last
+pub mod Causes

@@ -92,5 +92,8 @@ one-next s said a b e f =
 
 -- ---- end: "to end (8 or done)", "the end call judges what follows its place"
 
+abbrev pub endCauses : ℕ → Cursor → List Cause
+endCauses bytes at = 2 when not (mayUse bytes at) ∷ []
+
 unfoldable pub endAnswer : List ℕ → Position → Said Done
-endAnswer bytes p = judge refused (2 when not (mayUse (length bytes) (p .at)) ∷ []) (endSaid bytes (p .at))
+endAnswer bytes p = judge refused (endCauses (length bytes) (p .at)) (endSaid bytes (p .at))

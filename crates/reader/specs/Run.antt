@@ -1,9 +1,8 @@
 -- Reading on: n nexts from where a reader stands, and the end behind them; and the last value that is read so. Assumes nothing.
 use mathlib.Core.List.{List, [], _∷_}
 use Prim.Native.Nat.{ℕ, zero, suc}
-use lib.Dec.{ltb}
-use Rattle.models.specs.Answers.{Said, Done, answered, refused, SaidOn, answeredOn, refusedOn, _when_, judge}
-use Rattle.models.specs.Limits.{mostValues}
+use Rattle.models.specs.Answers.{Said, Done, answered, refused, SaidOn, answeredOn, refusedOn, judge}
+use Rattle.models.specs.Causes.{countCauses}
 use Rattle.macaque_v.specs.Read.{valuesIn}
 use Rattle.macaque_v.specs.declared.Opening.{Opening}
 use Rattle.reader.specs.Calls.{openedAt, Taken, nextAnswer, endAnswer}
@@ -54,4 +53,4 @@ lastOf v (refused n) = refused n
 
 -- of a stream's values, `count` of them: "Reading takes exactly the stream's bytes and a count"
 unfoldable pub lastAnswer : List ℕ → ℕ → Opening → Said ℕ
-lastAnswer bytes count o = judge refused (3 when ltb mostValues count ∷ []) (lastOf 0 (valuesIn bytes count o))
+lastAnswer bytes count o = judge refused (countCauses count) (lastOf 0 (valuesIn bytes count o))

@@ -11,12 +11,13 @@ use lib.ListN.{length, take, drop}
 use lib.Seq.{length-take-le}
 use Rattle.bits.specs.Bits.{Below, bitsOf, wholeBytes, cutIn}
 use Rattle.bits.proofs.Below.{below-nil, below-take}
-use Rattle.bits.proofs.InBytes.{length-cutIn}
-use Rattle.models.specs.Answers.{Said, answered, refused, answeredOn, Cause, _when_, verdict, keeping, NoneHolds}
+use Rattle.bits.proofs.InBytes.{length-laidIn, laidIn-nothing, length-cutIn}
+use Rattle.models.specs.Answers.{Said, answered, refused, answeredOn, Cause, _when_, judge, judgedMemory, verdict, keeping, NoneHolds}
 use Rattle.models.proofs.Judged.{not-answered, same-answer, none, accepted-only, answered-only}
 use Rattle.models.proofs.Judged as judging
+use Rattle.models.proofs.Tests.{neither}
 use Rattle.stream.specs.Format.{Format, Stream, State, fresh, mostValues, usable}
-use Rattle.stream.specs.Write.{keptFrom, kept, after, wrote, wroteIn, streamOf}
+use Rattle.stream.specs.Write.{keptFrom, kept, encode, after, written, wrote, wroteIn, streamOf}
 use Rattle.stream.specs.Read.{Reading, done, stopped, readAll, Reopened, reopened, bufferAfter}
 use Rattle.stream.specs.Calls.{Coder, lentBytes, valuesRead, valuesIn, drawn, drawnIn, gridCauses, gridAnswer, gridMemory, reopening, newAnswer, startCauses, writeCauses, writeAnswer, writeMemory, reopenCauses, resumed, reopenAnswer, reopenMemory}
 use Rattle.stream.specs.Made.{Made, MadeBy, stateOver, ResumesAsOne, Resumes}
@@ -25,6 +26,7 @@ use Rattle.stream.proofs.Writing.{fresh-small, place-after, count-after
 use Rattle.stream.proofs.Rule.{usable-says, usable-if}
 use Rattle.stream.proofs.Made as spine
 use Rattle.stream.proofs.AnyStream.{any-resumed}
+use Rattle.stream.proofs.Reopen.{refused-reopen}
 use Rattle.stream.proofs.Near.{Near, NearIn, wrote-near, all-near}
 
 -- ---- causes in two parts
@@ -36,6 +38,19 @@ split (n when t ∷ first) later h = let r = split first later (h .1) in ((h .0,
 joined : (first later : List Cause) → NoneHolds first → NoneHolds later → NoneHolds (first ++ later)
 joined [] later f l = l
 joined (n when t ∷ first) later f l = (f .0, joined first later (f .1) l)
+
+-- lent memory that no refusal touches: as long as it was, or what it was, where it is so without one
+pub as-long : (buf after : List ℕ) (causes : List Cause) → (NoneHolds causes → length after ≡ length buf) → length (judgedMemory buf causes after) ≡ length buf
+unfolding judge
+as-long buf after [] h = h tt
+as-long buf after (n when true ∷ causes) h = refl
+as-long buf after (n when false ∷ causes) h = as-long buf after causes (λ free. h (refl, free))
+
+stays : (buf after : List ℕ) (causes : List Cause) → after ≡ buf → judgedMemory buf causes after ≡ buf
+unfolding judge
+stays buf after [] h = h
+stays buf after (n when true ∷ causes) h = refl
+stays buf after (n when false ∷ causes) h = stays buf after causes h
 
 -- what was read, and the state behind it
 read-whole : {A : Type 0} (q : Reading A) (vs : List ℕ) → valuesRead q ≡ answered vs → (t : State A) × (r : List Bool) × (q ≡ done vs t r)
@@ -77,6 +92,22 @@ module _ {A W : Type 0} (C : Coder A W) (good : GoodCoder C) where
         omega (arith, accepted s ys (lentBytes (length buf)) (a .0) .2, min-le-left (length buf) (2 ^ 60)),
         sym (judging.accepted (keeping buf) (wroteIn (C .rule) S s ys buf) causes (none causes (a .0))),
       )
+
+  -- ---- what a write leaves of the buffer's length, and what an empty one changes
+
+  -- a write leaves the buffer as long as it was, accepted or not
+  pub a-write-keeps-the-length : (s : State A) (ys buf : List ℕ) → length (writeMemory C s ys buf) ≡ length buf
+  a-write-keeps-the-length s ys buf =
+      as-long buf _ _ (λ free.
+      let room = wrote-on s ys buf _ (sym (judging.accepted _ _ _ free)) .1 in
+      length-laidIn buf (s .place) (written (C .rule) S s ys) (omega (arith, room, place-after S s (kept (C .rule) S s ys))))
+
+  -- "An empty write changes nothing": an accepted one answers the writer of the state that it began with, and whether or not it is accepted the buffer
+  -- is what it was
+  pub an-empty-write-changes-nothing : (s : State A) (buf : List ℕ) → Below 8 buf
+      → ((n : W) → writeAnswer C s [] buf ≡ answeredOn n → n ≡ C .hold s) × (writeMemory C s [] buf ≡ buf)
+  unfolding encode after keptFrom
+  an-empty-write-changes-nothing s buf small = (λ n h. wrote-on s [] buf n h .0, stays buf _ _ (laidIn-nothing buf (s .place) small))
 
   -- a state that may be used and is near the start: where room and count limit allow, nothing refuses
   pub allowed : (s : State A) (ys buf : List ℕ) → NoneHolds (C .first) → usable F (length buf) s ≡ true → Near F s
@@ -132,6 +163,21 @@ module _ {A W : Type 0} (C : Coder A W) (good : GoodCoder C) where
           sym (judging.accepted (keeping buf) _ causes no) ∙ ap (λ (q : Reopened A). bufferAfter q buf) e,
         )
 
+    -- reopening leaves the buffer as long as it was, accepted or not
+    pub reopening-keeps-the-length : (buf : List ℕ) (used n k : ℕ) → l < 2 ^ F .width → length (reopenMemory C l buf used n k) ≡ length buf
+    reopening-keeps-the-length buf used n k hl =
+        as-long buf _ (reopenCauses (C .first) (length buf) used n k) (λ free.
+        let later = split (C .first) _ free .1 in
+        let tests = neither (ltb n k) (ltb (length buf) used) (later .1 .0) in
+        by-reading (ltb-false mostValues n (later .0)) (ltb-false n k (tests .0)) (ltb-false (length buf) used (tests .1)) (readAll S n (fresh S l) (bitsOf (take used buf))) refl)
+      where
+        by-reading : n ≤ mostValues → k ≤ n → used ≤ length buf → (q : Reading A) → readAll S n (fresh S l) (bitsOf (take used buf)) ≡ q
+            → length (bufferAfter (reopening S l (take used buf) n k) buf) ≡ length buf
+        by-reading most le fits (done vs t r) e =
+            let R = any-resumed (C .rule) S (good .format) (good .keeps) l hl n k used buf le most fits vs t r e in
+            ap (λ (q : Reopened A). length (bufferAfter q buf)) (R .opens) ∙ length-cutIn buf (R .state .place) (omega (arith, R .placed))
+        by-reading most le fits (stopped f) e = ap (λ (q : Reopened A). length (bufferAfter q buf)) (refused-reopen S n k (fresh S l) (bitsOf (take used buf)) f e)
+
     module _ {xs buf : List ℕ} {m : W} (M : MadeBy C l xs buf m) where
       -- an accepted write goes on as one fresh run, for any list, the empty one too
       pub a-write-goes-on : (ys : List ℕ) (n : W) → writeAnswer C (stateOver C l xs) ys buf ≡ answeredOn n
@@ -177,16 +223,20 @@ module _ {A W : Type 0} (C : Coder A W) (good : GoodCoder C) where
               let r = opens-on buf used (length xs) k (stateOver C l (take k xs)) free few le (o .1) (o .0) in
               (r .0, subst (λ (z : List ℕ). MadeBy C l (take k xs) z (C .hold (stateOver C l (take k xs)))) (sym (r .1)) (by-theory (C .hold (stateOver C l (take k xs))) refl (o .2)))
 
-      -- the bytes in use read back as the kept values, where the output has room; later places of it stay
+      -- the bytes in use read back as the kept values
+      pub values-read-back : Below (F .width) xs → l < 2 ^ F .width → valuesIn S l (take (wholeBytes ((C .state m) .place)) buf) (length xs) ≡ answered (kept (C .rule) S (fresh S l) xs)
+      values-read-back bx hl =
+          let T = in-theory M in
+          ap (λ (p : ℕ). valuesIn S l (take (wholeBytes p) buf) (length xs)) (T .0)
+          ∙ ap valuesRead (spine.made-read (C .rule) S l (T .1) (good .format) (good .keeps) hl bx)
+
+      -- so the grid draws them, where the output has room; later places of it stay
       pub grid-reads-back : Below (F .width) xs → l < 2 ^ F .width → length xs ≤ mostValues → (out : List ℕ) → length xs ≤ length out
           → (gridAnswer S l (take (wholeBytes ((C .state m) .place)) buf) (length xs) (length out) ≡ answered tt)
           × (gridMemory S l (take (wholeBytes ((C .state m) .place)) buf) (length xs) out ≡ kept (C .rule) S (fresh S l) xs ++ drop (length xs) out)
       grid-reads-back bx hl most out long =
-          let T = in-theory M in
           let vs : List ℕ = kept (C .rule) S (fresh S l) xs in
-          let values : valuesIn S l (take (wholeBytes ((C .state m) .place)) buf) (length xs) ≡ answered vs =
-          ap (λ (p : ℕ). valuesIn S l (take (wholeBytes p) buf) (length xs)) (T .0)
-          ∙ ap valuesRead (spine.made-read (C .rule) S l (T .1) (good .format) (good .keeps) hl bx) in
+          let values = values-read-back bx hl in
           let no : NoneHolds (gridCauses (length xs) (length out)) = (le-ltb mostValues (length xs) most, (le-ltb (length out) (length xs) long, tt)) in (
             sym (judging.accepted refused _ (gridCauses (length xs) (length out)) no) ∙ ap drawn values,
             sym (judging.accepted (keeping out) _ (gridCauses (length xs) (length out)) no) ∙ ap (drawnIn out) values
@@ -199,14 +249,8 @@ module _ {A W : Type 0} (C : Coder A W) (good : GoodCoder C) where
         → length xs ≤ mostValues → (k : ℕ) → k ≤ length xs → (ys : List ℕ) → k + length ys ≤ mostValues
         → (stateOver C l (take k xs ++ ys)) .place ≤ 8 * length buf → ResumesAsOne C l xs buf (wholeBytes ((C .state m) .place)) k ys
     resumed-as-one-run {xs} {buf} {m} M bx hl free few k le ys most room =
-        let used : ℕ = wholeBytes ((C .state m) .place) in
-        let o = opened M bx hl free few k le in
-        let t : State A = stateOver C l (take k xs) in
         let back = reopening-goes-back M bx hl free few k le in
-        let memory = opens-on buf used (length xs) k t free few le (o .1) (o .0) .1 in
-        let within : t .place ≤ 8 * length buf =
-        omega (arith, room, ap (λ (z : State A). z .place) (wrote-append S (C .rule) (fresh S l) (take k xs) ys), place-after S t (kept (C .rule) S t ys)) in
-        let long : length (reopenMemory C l buf used (length xs) k) ≡ length buf = ap length memory ∙ length-cutIn buf (t .place) within in
+        let long = reopening-keeps-the-length buf (wholeBytes ((C .state m) .place)) (length xs) k hl in
         let firsts : length (take k xs) ≡ k = length-take-le k xs le in
         let accepted = a-write-is-accepted (back .1) (below-take (F .width) k xs bx) hl free ys (omega arith) (omega (arith, room, long)) in
         record { opens = back .0; accepts = accepted; made = a-write-goes-on (back .1) ys _ accepted }
