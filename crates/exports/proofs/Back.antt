@@ -1,12 +1,14 @@
 -- What was put into a word is read back from it; and whatever the words, what is read is of its format. Assumes nothing.
 use mathlib.Core.Path.{_≡_, refl, sym, ap, _∙_}
 use mathlib.Core.Bool.{Bool, true, false, _&&_}
+use mathlib.Core.List.{List, _∷_}
 use Prim.Native.Nat.{ℕ, suc, _-_, _%_, _^_}
 use native.Mathlib.Nat.{mod-eq-of-lt}
 use native.Mathlib.Omega.{arith}
-use borrow.Author.Tests.{lt-ltb, ltb-true, ltb-false}
+use borrow.Author.Tests.{lt-ltb, le-ltb, ltb-true, ltb-false}
 use lib.Dec.{T, eqb, leb, ltb}
 use lib.IntN.{ℤ, pos, negsuc}
+use lib.ListN.{length, getD}
 use lib.Ieee.{Float, binary32, fits, ofBits, toBits}
 use lib.Ieee.Bits.{ofBits-toBits, toBits-lt, ofBits-fits}
 use lib.Ieee.Fits.{nan-fits}
@@ -18,7 +20,7 @@ use Rattle.models.specs.declared.ErrorBound.{ErrorBound}
 use Rattle.models.specs.declared.ErrorBound.the-variants.{Lossless, Absolute, Relative}
 use Rattle.models.proofs.Tests.{by-test}
 use Rattle.exports.specs.Face.{boundOf, wordOf}
-use Rattle.exports.specs.Words.{boundKind, boundBits, small, boundIn, timeIn, wordOfTime}
+use Rattle.exports.specs.Words.{boundKind, boundBits, small, boundIn, boundFront, timeIn, wordOfTime}
 use Rattle.exports.proofs.Signed.{read-signed}
 
 -- ---- a 32-bit value
@@ -46,6 +48,14 @@ bound-of-held kind bits =
 pub bound-in-held : (kind bits : ℕ) → BoundHeld (boundIn kind bits)
 unfolding boundIn
 bound-in-held kind bits = by-test BoundHeld (small kind && small bits) _ _ (λ h. bound-of-held kind bits) (λ h. nan-fits binary32)
+
+pub bound-front : (kind bits : ℕ) (rest : List ℕ) → boundFront (kind ∷ bits ∷ rest) ≡ boundIn kind bits
+unfolding boundFront
+bound-front kind bits rest = rw (le-ltb (length (kind ∷ bits ∷ rest)) 2 (omega arith))
+
+pub bound-front-held : (row : List ℕ) → BoundHeld (boundFront row)
+unfolding boundFront
+bound-front-held row = by-test BoundHeld (ltb (length row) 2) _ _ (λ h. tt) (λ h. bound-in-held (getD row 0 0) (getD row 1 0))
 
 -- ---- a timestamp
 same-word : (t : ℤ) → wordOfTime t ≡ ofZ w64 t

@@ -4,3 +4,4 @@ pub mod Small
 pub mod Signed
 pub mod Back
 pub mod Stands
+pub mod Causes

@@ -1,16 +1,18 @@
 -- What a call answers and leaves in a lent row, case by case. Assumes nothing.
 use mathlib.Core.Path.{_≡_, refl, sym, ap, _∙_}
-use mathlib.Core.Bool.{Bool, true, false, cond, _||_}
+use mathlib.Core.Bool.{Bool, true, false, cond, not, false≢true}
 use mathlib.Core.List.{List, [], _∷_, _++_}
+use mathlib.Core.Logic.{_⊎_, inl, inr}
 use Prim.Native.Nat.{ℕ, _≤_, _<_}
 use native.Mathlib.Omega.{arith}
-use borrow.Author.Tests.{le-leb, lt-leb}
-use lib.Dec.{leb}
+use borrow.Author.Tests.{le-leb, lt-leb, ltb-true, ltb-false}
+use lib.Dec.{leb, ltb}
 use lib.ListN.{length, drop, set}
-use Rattle.models.specs.Answers.{Fault, Said, answered, refused, SaidOn, refusedOn, stateless}
+use Rattle.models.specs.Answers.{Fault, Said, answered, refused, SaidOn, stateless, Cause, _when_, judge, judgedOn}
 use Rattle.models.specs.declared.Verdict.{Verdict}
 use Rattle.models.specs.declared.Verdict.the-variants as OfVerdict
-use Rattle.exports.specs.Face.{beforeShort, refusalNumber, numberOf, rowIn, rowAfter, plainNumber, stepNumber, stepRow, askNumber, askRow}
+use Rattle.models.proofs.Tests.{or-right}
+use Rattle.exports.specs.Face.{beforeShort, noState, refusalNumber, numberOf, rowIn, rowAfter, plainNumber, stepNumber, stepRow}
 use Rattle.exports.specs.inner.Put.{worded, wordsSaid, wholeRow}
 
 -- the number, and the row
@@ -57,54 +59,62 @@ pub put : {A : Type 0} (words : A → List ℕ) (need : ℕ) (row : List ℕ) (s
 put words need row said v ws size e f =
     alike words wholeRow need row said (wordsSaid v ws) (whole v ws ∙ e) (rw size at f)
 
--- ---- a call on a state in a row of `need` words
-or-true : (b : Bool) → (b || true) ≡ true
-or-true true = refl
-or-true false = refl
+-- ---- a step through a row, whose words go where those of its state stood
 
--- where the row holds the words, the number is that of the answer alone, and the row takes them
-pub plain-number : {A : Type 0} (need room : ℕ) (said : Said A) → need ≤ room → numberOf need room said ≡ plainNumber said
-unfolding numberOf refusalNumber
-plain-number need room (answered x) h = rw (le-leb need room h)
-plain-number need room (refused f) h = rw (le-leb need room h, or-true (beforeShort (f .number)))
+-- an answer that a cause before 4 turns back: the row's room is not looked at
+abbrev pub early : {A : Type 0} → Said A → Bool
+early (answered x) = false
+early (refused f) = beforeShort (f .number)
 
-pub plain-row : {A : Type 0} (words : A → List ℕ) (need : ℕ) (row : List ℕ) (said : Said A) → need ≤ length row → rowAfter need words row said ≡ rowIn words row said
-unfolding rowAfter
-plain-row words need row said h = rw (le-leb need (length row) h)
+-- the row holds the words of an answer, or there is none
+abbrev pub Roomy : {A : Type 0} → ℕ → List ℕ → Said A → Type 0
+Roomy need row said = (need ≤ length row) ⊎ (early said ≡ true)
 
+-- then the number is that of the answer alone, and the row takes its words
+module _ {A : Type 0} (words : A → List ℕ) (need : ℕ) (row : List ℕ) where
+  roomy-number : (said : Said A) → Roomy need row said → numberOf need (length row) said ≡ plainNumber said
+  unfolding numberOf refusalNumber
+  roomy-number (answered x) (inl h) = rw (le-leb need (length row) h)
+  roomy-number (refused f) (inl h) = rw (le-leb need (length row) h, or-right (beforeShort (f .number)) true refl)
+  roomy-number (answered x) (inr h) = absurd (false≢true h)
+  roomy-number (refused f) (inr h) = rw h
+
+  roomy-row : (said : Said A) → Roomy need row said → rowAfter need words row said ≡ rowIn words row said
+  unfolding rowAfter
+  roomy-row said (inl h) = rw (le-leb need (length row) h)
+  roomy-row (answered x) (inr h) = absurd (false≢true h)
+  roomy-row (refused f) (inr h) = same (leb need (length row)) row
+
+-- words that were put into a row that holds them
 pub put-plain : {A : Type 0} (words : A → List ℕ) (need : ℕ) (row : List ℕ) (said : Said A) (v : Verdict) (ws : List ℕ) → need ≤ length row → length ws ≡ need → wordsSaid v ws ≡ worded words said
     → {number : ℕ} {after : List ℕ} → Faced wholeRow (length ws) row (wordsSaid v ws) number after → (number ≡ plainNumber said) × (after ≡ rowIn words row said)
 put-plain words need row said v ws room size e f =
     let g = put words need row said v ws size e f in
-    (g .0 ∙ plain-number need (length row) said room, g .1 ∙ plain-row words need row said room)
+    (g .0 ∙ roomy-number words need row said (inl room), g .1 ∙ roomy-row words need row said (inl room))
 
 module _ {S A : Type 0} (need : ℕ) (words : A → List ℕ) (row : List ℕ) (said : SaidOn S A) where
-  abbrev StepSaid : ℕ → List ℕ → Type 0
-  StepSaid number after = (number ≡ stepNumber need row said) × (after ≡ stepRow need words row said)
+  pub step-said : Roomy need row (stateless said) → {number : ℕ} {after : List ℕ} → Faced words need row (stateless said) number after → (number ≡ stepNumber said) × (after ≡ stepRow words row said)
+  step-said h f =
+      (f .0 ∙ roomy-number words need row (stateless said) h, f .1 ∙ roomy-row words need row (stateless said) h)
 
-  pub step-short : length row < need → StepSaid 4 row
-  unfolding stepNumber rowAfter
-  step-short h = rw (lt-leb need (length row) h) (refl, refl)
+-- ---- a state that may not be used: the bound is judged, and then the state is refused, whatever is judged later
+pub no-state : {S A : Type 0} (s : S) (allowed wrong : Bool) (later : List Cause) (a : A) → wrong ≡ true
+    → stateless (judgedOn s (1 when not allowed ∷ 2 when wrong ∷ later) a) ≡ refused (noState allowed)
+unfolding judge
+no-state s true wrong later a h = rw h
+no-state s false wrong later a h = refl
 
-  pub step-refused : need ≤ length row → (f : Fault) (s : S) → said ≡ refusedOn f s → {number : ℕ} → number ≡ f .number → StepSaid number row
-  unfolding stepNumber rowAfter
-  step-refused h f s e is = rw (e, le-leb need (length row) h) (is, refl)
+-- so a step through a row has room, where a row that is too short stands for no state
+pub roomy : {A : Type 0} (need : ℕ) (row : List ℕ) (said : Said A) (allowed : Bool) → (length row < need → said ≡ refused (noState allowed)) → Roomy need row said
+roomy need row said allowed short = by (ltb (length row) need) refl
+  where
+    before-4 : (b : Bool) → beforeShort ((noState b) .number) ≡ true
+    before-4 true = refl
+    before-4 false = refl
 
-  pub step-said : need ≤ length row → {number : ℕ} {after : List ℕ} → Faced words need row (stateless said) number after → StepSaid number after
-  unfolding stepNumber
-  step-said h f = (f .0 ∙ plain-number need (length row) (stateless said) h ∙ sym (rw (le-leb need (length row) h)), f .1)
-
-  module _ (k : ℕ) (out : List ℕ) where
-    abbrev Asked : ℕ → List ℕ → Type 0
-    Asked number after = (number ≡ askNumber need row k (length out) said) × (after ≡ askRow need row k words out said)
-
-    pub ask-short : length row < need → Asked 4 out
-    unfolding askNumber askRow
-    ask-short h = rw (lt-leb need (length row) h) (refl, refl)
-
-    pub ask-said : need ≤ length row → {number : ℕ} {after : List ℕ} → Faced words k out (stateless said) number after → Asked number after
-    unfolding askNumber askRow
-    ask-said h f = rw (le-leb need (length row) h) f
+    by : (b : Bool) → ltb (length row) need ≡ b → Roomy need row said
+    by true e = inr (ap early (short (ltb-true (length row) need e)) ∙ before-4 allowed)
+    by false e = inl (ltb-false (length row) need e)
 
 -- ---- words set one by one
 pub one-set : (row : List ℕ) (a : ℕ) → 1 ≤ length row → set row 0 a ≡ a ∷ drop 1 row

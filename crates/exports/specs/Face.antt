@@ -6,7 +6,7 @@ use Prim.Native.Nat.{ℕ}
 use lib.Dec.{eqb, leb}
 use lib.Ieee.{Float, nan, binary32, binary64, ofBits, toBits}
 use lib.ListN.{length, drop}
-use Rattle.models.specs.Answers.{Said, answered, refused, SaidOn, stateless}
+use Rattle.models.specs.Answers.{Fault, fault, Said, answered, refused, SaidOn, stateless}
 use Rattle.models.specs.declared.ErrorBound.{ErrorBound}
 use Rattle.models.specs.declared.ErrorBound.the-variants.{Lossless, Absolute, Relative}
 
@@ -60,18 +60,23 @@ abbrev pub plainNumber : {A : Type 0} → Said A → ℕ
 plainNumber (answered x) = 0
 plainNumber (refused f) = f .number
 
--- ---- a call on a state in a row of `need` words: of a shorter one no state can be read, which is 4 before anything is judged
+-- ---- a call on a state in a row. Every row stands for some state: one that is too short, or whose words are not allowed, for one that the call behind
+-- refuses with 2 in its place. So the number is that of the call behind.
+
+-- the fault of a row that stands for no state: 1 where a bound in it is not allowed, else 2
+abbrev pub noState : Bool → Fault
+noState allowed = fault (cond allowed 2 1)
 
 -- a step, whose row becomes that of the state after it
-unfoldable pub stepNumber : {S A : Type 0} → ℕ → List ℕ → SaidOn S A → ℕ
-stepNumber need row said = cond (leb need (length row)) (plainNumber (stateless said)) 4
+abbrev pub stepNumber : {S A : Type 0} → SaidOn S A → ℕ
+stepNumber said = plainNumber (stateless said)
 
-abbrev pub stepRow : {S A : Type 0} → ℕ → (A → List ℕ) → List ℕ → SaidOn S A → List ℕ
-stepRow need words row said = rowAfter need words row (stateless said)
+abbrev pub stepRow : {S A : Type 0} → (A → List ℕ) → List ℕ → SaidOn S A → List ℕ
+stepRow words row said = rowIn words row (stateless said)
 
 -- a question, answered in `k` words of another row, `out`
-unfoldable pub askNumber : {S A : Type 0} → ℕ → List ℕ → ℕ → ℕ → SaidOn S A → ℕ
-askNumber need row k room said = cond (leb need (length row)) (numberOf k room (stateless said)) 4
+abbrev pub askNumber : {S A : Type 0} → ℕ → ℕ → SaidOn S A → ℕ
+askNumber k room said = numberOf k room (stateless said)
 
-unfoldable pub askRow : {S A : Type 0} → ℕ → List ℕ → ℕ → (A → List ℕ) → List ℕ → SaidOn S A → List ℕ
-askRow need row k words out said = cond (leb need (length row)) (rowAfter k words out (stateless said)) out
+abbrev pub askRow : {S A : Type 0} → ℕ → (A → List ℕ) → List ℕ → SaidOn S A → List ℕ
+askRow k words out said = rowAfter k words out (stateless said)

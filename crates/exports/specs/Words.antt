@@ -1,8 +1,10 @@
 -- The words of a state's row: a bound's two, a 32-bit value, a timestamp. What a word cannot stand for is not allowed: the call behind refuses it.
 use mathlib.Core.Bool.{Bool, cond, _&&_}
+use mathlib.Core.List.{List}
 use Prim.Native.Nat.{ℕ, suc, _+_, _-_, _^_}
 use lib.Dec.{ltb}
 use lib.IntN.{ℤ, pos, negsuc}
+use lib.ListN.{length, getD}
 use lib.Ieee.{nan, binary32, toBits}
 use Rattle.models.specs.Limits.{mostValues}
 use Rattle.models.specs.declared.ErrorBound.{ErrorBound}
@@ -30,6 +32,10 @@ small w = ltb w (2 ^ 32)
 -- words that are not of 32 bits are no bound, and stand for one that is not allowed
 unfoldable pub boundIn : ℕ → ℕ → ErrorBound
 boundIn kind bits = cond (small kind && small bits) (boundOf kind bits) (Absolute nan)
+
+-- the bound in a row's first two words; where they are not both there, no bound is judged
+unfoldable pub boundFront : List ℕ → ErrorBound
+boundFront row = cond (ltb (length row) 2) Lossless (boundIn (getD row 0 0) (getD row 1 0))
 
 -- ---- a timestamp, in two's complement
 unfoldable pub timeIn : ℕ → ℤ

@@ -3,7 +3,7 @@
 use models::ErrorBound;
 ghost use mathlib.Core.Path.{_≡_};
 ghost use Prim.Native.Nat.{_%_, _^_};
-ghost use Rattle.exports.specs.Words.{boundKind, boundBits, small, boundIn, timeIn, wordOfTime};
+ghost use Rattle.exports.specs.Words.{boundKind, boundBits, small, boundIn, boundFront, timeIn, wordOfTime};
 
 // ---- a bound
 
@@ -52,6 +52,16 @@ pub fn bound_in(kind: u64, bits: u64) -> ErrorBound
         return crate::bound_of(low(kind), low(bits));
     }
     ErrorBound::Absolute(0.0 / 0.0)
+}
+
+// The bound in a row's first two words; Lossless, which is always allowed, where they are not both there.
+pub fn bound_front(row: &[u64]) -> ErrorBound
+    ensures { λ r. ⌜ r ≡ boundFront (now (row .entry)) ⌝ }
+{
+    if row.len() < 2 {
+        return ErrorBound::Lossless;
+    }
+    bound_in(row[0], row[1])
 }
 
 // ---- a timestamp, in two's complement

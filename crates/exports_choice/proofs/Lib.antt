@@ -3,3 +3,4 @@ pub mod Parts
 pub mod Back
 pub mod Stands
 pub mod Answers
+pub mod Short

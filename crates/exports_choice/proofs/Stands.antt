@@ -5,7 +5,7 @@ use mathlib.Core.Bool.{true}
 use mathlib.Core.List.{List, foldl}
 use Prim.Native.Nat.{ℕ, _≤_}
 use borrow.Author.Tests.{not-false}
-use lib.Dec.{T}
+use lib.Dec.{T, ltb}
 use lib.ListN.{length, drop}
 use lib.Ieee.{Float, binary32, fits}
 use lib.Ieee.Bits.{ofBits-fits}
@@ -25,12 +25,13 @@ use Rattle.types.specs.Calls.{newAnswer, updateCauses, updateAnswer}
 use Rattle.types.specs.Run.{next, run}
 use Rattle.types.specs.declared.ModelBuilder.{ModelBuilder}
 use Rattle.exports.specs.Face.{boundOf, rowAfter}
-use Rattle.exports.proofs.Back.{bound-of-held}
+use Rattle.exports.specs.Words.{boundFront}
+use Rattle.exports.proofs.Back.{bound-of-held, bound-front-held}
 use Rattle.exports.proofs.Stands.{StateRow, new-stands, step-stands, rows-stand}
 use Rattle.exports_fit.specs.Row.{pmcLength, pmcRow, pmcIn, swingRow}
 use Rattle.exports_fit.proofs.Back.{PmcHeld, SwingHeld}
-use Rattle.exports_fit.proofs.Held.{pmc-fresh, pmc-in, pmc-tried, swing-fresh, swing-in, swing-tried}
-use Rattle.exports_choice.specs.Row.{builderLength, builderRow, unusable, flags, builderIn, builderStep, builderAfter}
+use Rattle.exports_fit.proofs.Held.{pmc-fresh, no-pmc-held, pmc-in, pmc-tried, swing-fresh, no-swing-held, swing-in, swing-tried}
+use Rattle.exports_choice.specs.Row.{builderLength, builderRow, unusable, flags, laterBound, noBuilder, readBuilder, builderIn, builderStep, builderAfter}
 use Rattle.exports_choice.proofs.Back.{builder-back}
 
 -- ---- the fields of a builder's models are of their formats
@@ -46,7 +47,9 @@ unfolding builderIn
 builder-in row =
     let p = pmc-in row in
     let lost : PmcHeld (unusable (pmcIn row)) = record { bound = p .bound; least = p .least; greatest = p .greatest; sum = p .sum } in
-    (by-test PmcHeld (flags row) (pmcIn row) (unusable (pmcIn row)) (λ h. p) (λ h. lost), swing-in (drop pmcLength row))
+    by-test BuilderHeld (ltb (length row) builderLength) (noBuilder row) (readBuilder row)
+    (λ short. (no-pmc-held (boundFront row) (bound-front-held row), no-swing-held (laterBound row) (bound-front-held (drop pmcLength row))))
+    (λ long. (by-test PmcHeld (flags row) (pmcIn row) (unusable (pmcIn row)) (λ h. p) (λ h. lost), swing-in (drop pmcLength row)))
 
 pmc-part : (b : ModelBuilder) (v : Float) → BuilderHeld b → T (fits binary32 v) → BuilderHeld (updatePmc b v)
 unfolding updatePmc withPmc
@@ -91,11 +94,11 @@ builder-new-stands kind bound row allowed room =
 abbrev builderTried : ModelBuilder → Given → Stepped ModelBuilder
 builderTried b g = answeredBy (updated b (pointOf (g .time) (g .bits)))
 
-pub builder-step-stands : (row : List ℕ) (g : Given) → builderLength ≤ length row → builderIn (builderAfter row g) ≡ next (builderIn row) g
+pub builder-step-stands : (row : List ℕ) (g : Given) → builderIn (builderAfter row g) ≡ next (builderIn row) g
 unfolding updateAnswer
 builder-step-stands = step-stands builderStateRow (λ b g. updateCauses b (g .time)) builderTried builder-updated
 
 -- the row after a list of steps
-pub builder-rows-stand : (row : List ℕ) (given : List Given) → builderLength ≤ length row → builderIn (foldl builderAfter row given) ≡ run (builderIn row) given
+pub builder-rows-stand : (row : List ℕ) (given : List Given) → builderIn (foldl builderAfter row given) ≡ run (builderIn row) given
 unfolding updateAnswer
 builder-rows-stand = rows-stand builderStateRow (λ b g. updateCauses b (g .time)) builderTried builder-updated

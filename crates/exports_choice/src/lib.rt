@@ -3,6 +3,7 @@
 
 use exports::words;
 use exports_fit::rows;
+use models::ErrorBound;
 use models::Verdict;
 use pmc_mean::PMCMean;
 use types::ChoiceAnswer;
@@ -14,13 +15,12 @@ use types::UpdateAnswer;
 use types::choice;
 ghost use mathlib.Core.Path.{_≡_};
 ghost use mathlib.Core.Bool.{cond};
-ghost use Prim.Native.Nat.{_≤_};
 ghost use lib.ListN.{length};
 ghost use Rattle.models.specs.Answers.{answered};
 ghost use Rattle.types.specs.Calls.{newAnswer, updateAnswer, finishAnswer};
 ghost use Rattle.types.specs.Run.{choiceAnswer};
 ghost use Rattle.exports.specs.Face.{boundOf, numberOf, rowAfter, stepNumber, stepRow, askNumber, askRow};
-ghost use Rattle.exports_choice.specs.Row.{builderLength, builderRow, unusable, builderIn, builderStep, modelLength, modelWords};
+ghost use Rattle.exports_choice.specs.Row.{builderLength, builderRow, unusable, laterBound, noBuilder, builderIn, builderStep, modelLength, modelWords};
 ghost use Rattle.exports_choice.specs.inner.Answers.{builderStepOf};
 
 // ---- a builder's row
@@ -44,10 +44,36 @@ fn usable_if(is: bool, s: PMCMean) -> PMCMean
     t
 }
 
+// The bound of the second model.
+fn later_bound(row: &[u64]) -> ErrorBound
+    ensures { λ r. ⌜ r ≡ laterBound (now (row .entry)) ⌝ }
+{
+    if row.len() < rows::PMC_WORDS {
+        return ErrorBound::Lossless;
+    }
+    words::bound_front(&row[rows::PMC_WORDS..])
+}
+
+// What a row that is too short stands for: a builder that no call allows.
+fn no_builder(row: &[u64]) -> ModelBuilder
+    ensures { λ r. ⌜ r ≡ noBuilder (now (row .entry)) ⌝ }
+{
+    let pmc_mean = rows::no_pmc(words::bound_front(row));
+    let swing = rows::no_swing(later_bound(row));
+    ModelBuilder {
+        pmc_mean,
+        pmc_mean_could_fit_all: true,
+        swing,
+        swing_could_fit_all: true,
+    }
+}
+
 fn builder_in(row: &[u64]) -> ModelBuilder
-    requires { ⌜ builderLength ≤ length (now row) ⌝ }
     ensures { λ r. ⌜ r ≡ builderIn (now (row .entry)) ⌝ }
 {
+    if row.len() < BUILDER_WORDS {
+        return no_builder(row);
+    }
     let flags = (row[PMC_FLAG] <= 1) & (row[SWING_FLAG] <= 1);
     let pmc_mean = usable_if(flags, rows::pmc_in(row));
     let swing = rows::swing_in(&row[rows::PMC_WORDS..]);
@@ -154,12 +180,9 @@ pub extern "C" fn modelardb_model_builder_try_to_update_models(
     timestamp: i64,
     value: u32,
 ) -> u32
-    ensures number { λ r. ⌜ r ≡ stepNumber builderLength (now (state .entry)) (updateAnswer (builderIn (now (state .entry))) timestamp value) ⌝ }
-    ensures row { λ r. ⌜ now (state .exit) ≡ stepRow builderLength builderStep (now (state .entry)) (updateAnswer (builderIn (now (state .entry))) timestamp value) ⌝ }
+    ensures number { λ r. ⌜ r ≡ stepNumber (updateAnswer (builderIn (now (state .entry))) timestamp value) ⌝ }
+    ensures row { λ r. ⌜ now (state .exit) ≡ stepRow builderStep (now (state .entry)) (updateAnswer (builderIn (now (state .entry))) timestamp value) ⌝ }
 {
-    if state.len() < BUILDER_WORDS {
-        return exports::TOO_SHORT;
-    }
     let after = builder_step(builder_in(state).try_to_update_models(timestamp, value));
     let verdict = after.verdict;
     let words = builder_words(after.state);
@@ -169,12 +192,9 @@ pub extern "C" fn modelardb_model_builder_try_to_update_models(
 // The model that needs fewer bytes for each value, with metadata of m bytes, into `out`.
 #[no_mangle]
 pub extern "C" fn modelardb_model_builder_finish(state: &[u64], m: usize, out: &mut [u64]) -> u32
-    ensures number { λ r. ⌜ r ≡ askNumber builderLength (now (state .entry)) modelLength (length (now (out .entry))) (finishAnswer (builderIn (now (state .entry))) m) ⌝ }
-    ensures row { λ r. ⌜ now (out .exit) ≡ askRow builderLength (now (state .entry)) modelLength modelWords (now (out .entry)) (finishAnswer (builderIn (now (state .entry))) m) ⌝ }
+    ensures number { λ r. ⌜ r ≡ askNumber modelLength (length (now (out .entry))) (finishAnswer (builderIn (now (state .entry))) m) ⌝ }
+    ensures row { λ r. ⌜ now (out .exit) ≡ askRow modelLength modelWords (now (out .entry)) (finishAnswer (builderIn (now (state .entry))) m) ⌝ }
 {
-    if state.len() < BUILDER_WORDS {
-        return exports::TOO_SHORT;
-    }
     let b = builder_in(state);
     match b.finish(m) {
         FinishAnswer::Refused(r, _) => exports::number_with(r, MODEL_WORDS, out.len()),

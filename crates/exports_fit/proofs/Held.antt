@@ -4,8 +4,9 @@ use mathlib.Core.Bool.{Bool, cond}
 use mathlib.Core.List.{List}
 use Prim.Native.Nat.{ℕ, _%_, _^_}
 use native.Mathlib.Omega.{arith}
-use lib.Dec.{T}
-use lib.ListN.{getD}
+use lib.Dec.{T, ltb}
+use lib.IntN.{ℤ, pos}
+use lib.ListN.{length, getD}
 use lib.Ieee as Ieee
 use lib.Ieee.{Float, binary32, binary64, ofBits, fits}
 use lib.Ieee.Bits.{ofBits-fits}
@@ -36,8 +37,9 @@ use Rattle.swing.specs.Run.{Given}
 use Rattle.swing.specs.declared.Swing.{Swing}
 use Rattle.swing.proofs.Allowed.{follows-allowed}
 use Rattle.swing.proofs.Runs.{by-case, kept}
-use Rattle.exports.proofs.Back.{bound-in-held, time-in-fits}
-use Rattle.exports_fit.specs.Row.{pmcIn, swingIn}
+use Rattle.exports.specs.Words.{noCount, boundFront, timeIn}
+use Rattle.exports.proofs.Back.{bound-front-held, time-in-fits}
+use Rattle.exports_fit.specs.Row.{pmcLength, noPmc, pmcIn, swingLength, noSwing, swingIn}
 use Rattle.exports_fit.proofs.Back.{PmcHeld, SwingHeld}
 
 -- ---- PMC-Mean
@@ -45,15 +47,21 @@ pub pmc-fresh : (b : ErrorBound) → BoundHeld b → PmcHeld (Pmc.fresh b)
 unfolding Pmc.fresh fits
 pmc-fresh b h = record { bound = h; least = tt; greatest = tt; sum = tt }
 
+pub no-pmc-held : (b : ErrorBound) → BoundHeld b → PmcHeld (noPmc b)
+no-pmc-held b h = record { bound = h; least = ofBits-fits binary32 0; greatest = ofBits-fits binary32 0; sum = ofBits-fits binary64 0 }
+
 pub pmc-in : (row : List ℕ) → PmcHeld (pmcIn row)
 unfolding pmcIn
 pmc-in row =
-    record {
-      bound = bound-in-held (getD row 0 0) (getD row 1 0);
+    let bound = bound-front-held row in
+    by-test PmcHeld (ltb (length row) pmcLength) _ _
+    (λ short. no-pmc-held (boundFront row) bound)
+    (λ long. record {
+      bound = bound;
       least = ofBits-fits binary32 (getD row 2 0 % 2 ^ 32);
       greatest = ofBits-fits binary32 (getD row 3 0 % 2 ^ 32);
       sum = ofBits-fits binary64 (getD row 4 0);
-    }
+    })
 
 picked : (a v : Float) (s t : Bool) → T (fits binary32 a) → T (fits binary32 v) → T (fits binary32 (cond s v (cond t v a)))
 picked a v s t p q = cond-fits binary32 s v (cond t v a) q (cond-fits binary32 t v a q p)
@@ -96,21 +104,32 @@ swing-fresh b h =
       denominator = tt;
     }
 
+-- by the bits of its numbers
+numbers-held : (b : ErrorBound) (from to : ℤ) (a u v l k n d count : ℕ) → BoundHeld b → SFits w64 from → SFits w64 to
+    → SwingHeld (record { «error_bound» = b; «start_time» = from; «end_time» = to; «first_value» = ofBits binary64 a; «upper_bound_slope» = ofBits binary64 u; «upper_bound_intercept» = ofBits binary64 v; «lower_bound_slope» = ofBits binary64 l; «lower_bound_intercept» = ofBits binary64 k; «slope_with_minimum_mse_numerator» = ofBits binary64 n; «slope_with_minimum_mse_denominator» = ofBits binary64 d; length = count })
+numbers-held b from to a u v l k n d count h p q =
+    record {
+      bound = h;
+      start = p;
+      last = q;
+      first = ofBits-fits binary64 a;
+      upper-slope = ofBits-fits binary64 u;
+      upper-intercept = ofBits-fits binary64 v;
+      lower-slope = ofBits-fits binary64 l;
+      lower-intercept = ofBits-fits binary64 k;
+      numerator = ofBits-fits binary64 n;
+      denominator = ofBits-fits binary64 d;
+    }
+
+pub no-swing-held : (b : ErrorBound) → BoundHeld b → SwingHeld (noSwing b)
+no-swing-held b h = numbers-held b (pos 0) (pos 0) 0 0 0 0 0 0 0 noCount h (record { sfits = omega arith }) (record { sfits = omega arith })
+
 pub swing-in : (row : List ℕ) → SwingHeld (swingIn row)
 unfolding swingIn
 swing-in row =
-    record {
-      bound = bound-in-held (getD row 0 0) (getD row 1 0);
-      start = time-in-fits (getD row 2 0);
-      last = time-in-fits (getD row 3 0);
-      first = ofBits-fits binary64 (getD row 4 0);
-      upper-slope = ofBits-fits binary64 (getD row 5 0);
-      upper-intercept = ofBits-fits binary64 (getD row 6 0);
-      lower-slope = ofBits-fits binary64 (getD row 7 0);
-      lower-intercept = ofBits-fits binary64 (getD row 8 0);
-      numerator = ofBits-fits binary64 (getD row 9 0);
-      denominator = ofBits-fits binary64 (getD row 10 0);
-    }
+    let bound = bound-front-held row in
+    by-test SwingHeld (ltb (length row) swingLength) _ _ (λ short. no-swing-held (boundFront row) bound)
+    (λ long. numbers-held (boundFront row) (timeIn (getD row 2 0)) (timeIn (getD row 3 0)) (getD row 4 0) (getD row 5 0) (getD row 6 0) (getD row 7 0) (getD row 8 0) (getD row 9 0) (getD row 10 0) (getD row 11 0) bound (time-in-fits (getD row 2 0)) (time-in-fits (getD row 3 0)))
 
 abbrev LineHeld : Line → Type 0
 LineHeld l = T (fits binary64 (l .slope)) × T (fits binary64 (l .intercept))

@@ -3,3 +3,4 @@ pub mod Back
 pub mod Held
 pub mod Stands
 pub mod Answers
+pub mod Short

@@ -92,18 +92,18 @@ swing-keeps : (s : Swing) (g : Given) → SwingHeld s → NoneHolds (OfSwing.fit
 swing-keeps s g ok none =
     swing-tried s (pointOf (g .time) (g .bits)) ok (time-fits (g .time) (follows-allowed s (g .time) (not-false _ (none .1 .1 .1 .0)))) (ofBits-fits binary32 (g .bits))
 
-pub pmc-step-stands : (row : List ℕ) (value : ℕ) → pmcLength ≤ length row → pmcIn (pmcAfter row value) ≡ PmcRun.next (pmcIn row) value
+pub pmc-step-stands : (row : List ℕ) (value : ℕ) → pmcIn (pmcAfter row value) ≡ PmcRun.next (pmcIn row) value
 unfolding OfPmc.fitAnswer
 pmc-step-stands = step-stands pmcStateRow (λ s value. OfPmc.fitCauses s) pmcTried pmc-keeps
 
-pub swing-step-stands : (row : List ℕ) (g : Given) → swingLength ≤ length row → swingIn (swingAfter row g) ≡ SwingRun.next (swingIn row) g
+pub swing-step-stands : (row : List ℕ) (g : Given) → swingIn (swingAfter row g) ≡ SwingRun.next (swingIn row) g
 unfolding OfSwing.fitAnswer
 swing-step-stands = step-stands swingStateRow (λ s g. OfSwing.fitCauses s (g .time)) swingTried swing-keeps
 
-pub pmc-rows-stand : (row values : List ℕ) → pmcLength ≤ length row → pmcIn (foldl pmcAfter row values) ≡ PmcRun.run (pmcIn row) values
+pub pmc-rows-stand : (row values : List ℕ) → pmcIn (foldl pmcAfter row values) ≡ PmcRun.run (pmcIn row) values
 unfolding OfPmc.fitAnswer
 pmc-rows-stand = rows-stand pmcStateRow (λ s value. OfPmc.fitCauses s) pmcTried pmc-keeps
 
-pub swing-rows-stand : (row : List ℕ) (given : List Given) → swingLength ≤ length row → swingIn (foldl swingAfter row given) ≡ SwingRun.run (swingIn row) given
+pub swing-rows-stand : (row : List ℕ) (given : List Given) → swingIn (foldl swingAfter row given) ≡ SwingRun.run (swingIn row) given
 unfolding OfSwing.fitAnswer
 swing-rows-stand = rows-stand swingStateRow (λ s g. OfSwing.fitCauses s (g .time)) swingTried swing-keeps

@@ -30,12 +30,9 @@ pub extern "C" fn modelardb_pmc_mean_new(kind: u32, bound: u32, state: &mut [u64
 // Tries one more value; the row becomes the state after it, its last word 1 where the value fitted.
 #[no_mangle]
 pub extern "C" fn modelardb_pmc_mean_fit_value(state: &mut [u64], value: u32) -> u32
-    ensures number { λ r. ⌜ r ≡ stepNumber pmcLength (now (state .entry)) (fitAnswer (pmcIn (now (state .entry))) value) ⌝ }
-    ensures row { λ r. ⌜ now (state .exit) ≡ stepRow pmcLength pmcStepRow (now (state .entry)) (fitAnswer (pmcIn (now (state .entry))) value) ⌝ }
+    ensures number { λ r. ⌜ r ≡ stepNumber (fitAnswer (pmcIn (now (state .entry))) value) ⌝ }
+    ensures row { λ r. ⌜ now (state .exit) ≡ stepRow pmcStepRow (now (state .entry)) (fitAnswer (pmcIn (now (state .entry))) value) ⌝ }
 {
-    if state.len() < rows::PMC_WORDS {
-        return exports::TOO_SHORT;
-    }
     let after = rows::pmc_step(rows::pmc_in(state).fit_value(value));
     let verdict = after.verdict;
     let words = rows::pmc_words(after.state, after.fits);
@@ -49,12 +46,9 @@ pub extern "C" fn modelardb_pmc_mean_bytes_per_value(
     m: usize,
     out: &mut [u32],
 ) -> u32
-    ensures number { λ r. ⌜ r ≡ askNumber pmcLength (now (state .entry)) 1 (length (now (out .entry))) (costAnswer (pmcIn (now (state .entry))) m) ⌝ }
-    ensures row { λ r. ⌜ now (out .exit) ≡ askRow pmcLength (now (state .entry)) 1 wordOf32 (now (out .entry)) (costAnswer (pmcIn (now (state .entry))) m) ⌝ }
+    ensures number { λ r. ⌜ r ≡ askNumber 1 (length (now (out .entry))) (costAnswer (pmcIn (now (state .entry))) m) ⌝ }
+    ensures row { λ r. ⌜ now (out .exit) ≡ askRow 1 wordOf32 (now (out .entry)) (costAnswer (pmcIn (now (state .entry))) m) ⌝ }
 {
-    if state.len() < rows::PMC_WORDS {
-        return exports::TOO_SHORT;
-    }
     let answer = rows::pmc_in(state).bytes_per_value(m);
     exports::put_value(exports::pattern_in(rows::pmc_cost(answer)), out)
 }
@@ -62,12 +56,9 @@ pub extern "C" fn modelardb_pmc_mean_bytes_per_value(
 // The average's pattern into out[0].
 #[no_mangle]
 pub extern "C" fn modelardb_pmc_mean_model(state: &[u64], out: &mut [u32]) -> u32
-    ensures number { λ r. ⌜ r ≡ askNumber pmcLength (now (state .entry)) 1 (length (now (out .entry))) (modelAnswer (pmcIn (now (state .entry)))) ⌝ }
-    ensures row { λ r. ⌜ now (out .exit) ≡ askRow pmcLength (now (state .entry)) 1 oneWord (now (out .entry)) (modelAnswer (pmcIn (now (state .entry)))) ⌝ }
+    ensures number { λ r. ⌜ r ≡ askNumber 1 (length (now (out .entry))) (modelAnswer (pmcIn (now (state .entry)))) ⌝ }
+    ensures row { λ r. ⌜ now (out .exit) ≡ askRow 1 oneWord (now (out .entry)) (modelAnswer (pmcIn (now (state .entry)))) ⌝ }
 {
-    if state.len() < rows::PMC_WORDS {
-        return exports::TOO_SHORT;
-    }
     let answer = rows::pmc_in(state).model();
     exports::put_value(rows::pmc_model(answer), out)
 }

@@ -35,12 +35,9 @@ pub extern "C" fn modelardb_swing_fit_data_point(
     timestamp: i64,
     value: u32,
 ) -> u32
-    ensures number { λ r. ⌜ r ≡ stepNumber swingLength (now (state .entry)) (fitAnswer (swingIn (now (state .entry))) timestamp value) ⌝ }
-    ensures row { λ r. ⌜ now (state .exit) ≡ stepRow swingLength swingStepRow (now (state .entry)) (fitAnswer (swingIn (now (state .entry))) timestamp value) ⌝ }
+    ensures number { λ r. ⌜ r ≡ stepNumber (fitAnswer (swingIn (now (state .entry))) timestamp value) ⌝ }
+    ensures row { λ r. ⌜ now (state .exit) ≡ stepRow swingStepRow (now (state .entry)) (fitAnswer (swingIn (now (state .entry))) timestamp value) ⌝ }
 {
-    if state.len() < rows::SWING_WORDS {
-        return exports::TOO_SHORT;
-    }
     let after = rows::swing_step(rows::swing_in(state).fit_data_point(timestamp, value));
     let verdict = after.verdict;
     let words = rows::swing_words(after.state, after.fits);
@@ -50,12 +47,9 @@ pub extern "C" fn modelardb_swing_fit_data_point(
 // The f32 pattern of the bytes for each value into out[0].
 #[no_mangle]
 pub extern "C" fn modelardb_swing_bytes_per_value(state: &[u64], m: usize, out: &mut [u32]) -> u32
-    ensures number { λ r. ⌜ r ≡ askNumber swingLength (now (state .entry)) 1 (length (now (out .entry))) (costAnswer (swingIn (now (state .entry))) m) ⌝ }
-    ensures row { λ r. ⌜ now (out .exit) ≡ askRow swingLength (now (state .entry)) 1 wordOf32 (now (out .entry)) (costAnswer (swingIn (now (state .entry))) m) ⌝ }
+    ensures number { λ r. ⌜ r ≡ askNumber 1 (length (now (out .entry))) (costAnswer (swingIn (now (state .entry))) m) ⌝ }
+    ensures row { λ r. ⌜ now (out .exit) ≡ askRow 1 wordOf32 (now (out .entry)) (costAnswer (swingIn (now (state .entry))) m) ⌝ }
 {
-    if state.len() < rows::SWING_WORDS {
-        return exports::TOO_SHORT;
-    }
     let answer = rows::swing_in(state).bytes_per_value(m);
     exports::put_value(exports::pattern_in(rows::swing_cost(answer)), out)
 }
@@ -63,12 +57,9 @@ pub extern "C" fn modelardb_swing_bytes_per_value(state: &[u64], m: usize, out: 
 // The patterns of the line's first and last value into out[0] and out[1].
 #[no_mangle]
 pub extern "C" fn modelardb_swing_model(state: &[u64], out: &mut [u32]) -> u32
-    ensures number { λ r. ⌜ r ≡ askNumber swingLength (now (state .entry)) 2 (length (now (out .entry))) (modelAnswer (swingIn (now (state .entry)))) ⌝ }
-    ensures row { λ r. ⌜ now (out .exit) ≡ askRow swingLength (now (state .entry)) 2 endsRow (now (out .entry)) (modelAnswer (swingIn (now (state .entry)))) ⌝ }
+    ensures number { λ r. ⌜ r ≡ askNumber 2 (length (now (out .entry))) (modelAnswer (swingIn (now (state .entry)))) ⌝ }
+    ensures row { λ r. ⌜ now (out .exit) ≡ askRow 2 endsRow (now (out .entry)) (modelAnswer (swingIn (now (state .entry)))) ⌝ }
 {
-    if state.len() < rows::SWING_WORDS {
-        return exports::TOO_SHORT;
-    }
     let answer = rows::swing_in(state).model();
     exports::put_ends(rows::swing_model(answer), out)
 }

@@ -3,16 +3,15 @@
 use exports::FloatAnswer;
 use exports::PairAnswer;
 use exports::words;
+use models::ErrorBound;
 use models::ValueAnswer;
 use models::Verdict;
 use pmc_mean::PMCMean;
 use swing::Swing;
 ghost use mathlib.Core.Path.{_≡_};
 ghost use mathlib.Core.Bool.{cond};
-ghost use Prim.Native.Nat.{_≤_};
-ghost use lib.ListN.{length};
 ghost use Rattle.exports.specs.Words.{noCount};
-ghost use Rattle.exports_fit.specs.Row.{pmcLength, pmcIn, pmcRow, swingLength, swingIn, swingRow};
+ghost use Rattle.exports_fit.specs.Row.{noPmc, pmcIn, pmcRow, noSwing, swingIn, swingRow};
 ghost use Rattle.exports_fit.specs.inner.Answers.{pmcStepOf, pmcCostOf, pmcModelOf, swingStepOf, swingCostOf, swingModelOf};
 
 // ---- PMC-Mean
@@ -26,11 +25,26 @@ fn length_in(is: bool, word: u64) -> usize
     if is { word as usize } else { words::NO_COUNT }
 }
 
+// The state that no call allows, with a bound to judge before it.
+pub fn no_pmc(error_bound: ErrorBound) -> PMCMean
+    ensures { λ r. ⌜ r ≡ noPmc «error_bound» ⌝ }
+{
+    PMCMean {
+        error_bound,
+        min_value: 0.0,
+        max_value: 0.0,
+        sum_of_values: 0.0,
+        length: words::NO_COUNT,
+    }
+}
+
 pub fn pmc_in(row: &[u64]) -> PMCMean
-    requires { ⌜ pmcLength ≤ length (now row) ⌝ }
     ensures { λ r. ⌜ r ≡ pmcIn (now (row .entry)) ⌝ }
 {
-    let error_bound = words::bound_in(row[0], row[1]);
+    let error_bound = words::bound_front(row);
+    if row.len() < PMC_WORDS {
+        return no_pmc(error_bound);
+    }
     let is = words::is_small(row[2]) & words::is_small(row[3]);
     PMCMean {
         error_bound,
@@ -60,11 +74,31 @@ pub fn pmc_words(s: PMCMean, fits: bool) -> [u64; PMC_WORDS]
 
 pub const SWING_WORDS: usize = 13;
 
+pub fn no_swing(error_bound: ErrorBound) -> Swing
+    ensures { λ r. ⌜ r ≡ noSwing «error_bound» ⌝ }
+{
+    Swing {
+        error_bound,
+        start_time: 0,
+        end_time: 0,
+        first_value: 0.0,
+        upper_bound_slope: 0.0,
+        upper_bound_intercept: 0.0,
+        lower_bound_slope: 0.0,
+        lower_bound_intercept: 0.0,
+        slope_with_minimum_mse_numerator: 0.0,
+        slope_with_minimum_mse_denominator: 0.0,
+        length: words::NO_COUNT,
+    }
+}
+
 pub fn swing_in(row: &[u64]) -> Swing
-    requires { ⌜ swingLength ≤ length (now row) ⌝ }
     ensures { λ r. ⌜ r ≡ swingIn (now (row .entry)) ⌝ }
 {
-    let error_bound = words::bound_in(row[0], row[1]);
+    let error_bound = words::bound_front(row);
+    if row.len() < SWING_WORDS {
+        return no_swing(error_bound);
+    }
     Swing {
         error_bound,
         start_time: words::time_in(row[2]),

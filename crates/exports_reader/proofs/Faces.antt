@@ -1,22 +1,26 @@
 -- What the calls on a reader's row answer and leave, case by case; and a row is read back as the reader that it was made of. Assumes nothing.
 use mathlib.Core.Path.{_≡_, refl, sym, ap, ap₂, _∙_}
-use mathlib.Core.Bool.{Bool, true, false, cond, not, _&&_}
-use mathlib.Core.List.{List, _++_}
-use Prim.Native.Nat.{ℕ, _%_, _^_, _≤_, _<_}
+use mathlib.Core.Bool.{Bool, true, false, cond, not}
+use mathlib.Core.List.{List, _∷_, _++_}
+use Prim.Native.Nat.{ℕ, _*_, _%_, _^_, _≤_, _<_}
+use native.Mathlib.Omega.{arith}
 use borrow.Author.Tests.{le-leb, lt-leb, leb-true, leb-false, lt-ltb, le-ltb}
 use lib.Dec.{eqb, leb, ltb}
-use lib.ListN.{length, set, getD}
-use Rattle.models.specs.Answers.{Fault, answered, SaidOn, answeredOn, refusedOn, stateless, judge}
-use Rattle.models.proofs.Tests.{and-left, and-right}
-use Rattle.exports.specs.Face.{refusalNumber, numberOf, rowAfter, askNumber, askRow, rowIn}
+use lib.ListN.{length, drop, getD}
+use Rattle.models.specs.Answers.{Fault, fault, answered, refused, SaidOn, answeredOn, refusedOn, stateless, judge}
+use Rattle.models.proofs.Judged.{not-answered-on}
+use Rattle.models.proofs.Tests.{and-left, and-right, and-parts, and-false}
+use Rattle.stream.specs.Format.{keepsRule}
+use Rattle.macaque_v.specs.Calls.{lentBytes}
+use Rattle.exports.specs.Face.{refusalNumber, numberOf, rowAfter, askNumber, askRow, rowIn, stepRow}
 use Rattle.exports.specs.Words.{small}
 use Rattle.exports.proofs.Back.{flag-small, flag-back}
 use Rattle.exports.proofs.Small.{low-is}
-use Rattle.exports.proofs.Rows.{Faced, same, refused-row, short-row, full-row, one-set, ask-short, ask-said}
+use Rattle.exports.proofs.Rows.{Faced, same, refused-row, short-row, full-row}
 use Rattle.exports_stream.specs.Calls.{openingOf}
-use Rattle.reader.specs.Calls.{openedAt, Taken}
+use Rattle.reader.specs.Calls.{openedAt, mayUse, Taken, nextAnswer, endAnswer}
 use Rattle.reader.specs.declared.position.Position.{Position}
-use Rattle.exports_reader.specs.Row.{readerLength, readerRow, standsForReader, spoiledPosition, positionIn}
+use Rattle.exports_reader.specs.Row.{readerLength, readerRow, standsForReader, spoiledPosition, readPosition, positionIn}
 use Rattle.exports_reader.specs.Calls.{openNumber, openRow, oneValue, movedRow, nextRow}
 
 -- ---- open
@@ -42,32 +46,25 @@ open-said mode opening row one f =
 module _ (row out : List ℕ) (said : SaidOn Position Taken) where
   -- the number, the reader's row and the output
   abbrev Nexted : ℕ → List ℕ → List ℕ → Type 0
-  Nexted number row′ out′ = (number ≡ askNumber readerLength row 1 (length out) said) × (row′ ≡ nextRow row out said) × (out′ ≡ askRow readerLength row 1 oneValue out said)
+  Nexted number row′ out′ = (number ≡ askNumber 1 (length out) said) × (row′ ≡ nextRow row out said) × (out′ ≡ askRow 1 oneValue out said)
 
-  pub next-short : length row < readerLength → Nexted 4 row out
+  pub next-refused : (f : Fault) (p : Position) → said ≡ refusedOn f p → Nexted (refusalNumber 1 (length out) (f .number)) row out
   unfolding nextRow
-  next-short h =
-      let a = ask-short readerLength oneValue row said 1 out h in
-      (a .0, sym (rw (lt-leb readerLength (length row) h)), a .1)
+  next-refused f p e =
+      let a = refused-row oneValue 1 out (stateless said) f (ap stateless e) refl in
+      (a .0, sym (ap (λ (q : SaidOn Position Taken). cond (leb 1 (length out)) (stepRow movedRow row q) row) e ∙ same (leb 1 (length out)) row), a .1)
 
-  module _ (h : readerLength ≤ length row) where
-    pub next-refused : (f : Fault) (p : Position) → said ≡ refusedOn f p → Nexted (refusalNumber 1 (length out) (f .number)) row out
-    unfolding nextRow
-    next-refused f p e =
-        let a = ask-said readerLength oneValue row said 1 out h (refused-row oneValue 1 out (stateless said) f (ap stateless e) refl) in
-        (a .0, sym (ap (λ (q : SaidOn Position Taken). cond (leb readerLength (length row) && leb 1 (length out)) (rowIn movedRow row (stateless q)) row) e ∙ same (leb readerLength (length row) && leb 1 (length out)) row), a .1)
+  pub next-no-room : (t : Taken) → said ≡ answeredOn t → length out < 1 → Nexted 4 row out
+  unfolding nextRow
+  next-no-room t e g =
+      let a = short-row oneValue 1 out (stateless said) t (ap stateless e) g in
+      (a .0, sym (rw (lt-leb 1 (length out) g)), a .1)
 
-    pub next-no-room : (t : Taken) → said ≡ answeredOn t → length out < 1 → Nexted 4 row out
-    unfolding nextRow
-    next-no-room t e g =
-        let a = ask-said readerLength oneValue row said 1 out h (short-row oneValue 1 out (stateless said) t (ap stateless e) g) in
-        (a .0, sym (rw (le-leb readerLength (length row) h, lt-leb 1 (length out) g)), a .1)
-
-    pub next-answered : (t : Taken) → said ≡ answeredOn t → 1 ≤ length out → Nexted 0 (rowIn readerRow row (answered (t .after))) (set out 0 (t .value))
-    unfolding nextRow
-    next-answered t e g =
-        let a = ask-said readerLength oneValue row said 1 out h (full-row oneValue 1 out (stateless said) t (ap stateless e) g) in
-        (a .0, sym (rw (le-leb readerLength (length row) h, le-leb 1 (length out) g) (ap (λ (q : SaidOn Position Taken). rowIn movedRow row (stateless q)) e)), one-set out (t .value) g ∙ a .1)
+  pub next-answered : (t : Taken) → said ≡ answeredOn t → 1 ≤ length out → Nexted 0 (rowIn readerRow row (answered (t .after))) (t .value ∷ drop 1 out)
+  unfolding nextRow
+  next-answered t e g =
+      let a = full-row oneValue 1 out (stateless said) t (ap stateless e) g in
+      (a .0, sym (rw (le-leb 1 (length out) g) (ap (stepRow movedRow row) e)), a .1)
 
 -- ---- where a reader stands, from its row
 
@@ -77,25 +74,67 @@ standing row last lead trail =
     record { «with_first» = eqb (getD row 3 0) 1; at = record { last = last; lead = lead; trail = trail; place = getD row 4 0; count = getD row 5 0 } }
 
 module _ (row : List ℕ) where
+  -- a row that is too short stands for none
+  pub short-stands-for-none : length row < readerLength → standsForReader row ≡ false
+  unfolding standsForReader
+  short-stands-for-none h = rw (lt-leb readerLength (length row) h)
+
   pub no-reader : standsForReader row ≡ false → spoiledPosition ≡ positionIn row
   unfolding positionIn
   no-reader e = sym (rw e)
 
-  pub a-reader : standsForReader row ≡ true → standing row (getD row 0 0 % 2 ^ 32) (getD row 1 0 % 2 ^ 32) (getD row 2 0 % 2 ^ 32) ≡ positionIn row
-  unfolding positionIn standsForReader
-  a-reader e =
-      let e₁ = and-right (small (getD row 0 0)) _ e in
-      let e₂ = and-right (small (getD row 1 0)) _ e₁ in
-      ap₂ (λ (x y : ℕ). standing row x y (getD row 2 0 % 2 ^ 32)) (low-is (getD row 0 0) (and-left (small (getD row 0 0)) _ e)) (low-is (getD row 1 0) (and-left (small (getD row 1 0)) _ e₁))
-      ∙ ap (standing row (getD row 0 0) (getD row 1 0)) (low-is (getD row 2 0) (and-left (small (getD row 2 0)) _ e₂))
-      ∙ sym (rw e)
+  module _ (e : standsForReader row ≡ true) where
+    pub has-words : readerLength ≤ length row
+    unfolding standsForReader
+    has-words = leb-true readerLength (length row) (and-left _ _ e)
+
+    -- its three words of 32 bits
+    pub small-words : (small (getD row 0 0) ≡ true) × (small (getD row 1 0) ≡ true) × (small (getD row 2 0) ≡ true)
+    unfolding standsForReader
+    small-words =
+        let e₀ = and-parts (small (getD row 0 0)) _ (and-right (leb readerLength (length row)) _ e) in
+        let e₁ = and-parts (small (getD row 1 0)) _ (e₀ .1) in
+        (e₀ .0, e₁ .0, and-left (small (getD row 2 0)) _ (e₁ .1))
+
+    pub low-words : standing row (getD row 0 0 % 2 ^ 32) (getD row 1 0 % 2 ^ 32) (getD row 2 0 % 2 ^ 32) ≡ readPosition row
+    low-words =
+        ap₂ (λ (x y : ℕ). standing row x y (getD row 2 0 % 2 ^ 32)) (low-is (getD row 0 0) (small-words .0)) (low-is (getD row 1 0) (small-words .1))
+        ∙ ap (standing row (getD row 0 0) (getD row 1 0)) (low-is (getD row 2 0) (small-words .2))
+
+    pub a-reader : readPosition row ≡ positionIn row
+    unfolding positionIn
+    a-reader = sym (rw e)
 
 pub reader-long : (p : Position) → length (readerRow p) ≡ readerLength
 unfolding readerRow
 reader-long p = refl
 
--- the row that a call left stands for the reader that it was made of
+-- ---- a row that stands for no reader is refused with 2
+
+spoiled-may-not : (bytes : ℕ) → mayUse bytes (spoiledPosition .at) ≡ false
+unfolding keepsRule
+spoiled-may-not bytes = and-false (leb (spoiledPosition .at .place) (8 * lentBytes bytes)) _ refl
+
+module _ (bytes row : List ℕ) where
+  module _ (none : standsForReader row ≡ false) where
+    pub no-reader-next : nextAnswer bytes (positionIn row) ≡ refusedOn (fault 2) (positionIn row)
+    unfolding nextAnswer judge
+    no-reader-next = rw (← no-reader row none, spoiled-may-not (length bytes))
+
+    pub no-reader-end : endAnswer bytes (positionIn row) ≡ refused (fault 2)
+    unfolding endAnswer judge
+    no-reader-end = rw (← no-reader row none, spoiled-may-not (length bytes))
+
+  -- so a value tells that the row stands for one
+  pub stands : (t : Taken) → nextAnswer bytes (positionIn row) ≡ answeredOn t → standsForReader row ≡ true
+  stands t e = go (standsForReader row) refl
+    where
+      go : (b : Bool) → standsForReader row ≡ b → b ≡ true
+      go true h = refl
+      go false h = absurd (not-answered-on (sym (no-reader-next h) ∙ e))
+
+-- ---- the row that a call left stands for the reader that it was made of
 pub position-back : (p : Position) (rest : List ℕ) → p .at .last < 2 ^ 32 → p .at .lead < 2 ^ 32 → p .at .trail < 2 ^ 32 → positionIn (readerRow p ++ rest) ≡ p
 unfolding positionIn readerRow standsForReader
 position-back p rest a b c =
-    rw (lt-ltb (p .at .last) (2 ^ 32) a, lt-ltb (p .at .lead) (2 ^ 32) b, lt-ltb (p .at .trail) (2 ^ 32) c, flag-small (p .«with_first»), flag-back (p .«with_first»))
+    rw (le-leb readerLength (length (readerRow p ++ rest)) (omega arith), lt-ltb (p .at .last) (2 ^ 32) a, lt-ltb (p .at .lead) (2 ^ 32) b, lt-ltb (p .at .trail) (2 ^ 32) c, flag-small (p .«with_first»), flag-back (p .«with_first»))

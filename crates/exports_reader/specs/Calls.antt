@@ -1,11 +1,11 @@
 -- What the calls of the reader's C face answer and leave: the number, and the lent memory afterwards, by what the call behind says. Assumes nothing.
-use mathlib.Core.Bool.{cond, _&&_}
+use mathlib.Core.Bool.{cond}
 use mathlib.Core.List.{List, [], _∷_}
 use Prim.Native.Nat.{ℕ}
 use lib.Dec.{leb, ltb}
 use lib.ListN.{length}
-use Rattle.models.specs.Answers.{SaidOn, stateless, answered, Cause, _when_, judge, judgedMemory, faultNumber}
-use Rattle.exports.specs.Face.{plainNumber, rowIn}
+use Rattle.models.specs.Answers.{SaidOn, answered, Cause, _when_, judge, judgedMemory, faultNumber}
+use Rattle.exports.specs.Face.{plainNumber, rowIn, stepRow}
 use Rattle.exports_stream.specs.Calls.{openingOf}
 use Rattle.reader.specs.Calls.{openedAt, Taken, endAnswer}
 use Rattle.reader.specs.declared.position.Position.{Position}
@@ -22,7 +22,7 @@ openNumber mode row = judge faultNumber (openCauses mode (length row)) 0
 unfoldable pub openRow : ℕ → ℕ → List ℕ → List ℕ
 openRow mode opening row = judgedMemory row (openCauses mode (length row)) (rowIn readerRow row (answered (openedAt (openingOf mode opening))))
 
--- ---- next: the row is read before anything is judged, so a row that is too short is 4 first. It moves exactly if the value is handed over.
+-- ---- next: a question to the reader that the row stands for, whose value goes into the output. The row moves exactly if the value is handed over.
 
 abbrev pub oneValue : Taken → List ℕ
 oneValue t = t .value ∷ []
@@ -31,9 +31,9 @@ abbrev pub movedRow : Taken → List ℕ
 movedRow t = readerRow (t .after)
 
 unfoldable pub nextRow : List ℕ → List ℕ → SaidOn Position Taken → List ℕ
-nextRow row out said = cond (leb readerLength (length row) && leb 1 (length out)) (rowIn movedRow row (stateless said)) row
+nextRow row out said = cond (leb 1 (length out)) (stepRow movedRow row said) row
 
 -- ---- end
 
-unfoldable pub endNumber : List ℕ → List ℕ → ℕ
-endNumber bytes row = cond (leb readerLength (length row)) (plainNumber (endAnswer bytes (positionIn row))) 4
+abbrev pub endNumber : List ℕ → List ℕ → ℕ
+endNumber bytes row = plainNumber (endAnswer bytes (positionIn row))

@@ -1,3 +1,4 @@
 -- What the contracts of `exports_reader` cite.
 pub mod Row
 pub mod Calls
+pub mod Run

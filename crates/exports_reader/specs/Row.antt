@@ -4,7 +4,7 @@ use mathlib.Core.Bool.{Bool, false, cond, _&&_}
 use mathlib.Core.List.{List, [], _∷_}
 use Prim.Native.Nat.{ℕ}
 use lib.Dec.{eqb, leb}
-use lib.ListN.{getD}
+use lib.ListN.{length, getD}
 use Rattle.exports.specs.Face.{wordOf}
 use Rattle.exports.specs.Words.{small}
 use Rattle.stream.specs.Format.{opening}
@@ -16,9 +16,10 @@ readerLength = 6
 unfoldable pub readerRow : Position → List ℕ
 readerRow p = p .at .last ∷ p .at .lead ∷ p .at .trail ∷ wordOf (p .«with_first») ∷ p .at .place ∷ p .at .count ∷ []
 
--- words of 32 bits where a reader has such, and a flag of 0 or 1
+-- six words or more, words of 32 bits where a reader has such, and a flag of 0 or 1
 unfoldable pub standsForReader : List ℕ → Bool
-standsForReader row = small (getD row 0 0) && (small (getD row 1 0) && (small (getD row 2 0) && leb (getD row 3 0) 1))
+standsForReader row =
+    leb readerLength (length row) && (small (getD row 0 0) && (small (getD row 1 0) && (small (getD row 2 0) && leb (getD row 3 0) 1)))
 
 -- where no stream allows a reader: it has a place and no value
 abbrev pub spoiledPosition : Position
@@ -31,5 +32,6 @@ readPosition row =
       at = record { last = getD row 0 0; lead = getD row 1 0; trail = getD row 2 0; place = getD row 4 0; count = getD row 5 0 };
     }
 
+-- a row that is too short stands for no reader, as one with wrong words does
 unfoldable pub positionIn : List ℕ → Position
 positionIn row = cond (standsForReader row) (readPosition row) spoiledPosition

@@ -7,7 +7,7 @@ ghost use Rattle.exports.specs.Face.{askNumber, askRow, numberOf, rowAfter, one
 ghost use Rattle.exports_stream.specs.Calls.{openingOf, countIn};
 ghost use Rattle.reader.specs.Calls.{nextAnswer};
 ghost use Rattle.reader.specs.Run.{lastAnswer};
-ghost use Rattle.exports_reader.specs.Row.{readerLength, positionIn};
+ghost use Rattle.exports_reader.specs.Row.{positionIn};
 ghost use Rattle.exports_reader.specs.Calls.{openNumber, openRow, oneValue, nextRow, endNumber};
 use models::ValueAnswer;
 use models::Verdict;
@@ -29,16 +29,14 @@ pub extern "C" fn modelardb_reader_open(mode: u32, opening: u32, reader: &mut [u
     exports::put_said(Verdict::Passed, &row::position_words(start), reader)
 }
 
-// The next value into out[0]; the row becomes the reader behind it.
+// The next value into out[0]; the row becomes the reader behind it. A row that is too short stands for no
+// reader, as one with wrong words does: it is refused with 2.
 #[no_mangle]
 pub extern "C" fn modelardb_reader_next(bytes: &[u8], reader: &mut [u64], out: &mut [u32]) -> u32
-    ensures number { λ r. ⌜ r ≡ askNumber readerLength (now (reader .entry)) 1 (length (now (out .entry))) (nextAnswer (now (bytes .entry)) (positionIn (now (reader .entry)))) ⌝ }
+    ensures number { λ r. ⌜ r ≡ askNumber 1 (length (now (out .entry))) (nextAnswer (now (bytes .entry)) (positionIn (now (reader .entry)))) ⌝ }
     ensures row { λ r. ⌜ now (reader .exit) ≡ nextRow (now (reader .entry)) (now (out .entry)) (nextAnswer (now (bytes .entry)) (positionIn (now (reader .entry)))) ⌝ }
-    ensures value { λ r. ⌜ now (out .exit) ≡ askRow readerLength (now (reader .entry)) 1 oneValue (now (out .entry)) (nextAnswer (now (bytes .entry)) (positionIn (now (reader .entry)))) ⌝ }
+    ensures value { λ r. ⌜ now (out .exit) ≡ askRow 1 oneValue (now (out .entry)) (nextAnswer (now (bytes .entry)) (positionIn (now (reader .entry)))) ⌝ }
 {
-    if reader.len() < row::WORDS {
-        return exports::TOO_SHORT;
-    }
     let step = position::step_from(bytes, row::position_in(reader));
     let answer = step.answer;
     match answer {
@@ -53,14 +51,11 @@ pub extern "C" fn modelardb_reader_next(bytes: &[u8], reader: &mut [u64], out: &
     }
 }
 
-// Whether the stream ends behind the values read.
+// Whether the stream ends behind the values read; of a row that stands for no reader 2.
 #[no_mangle]
 pub extern "C" fn modelardb_reader_end(bytes: &[u8], reader: &[u64]) -> u32
     ensures { λ r. ⌜ r ≡ endNumber (now (bytes .entry)) (now (reader .entry)) ⌝ }
 {
-    if reader.len() < row::WORDS {
-        return exports::TOO_SHORT;
-    }
     match position::end_from(bytes, row::position_in(reader)) {
         Verdict::Refused(r) => models::number_of(r),
         Verdict::Passed => 0,

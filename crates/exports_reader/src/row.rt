@@ -1,9 +1,10 @@
 // Where a reader stands as a row of six words (specs/Row.antt): to the row, and back. A row that stands
 // for no reader stands for one that the call behind refuses.
 ghost use mathlib.Core.Path.{_≡_};
+ghost use mathlib.Core.Bool.{true};
 ghost use Prim.Native.Nat.{_≤_};
 ghost use lib.ListN.{length};
-ghost use Rattle.exports_reader.specs.Row.{readerLength, readerRow, standsForReader, positionIn};
+ghost use Rattle.exports_reader.specs.Row.{readerLength, readerRow, standsForReader, readPosition, positionIn};
 use exports::words;
 use macaque_v::MacaqueV;
 use macaque_v::read_run::Cursor;
@@ -25,30 +26,22 @@ pub fn position_words(p: Position) -> [u64; WORDS]
     ]
 }
 
+// A row that is too short stands for no reader.
 fn stands_for_reader(row: &[u64]) -> bool
-    requires { ⌜ readerLength ≤ length (now row) ⌝ }
     ensures { λ r. ⌜ r ≡ standsForReader (now (row .entry)) ⌝ }
 {
+    if row.len() < WORDS {
+        return false;
+    }
     words::is_small(row[0]) & (words::is_small(row[1]) & (words::is_small(row[2]) & (row[3] <= 1)))
 }
 
-// Where the reader stands that a row stands for.
-pub fn position_in(row: &[u64]) -> Position
-    requires { ⌜ readerLength ≤ length (now row) ⌝ }
-    ensures { λ r. ⌜ r ≡ positionIn (now (row .entry)) ⌝ }
+// The reader in a row that stands for one.
+fn read_position(row: &[u64]) -> Position
+    requires words { ⌜ readerLength ≤ length (now row) ⌝ }
+    requires stands { ⌜ standsForReader (now row) ≡ true ⌝ }
+    ensures { λ r. ⌜ r ≡ readPosition (now (row .entry)) ⌝ }
 {
-    if !stands_for_reader(row) {
-        return Position {
-            with_first: false,
-            at: Cursor {
-                last: 0,
-                lead: MacaqueV::OPENING_LEADING,
-                trail: MacaqueV::OPENING_TRAILING,
-                place: 1,
-                count: 0,
-            },
-        };
-    }
     let at = Cursor {
         last: words::low(row[0]),
         lead: words::low(row[1]),
@@ -59,5 +52,24 @@ pub fn position_in(row: &[u64]) -> Position
     Position {
         with_first: row[3] == 1,
         at,
+    }
+}
+
+// Where the reader stands that a row stands for.
+pub fn position_in(row: &[u64]) -> Position
+    ensures { λ r. ⌜ r ≡ positionIn (now (row .entry)) ⌝ }
+{
+    if stands_for_reader(row) {
+        return read_position(row);
+    }
+    Position {
+        with_first: false,
+        at: Cursor {
+            last: 0,
+            lead: MacaqueV::OPENING_LEADING,
+            trail: MacaqueV::OPENING_TRAILING,
+            place: 1,
+            count: 0,
+        },
     }
 }

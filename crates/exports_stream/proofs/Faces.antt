@@ -1,22 +1,33 @@
 -- What the calls on a writer's row answer and leave, case by case. Assumes nothing.
-use mathlib.Core.Path.{_≡_, sym, ap, _∙_}
+use mathlib.Core.Path.{_≡_, refl, sym, ap, _∙_}
+use mathlib.Core.Bool.{Bool, true, false, not}
 use mathlib.Core.List.{List}
-use Prim.Native.Nat.{ℕ, _≤_, _<_}
-use borrow.Author.Tests.{le-leb, lt-leb}
+use mathlib.Core.Logic.{inl}
+use Prim.Native.Nat.{ℕ, _*_, _≤_}
+use lib.Dec.{leb}
 use lib.ListN.{length}
-use Rattle.models.specs.Answers.{Said, verdict, keeping, faultNumber}
+use Rattle.models.specs.Answers.{Said, Done, answered, refused, answeredOn, refusedOn, stateless, verdict, keeping, faultNumber}
+use Rattle.models.specs.Bound.{boundAllowed}
 use Rattle.models.specs.Refusals.{number}
 use Rattle.models.specs.Calls.{saysVerdict}
+use Rattle.models.specs.declared.ErrorBound.{ErrorBound}
 use Rattle.models.specs.declared.Refusal.{Refusal}
 use Rattle.models.specs.declared.Verdict.{Verdict}
 use Rattle.models.specs.declared.Verdict.the-variants.{Passed, Refused}
-use Rattle.models.proofs.Judged.{when-passed, when-refused}
-use Rattle.macaque_v.specs.Calls.{newAnswer, writeAnswer, writeMemory}
+use Rattle.models.proofs.Judged.{when-passed, when-refused, not-answered}
+use Rattle.models.proofs.Tests.{and-false}
+use Rattle.stream.specs.Format.{macaque, keepsRule, usable}
+use Rattle.macaque_v.specs.State.{stateOf}
+use Rattle.macaque_v.specs.Calls.{newAnswer, lentBytes, writeAnswer}
 use Rattle.macaque_v.specs.declared.MacaqueV.{MacaqueV}
-use Rattle.exports.specs.Face.{boundOf, plainNumber, rowIn, stepNumber, stepRow}
-use Rattle.exports.proofs.Rows.{step-short}
-use Rattle.exports_stream.specs.Row.{writerLength, writerRow, writerIn}
-use Rattle.exports_stream.specs.Calls.{openingOf, newCauses, newNumber, newRow, writeBuffer}
+use Rattle.exports.specs.Face.{boundOf, plainNumber, rowIn, noState}
+use Rattle.exports.specs.Words.{boundFront}
+use Rattle.exports.specs.inner.Put.{worded, wordsSaid, wholeRow}
+use Rattle.exports.proofs.Rows.{Faced, put, step-said}
+use Rattle.exports.proofs.Rows as rows
+use Rattle.exports_stream.specs.Row.{writerLength, writerRow, standsForState, spoiledWriter, writerIn}
+use Rattle.exports_stream.proofs.Words.{no-state}
+use Rattle.exports_stream.specs.Calls.{openingOf, newCauses, newNumber, newRow}
 use Rattle.exports_stream.specs.Calls.{reopenFaceCauses, reopenSaid, reopenLeft, reopenNumber, reopenRow, reopenBuffer}
 
 -- ---- new, by the verdict on its causes
@@ -59,15 +70,34 @@ module _ (buf : List ℕ) (used count k mode opening kind bound : ℕ) (row : Li
         when-passed causes v says (keeping buf) _ e,
       )
 
+-- ---- a state that is handed out, in a row that holds its words
+
+pub put-plain : (row : List ℕ) (said : Said MacaqueV) (v : Verdict) (ws : List ℕ) → writerLength ≤ length row → length ws ≡ writerLength → wordsSaid v ws ≡ worded writerRow said
+    → {number : ℕ} {after : List ℕ} → Faced wholeRow (length ws) row (wordsSaid v ws) number after → (number ≡ plainNumber said) × (after ≡ rowIn writerRow row said)
+put-plain row (answered m) v ws room size e f =
+    step-said {S = Done} writerLength writerRow row (answeredOn m) (inl room) (put writerRow writerLength row (answered m) v ws size e f)
+put-plain row (refused n) v ws room size e f =
+    step-said {S = Done} writerLength writerRow row (refusedOn n tt) (inl room) (put writerRow writerLength row (refused n) v ws size e f)
+
 -- ---- compress_values
 
-module _ (row xs buf : List ℕ) where
-  pub too-short : length row < writerLength → (4 ≡ stepNumber writerLength row (writeAnswer (writerIn row) xs buf)) × (row ≡ stepRow writerLength writerRow row (writeAnswer (writerIn row) xs buf)) × (buf ≡ writeBuffer row xs buf)
-  unfolding writeBuffer
-  too-short h =
-      let f = step-short writerLength writerRow row (writeAnswer (writerIn row) xs buf) h in
-      (f .0, f .1, sym (rw (lt-leb writerLength (length row) h)))
+-- it has a place and no value
+spoiled-may-not : (b : ErrorBound) (bytes : ℕ) → usable macaque bytes (stateOf (spoiledWriter b)) ≡ false
+unfolding keepsRule
+spoiled-may-not b bytes = and-false (leb ((spoiledWriter b) .place) (8 * bytes)) _ refl
 
-  pub memory : writerLength ≤ length row → writeMemory (writerIn row) xs buf ≡ writeBuffer row xs buf
-  unfolding writeBuffer
-  memory h = sym (rw (le-leb writerLength (length row) h))
+module _ (row xs buf : List ℕ) where
+  -- a row that stands for no state is refused: with 1 where its bound is not allowed, else with 2
+  pub no-state-refused : standsForState row ≡ false → stateless (writeAnswer (writerIn row) xs buf) ≡ refused (noState (boundAllowed (boundFront row)))
+  unfolding writeAnswer
+  no-state-refused h =
+      ap (λ (m : MacaqueV). stateless (writeAnswer m xs buf)) (sym (no-state row h))
+      ∙ rows.no-state (spoiledWriter (boundFront row)) (boundAllowed (boundFront row)) _ _ _ (ap not (spoiled-may-not (boundFront row) (lentBytes (length buf))))
+
+  -- so an accepted write tells that the row stands for one
+  pub stands : (n : MacaqueV) → writeAnswer (writerIn row) xs buf ≡ answeredOn n → standsForState row ≡ true
+  stands n e = go (standsForState row) refl
+    where
+      go : (b : Bool) → standsForState row ≡ b → b ≡ true
+      go true h = refl
+      go false h = absurd (not-answered (sym (no-state-refused h) ∙ ap stateless e))

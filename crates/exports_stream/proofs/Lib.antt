@@ -1,4 +1,6 @@
 -- What the proofs of MacaqueV's C face share, and what its rows promise.
 pub mod Words
 pub mod Faces
+pub mod Numbers
 pub mod Promises
+pub mod Causes

@@ -1,76 +1,101 @@
--- The promises of MacaqueV's C face: the row that a call leaves stands for the writer that the next call begins with, so that demand 3 holds of rows too;
--- and words that stand for no state, or for no mode, are refused. Assumes nothing.
-use mathlib.Core.Path.{_≡_, refl, sym, ap, _∙_, subst}
-use mathlib.Core.Bool.{Bool, true, false, cond, not, _&&_}
+-- The promises of MacaqueV's C face: the row that a call leaves stands for the writer that the next call begins with, so that demands 2 and 3 hold of rows
+-- too; an empty write changes nothing; and words that stand for no state, or for no mode, are refused. Assumes nothing.
+use mathlib.Core.Path.{_≡_, refl, sym, ap, ap₂, _∙_, subst}
+use mathlib.Core.Bool.{Bool, true, false, cond}
 use mathlib.Core.List.{List, [], _∷_, _++_}
 use Prim.Native.Nat.{ℕ, _+_, _*_, _^_, _≤_, _<_}
 use native.Mathlib.Omega.{arith}
-use borrow.Author.Tests.{lt-ltb, le-ltb, le-leb, lt-leb}
-use lib.Dec.{leb, ltb}
+use borrow.Author.Tests.{le-ltb, le-leb, lt-leb}
+use lib.Dec.{ltb}
 use lib.ListN.{length, take, drop, getD}
-use Rattle.models.specs.Answers.{Said, answered, SaidOn, answeredOn, refusedOn, stateless, Cause, _when_, judge, judgedOn, Fault, fault, faultNumber, keeping, NoneHolds}
-use Rattle.models.specs.Limits.{mostValues}
-use Rattle.models.specs.Bound.{boundAllowed, BoundHeld}
-use Rattle.models.proofs.Judged.{judged-parts, accepted, answered-only}
-use Rattle.models.proofs.Tests.{by-test}
-use Rattle.models.specs.declared.ErrorBound.{ErrorBound}
-use Rattle.exports.specs.Face.{boundOf, plainNumber, rowIn, rowAfter, stepNumber}
+use lib.Seq.{length-take-le}
 use Rattle.bits.specs.Bits.{Below, wholeBytes}
 use Rattle.bits.proofs.Below.{below-nil, below-take}
-use Rattle.macaque_v.specs.State.{writerOf, isFirst, openingValue, opened}
+use Rattle.models.specs.Answers.{Said, answered, SaidOn, answeredOn, refusedOn, refusing, stateless, Cause, _when_, judge, Fault, faultNumber, keeping, NoneHolds}
+use Rattle.models.specs.Limits.{mostValues}
+use Rattle.models.specs.Bound.{boundAllowed, BoundHeld}
+use Rattle.models.specs.declared.ErrorBound.{ErrorBound}
+use Rattle.models.specs.declared.ErrorBound.the-variants.{Lossless}
+use Rattle.models.proofs.Judged.{judged-parts, accepted, answered-only}
+use Rattle.stream.specs.Format.{Stream, State}
+use Rattle.stream.specs.Write.{after}
+use Rattle.stream.proofs.Writing.{count-after, length-kept}
+use Rattle.stream.proofs.Calls.{as-long}
+use Rattle.macaque_v.specs.State.{streamIn, writerOf, isFirst, openingValue, opened}
 use Rattle.macaque_v.specs.Calls.{newAnswer, lentBytes, writeCauses, writeAnswer}
 use Rattle.macaque_v.specs.Read.{reopenCauses, reopenAnswer, reopenMemory, gridAnswer}
-use Rattle.stream.specs.Format.{keepsRule}
 use Rattle.macaque_v.specs.Write.{writerAt, wroteBy}
-use Rattle.macaque_v.specs.Made.{stateOver, Made, WordsSmall}
+use Rattle.macaque_v.specs.Made.{stateOver, keptOf, Made, WordsSmall}
 use Rattle.macaque_v.specs.declared.MacaqueV.{MacaqueV}
 use Rattle.macaque_v.specs.declared.Opening.{Opening}
-use Rattle.macaque_v.proofs.Promises.{a-fresh-writer, a-write-goes-on, a-write-is-accepted, reopening-goes-back}
+use Rattle.macaque_v.proofs.Promises.{a-fresh-writer, a-write-goes-on, a-write-is-accepted, reopening-goes-back, grid-reads-back, lossless-keeps-the-inputs}
+use Rattle.macaque_v.proofs.Promises as call
 use Rattle.macaque_v.proofs.Held.{made-held}
-use Rattle.exports_stream.specs.Calls.{openingOf, newNumber, newRow, writeBuffer, reopenNumber, reopenRow, reopenBuffer, gridNumber, writeNumber, writeRow, RowMade}
-use Rattle.exports.specs.Words.{small, boundIn}
-use Rattle.exports.proofs.Back.{bound-back, bound-of-held, bound-in-held, flag-small, flag-back}
-use Rattle.exports_stream.specs.Row.{writerLength, writerRow, standsForState, writerIn}
+use Rattle.exports.specs.Face.{boundOf, plainNumber, rowIn, stepNumber, stepRow}
+use Rattle.exports.specs.Words.{boundFront}
+use Rattle.exports.proofs.Back.{bound-of-held, bound-front-held}
+use Rattle.exports_stream.specs.Row.{writerLength, writerRow, writtenRow, standsForState, spoiledWriter, writerIn, bytesInUse, lengthWord}
+use Rattle.exports_stream.specs.Calls.{openingOf, countIn, newNumber, newRow, writeNumber, writeRow, writeBuffer, reopenFaceCauses, reopenNumber, reopenRow, reopenBuffer, gridNumber, gridOut, RowMade, RowResumesAsOne}
+use Rattle.exports_stream.proofs.Words.{short-stands-for-none, no-state, a-state, row-back, written-long, own-words}
+use Rattle.exports_stream.proofs.Faces.{no-state-refused, stands}
+use Rattle.exports_stream.proofs.Numbers.{judged-so}
 
--- ---- a row is read back as the writer that it was made of
+-- ---- the writer that a row stands for
 
-is-small : (w : ℕ) → w < 2 ^ 32 → small w ≡ true
-is-small w h = lt-ltb w (2 ^ 32) h
+front-words : (m : MacaqueV) (rest : List ℕ) → take writerLength (writerRow m ++ rest) ≡ writerRow m
+unfolding writerRow
+front-words m rest = refl
 
-pub row-back : (m : MacaqueV) (rest : List ℕ) → BoundHeld (m .«error_bound») → WordsSmall m → writerIn (writerRow m ++ rest) ≡ m
-unfolding writerIn writerRow standsForState
-row-back m rest f h =
-    rw (is-small (m .«min_value») (h .least), is-small (m .«max_value») (h .greatest), is-small (m .«last_value») (h .last), is-small (m .«last_leading_zero_bits») (h .leading), is-small (m .«last_trailing_zero_bits») (h .trailing), flag-small (m .«with_first»), flag-back (m .«with_first»), bound-back (m .«error_bound») f)
-
--- ---- demand 3, of rows
+behind-words : (m : MacaqueV) (rest : List ℕ) → drop writerLength (writerRow m ++ rest) ≡ rest
+unfolding writerRow
+behind-words m rest = refl
 
 -- a writer that writes, stops and resumes have made is the one that its row stands for
-module _ {b : ErrorBound} {o : Opening} {xs buf : List ℕ} {m : MacaqueV} (M : Made b o xs buf m) (f : BoundHeld b) (hl : openingValue o < 2 ^ 32) (bx : Below 32 xs) where
-  pub made-row : (rest : List ℕ) → writerIn (writerRow m ++ rest) ≡ m
-  made-row rest =
-      row-back m rest (subst BoundHeld (sym (ap (λ (w : MacaqueV). w .«error_bound») (M .writer))) f) (subst WordsSmall (sym (M .writer)) (made-held b o xs hl bx))
+module _ {b : ErrorBound} {o : Opening} {xs buf : List ℕ} {m : MacaqueV} (M : Made b o xs buf m) (hl : openingValue o < 2 ^ 32) (bx : Below 32 xs) where
+  small-words : WordsSmall m
+  small-words = subst WordsSmall (sym (M .writer)) (made-held b o xs hl bx)
 
-row-long : (m : MacaqueV) (rest : List ℕ) → writerLength ≤ length (writerRow m ++ rest)
-unfolding writerRow
-row-long m rest = omega arith
+  pub made-row : BoundHeld b → (rest : List ℕ) → writerIn (writerRow m ++ rest) ≡ m
+  made-row f rest = row-back m rest (subst BoundHeld (sym (ap (λ (w : MacaqueV). w .«error_bound») (M .writer))) f) small-words
 
--- a row that begins with a made writer's words
-module _ {b : ErrorBound} {o : Opening} {xs buf row : List ℕ} {m : MacaqueV} (M : Made b o xs buf m) (f : BoundHeld b) (hl : openingValue o < 2 ^ 32) (bx : Below 32 xs)
-    (rest : List ℕ) (is : row ≡ writerRow m ++ rest) where
-  row-made : RowMade b o xs buf row
-  row-made =
-      record {
-        words = subst (λ (r : List ℕ). writerLength ≤ length r) (sym is) (row-long m rest);
-        made = subst (Made b o xs buf) (sym (ap writerIn is ∙ made-row M f hl bx rest)) M;
-      }
+  -- a row that begins with its words
+  row-made : BoundHeld b → {row : List ℕ} (rest : List ℕ) → row ≡ writerRow m ++ rest → RowMade b o xs buf row
+  row-made f {row = row} rest is =
+      let back : writerIn row ≡ m = ap writerIn is ∙ made-row f rest in
+      record { made = subst (Made b o xs buf) (sym back) M; words = is ∙ ap₂ (λ (w : MacaqueV) (l : List ℕ). writerRow w ++ l) (sym back) (sym (ap (drop writerLength) is ∙ behind-words m rest)) }
 
--- whatever the words, the bound that they stand for is of its format
-writer-bound : (row : List ℕ) → BoundHeld ((writerIn row) .«error_bound»)
-unfolding writerIn
-writer-bound row = by-test (λ (m : MacaqueV). BoundHeld (m .«error_bound»)) (standsForState row) _ _ (λ h. held) (λ h. held)
-  where
-    held : BoundHeld (boundIn (getD row 0 0) (getD row 1 0))
-    held = bound-in-held (getD row 0 0) (getD row 1 0)
+-- bound, opening and inputs tell the ten words too
+pub the-row-once : {b : ErrorBound} {o : Opening} {xs buf row other others : List ℕ} → RowMade b o xs buf row → RowMade b o xs other others → take writerLength row ≡ take writerLength others
+the-row-once {row = row} {others = others} R S =
+    ap (take writerLength) (R .words) ∙ front-words (writerIn row) _ ∙ ap writerRow (R .made .writer ∙ sym (S .made .writer)) ∙ sym (ap (take writerLength) (S .words) ∙ front-words (writerIn others) _)
+
+-- a state with no value has no place
+no-value-no-place : {A : Type 0} (S : Stream A) (s : State A) (vs : List ℕ) → s .place ≡ 0 → (after S s vs) .count ≡ 0 → (after S s vs) .place ≡ 0
+unfolding after
+no-value-no-place S s [] h e = h
+no-value-no-place S s (v ∷ vs) h e = absurd (omega (arith, count-after S s (v ∷ vs), e))
+
+module _ {b : ErrorBound} {o : Opening} {xs buf row : List ℕ} (R : RowMade b o xs buf row) where
+  -- a row that stands for a made writer stands for a state: it holds ten words
+  pub a-made-row-stands : standsForState row ≡ true
+  a-made-row-stands = go (standsForState row) refl
+    where
+      go : (t : Bool) → standsForState row ≡ t → t ≡ true
+      go true h = refl
+      go false h =
+          let spoiled : spoiledWriter (boundFront row) ≡ writerOf b (isFirst o) (stateOver b o xs) = no-state row h ∙ R .made .writer in
+          let count : 0 ≡ (stateOver b o xs) .count = ap (λ (m : MacaqueV). m .length) spoiled in
+          let place : 1 ≡ (stateOver b o xs) .place = ap (λ (m : MacaqueV). m .place) spoiled in
+          absurd (omega (arith, place, no-value-no-place (streamIn (isFirst o)) (opened o) (keptOf b o xs) refl (sym count)))
+
+  -- its word of the place tells the bytes in use, and its word of the length how many values were written
+  pub place-word : (writerIn row) .place ≡ getD row 8 0
+  place-word = sym (ap (λ (m : MacaqueV). m .place) (a-state row a-made-row-stands))
+
+  pub length-word : lengthWord row ≡ length xs
+  length-word =
+      let kept-long : length (keptOf b o xs) ≡ length xs = length-kept (streamIn (isFirst o)) _ (opened o) xs in
+      ap (λ (m : MacaqueV). m .length) (a-state row a-made-row-stands ∙ R .made .writer) ∙ count-after (streamIn (isFirst o)) (opened o) (keptOf b o xs) ∙ omega (arith, kept-long)
 
 -- ---- a new row
 
@@ -96,46 +121,57 @@ module _ (kind bound mode value : ℕ) (row : List ℕ) (hl : openingValue (open
   a-new-row =
       let is : newRow kind bound mode value row ≡ writerRow newWriter ++ drop (length (writerRow newWriter)) row = rw (ok, a-mode, has-words) (ap (rowIn writerRow row) new-opens) in (
         rw (ok, a-mode, has-words) (ap plainNumber new-opens),
-        λ buf. row-made (a-fresh-writer (boundOf kind bound) (openingOf mode value) buf newWriter new-opens) (bound-of-held kind bound) hl (below-nil 32) _ is,
+        λ buf. row-made (a-fresh-writer (boundOf kind bound) (openingOf mode value) buf newWriter new-opens) hl (below-nil 32) (bound-of-held kind bound) _ is,
       )
 
 -- ---- writing through a row
 
--- every number of a list of causes is above 0
-abbrev Positive : List Cause → Type 0
-Positive [] = Unit {0}
-Positive (n when holds ∷ causes) = (0 < n) × Positive causes
-
 -- a number of 0 tells that nothing was refused
-no-zero : {S A : Type 0} (s : S) (causes : List Cause) (a : A) → Positive causes → plainNumber (stateless (judgedOn s causes a)) ≡ 0 → judgedOn s causes a ≡ answeredOn a
-unfolding judge
-no-zero s [] a p h = refl
-no-zero s (n when true ∷ causes) a p h = absurd (omega (arith, p .0))
-no-zero s (n when false ∷ causes) a p h = no-zero s causes a (p .1) h
-
 accepted-zero : (m : MacaqueV) (ys buf : List ℕ) → plainNumber (stateless (writeAnswer m ys buf)) ≡ 0 → writeAnswer m ys buf ≡ answeredOn (writerAt m (wroteBy m ys))
 unfolding writeAnswer
-accepted-zero m ys buf h =
-    no-zero m (writeCauses m ys (lentBytes (length buf))) (writerAt m (wroteBy m ys)) (omega arith, (omega arith, (omega arith, (omega arith, tt)))) h
+accepted-zero m ys buf =
+    judged-so (λ (q : SaidOn MacaqueV MacaqueV). plainNumber (stateless q) ≡ 0 → q ≡ answeredOn (writerAt m (wroteBy m ys))) (refusing m) (λ n pos z. absurd (omega (arith, pos, z)))
+    (writeCauses m ys (lentBytes (length buf))) (omega arith, (omega arith, (omega arith, (omega arith, tt)))) _ (λ z. refl)
 
 module _ {b : ErrorBound} {o : Opening} {xs buf row : List ℕ} (R : RowMade b o xs buf row) (hl : openingValue o < 2 ^ 32) where
-  row-holds : leb writerLength (length row) ≡ true
-  row-holds = le-leb writerLength (length row) (R .words)
+  -- the words that a write leaves are those of the bound and the mode of the writer that the row stands for
+  own-word : (i : ℕ) → getD row i 0 ≡ getD (writerRow (writerIn row) ++ drop writerLength row) i 0
+  own-word i = ap (λ (l : List ℕ). getD l i 0) (R .words)
+
+  written-same : (n : MacaqueV) → n .«error_bound» ≡ (writerIn row) .«error_bound» → n .«with_first» ≡ (writerIn row) .«with_first» → writtenRow row n ≡ writerRow n
+  unfolding writtenRow writerRow
+  written-same n e f = rw (e, f, own-word 0, own-word 1, own-word 7)
+
+  -- its bound is of its format, whatever the words
+  bound-held : BoundHeld b
+  bound-held = subst BoundHeld (ap (λ (m : MacaqueV). m .«error_bound») (a-state row (a-made-row-stands R) ∙ R .made .writer)) (bound-front-held row)
 
   -- an accepted write leaves the bytes of one fresh run, and a row that stands for its writer
   pub a-row-goes-on : (ys : List ℕ) → Below 32 (xs ++ ys) → writeNumber row ys buf ≡ 0 → RowMade b o (xs ++ ys) (writeBuffer row ys buf) (writeRow row ys buf)
-  unfolding stepNumber rowAfter writeBuffer
   a-row-goes-on ys by h =
       let n : MacaqueV = writerAt (writerIn row) (wroteBy (writerIn row) ys) in
-      let a : writeAnswer (writerIn row) ys buf ≡ answeredOn n = accepted-zero (writerIn row) ys buf (rw row-holds at h) in
-      let f : BoundHeld b = subst (λ (m : MacaqueV). BoundHeld (m .«error_bound»)) (R .made .writer) (writer-bound row) in
-      rw row-holds (row-made (a-write-goes-on (R .made) ys n a) f hl by _ (ap (λ (q : SaidOn MacaqueV MacaqueV). rowIn writerRow row (stateless q)) a))
+      let a : writeAnswer (writerIn row) ys buf ≡ answeredOn n = accepted-zero (writerIn row) ys buf h in
+      let is : writeRow row ys buf ≡ writerRow n ++ drop (length (writtenRow row n)) row = ap (stepRow (writtenRow row) row) a ∙ ap (λ (l : List ℕ). l ++ drop (length (writtenRow row n)) row) (written-same n refl refl) in
+      row-made (a-write-goes-on (R .made) ys n a) hl by bound-held _ is
 
   -- and it is accepted, wherever room and count limit allow
   pub a-row-is-accepted : Below 32 xs → boundAllowed b ≡ true → (ys : List ℕ) → length xs + length ys ≤ mostValues
       → (stateOver b o (xs ++ ys)) .place ≤ 8 * length buf → writeNumber row ys buf ≡ 0
-  unfolding stepNumber
-  a-row-is-accepted bx ok ys most room = rw row-holds (ap (λ (q : SaidOn MacaqueV MacaqueV). plainNumber (stateless q)) (a-write-is-accepted (R .made) bx hl ok ys most room))
+  a-row-is-accepted bx ok ys most room = ap stepNumber (a-write-is-accepted (R .made) bx hl ok ys most room)
+
+-- "An empty write changes nothing": neither the row nor the buffer, accepted or not, whatever the row holds
+pub an-empty-write-changes-nothing : (row buf : List ℕ) → Below 8 buf → (writeRow row [] buf ≡ row) × (writeBuffer row [] buf ≡ buf)
+an-empty-write-changes-nothing row buf small = (go (writeAnswer (writerIn row) [] buf) refl, call.an-empty-write-changes-nothing (writerIn row) buf small .1)
+  where
+    go : (q : SaidOn MacaqueV MacaqueV) → writeAnswer (writerIn row) [] buf ≡ q → stepRow (writtenRow row) row q ≡ row
+    go (answeredOn n) e =
+        ap (λ (m : MacaqueV). stepRow {S = MacaqueV} (writtenRow row) row (answeredOn m)) (call.an-empty-write-changes-nothing (writerIn row) buf small .0 n e)
+        ∙ ap (λ (k : ℕ). writtenRow row (writerIn row) ++ drop k row) (written-long row (writerIn row)) ∙ own-words row (stands row [] buf n e)
+    go (refusedOn f s) e = refl
+
+-- a write keeps the buffer's length
+pub a-row-keeps-the-length : (row ys buf : List ℕ) → length (writeBuffer row ys buf) ≡ length buf
+a-row-keeps-the-length row = call.a-write-keeps-the-length (writerIn row)
 
 -- ---- reopening through a row
 
@@ -148,6 +184,13 @@ reopened-free : (buf : List ℕ) (used count k : ℕ) (o : Opening) (b : ErrorBo
     → NoneHolds (reopenCauses b (length buf) used count k)
 unfolding reopenAnswer
 reopened-free buf used count k o b n h = answered-only (reopenCauses b (length buf) used count k) _ n h .0
+
+-- a reopening keeps the buffer's length, accepted or not
+pub reopening-row-keeps-the-length : (buf : List ℕ) (used count k mode value kind bound : ℕ) (row : List ℕ) → openingValue (openingOf mode value) < 2 ^ 32
+    → length (reopenBuffer buf used count k mode value kind bound row) ≡ length buf
+unfolding reopenBuffer
+reopening-row-keeps-the-length buf used count k mode value kind bound row hl =
+    as-long buf _ (reopenFaceCauses buf used count k mode kind bound row) (λ free. call.reopening-keeps-the-length (boundOf kind bound) (openingOf mode value) hl buf used (countIn mode count) k)
 
 module _ (kind bound mode value : ℕ) (row : List ℕ) {xs buf : List ℕ} {m : MacaqueV} (M : Made (boundOf kind bound) (openingOf mode value) xs buf m)
     (hl : openingValue (openingOf mode value) < 2 ^ 32) (bx : Below 32 xs) (ok : boundAllowed (boundOf kind bound) ≡ true)
@@ -192,20 +235,49 @@ module _ (kind bound mode value : ℕ) (row : List ℕ) {xs buf : List ℕ} {m :
         (reopenRow buf used (length xs) k mode value kind bound row)
     a-row-resumes =
         let made = reopening-goes-back M bx hl ok most k le .1 in
-        (number-is, rw buffer-is (row-made made (bound-of-held kind bound) hl (below-take 32 k xs bx) _ row-is))
+        (number-is, rw buffer-is (row-made made hl (below-take 32 k xs bx) (bound-of-held kind bound) _ row-is))
+
+    -- as one theorem: any further list that room and count limit allow is accepted through the reopened row, and leaves the bytes and the row of one
+    -- fresh run over the first k inputs and the list
+    pub row-resumed-as-one : (ys : List ℕ) → Below 32 (take k xs ++ ys) → k + length ys ≤ mostValues
+        → (stateOver (boundOf kind bound) (openingOf mode value) (take k xs ++ ys)) .place ≤ 8 * length buf
+        → RowResumesAsOne xs buf used k mode value kind bound row ys
+    row-resumed-as-one ys by few room =
+        let r = a-row-resumes in
+        let firsts : length (take k xs) ≡ k = length-take-le k xs le in
+        let long = reopening-row-keeps-the-length buf used (length xs) k mode value kind bound row hl in
+        let zero = a-row-is-accepted (r .1) hl (below-take 32 k xs bx) ok ys (omega arith) (omega (arith, room, long)) in
+        record { opens = r .0; accepts = zero; made = a-row-goes-on (r .1) hl ys by zero }
+
+-- ---- demand 2, of rows
+
+module _ {b : ErrorBound} (mode value : ℕ) {xs buf row : List ℕ} (R : RowMade b (openingOf mode value) xs buf row) (mode-is : mode ≤ 1)
+    (hl : openingValue (openingOf mode value) < 2 ^ 32) (bx : Below 32 xs) (most : length xs ≤ mostValues) (out : List ℕ) (room : length xs ≤ length out) where
+  -- the bytes in use and the count that the row tells are accepted by the grid, which draws the kept values into the output; its later places stay
+  pub a-row-reads-back : (gridNumber (bytesInUse row buf) (lengthWord row) mode value out ≡ 0)
+      × (gridOut (bytesInUse row buf) (lengthWord row) mode value out ≡ keptOf b (openingOf mode value) xs ++ drop (length xs) out)
+  unfolding gridNumber gridOut
+  a-row-reads-back =
+      let used : bytesInUse row buf ≡ take (wholeBytes ((writerIn row) .place)) buf = ap (λ (p : ℕ). take (wholeBytes p) buf) (sym (place-word R)) in
+      let g = grid-reads-back (R .made) bx hl most out room in
+      rw (le-leb mode 1 mode-is, used, length-word R) (ap plainNumber (g .0), g .1)
+
+-- lossless: the inputs
+module _ (mode value : ℕ) {xs buf row : List ℕ} (R : RowMade Lossless (openingOf mode value) xs buf row) (mode-is : mode ≤ 1)
+    (hl : openingValue (openingOf mode value) < 2 ^ 32) (bx : Below 32 xs) (most : length xs ≤ mostValues) (out : List ℕ) (room : length xs ≤ length out) where
+  pub a-lossless-row-reads-back : (gridNumber (bytesInUse row buf) (lengthWord row) mode value out ≡ 0) × (gridOut (bytesInUse row buf) (lengthWord row) mode value out ≡ xs ++ drop (length xs) out)
+  a-lossless-row-reads-back =
+      let r = a-row-reads-back mode value R mode-is hl bx most out room in
+      (r .0, r .1 ∙ ap (λ (vs : List ℕ). vs ++ drop (length xs) out) (lossless-keeps-the-inputs (openingOf mode value) xs))
 
 -- ---- words that stand for no state, or for no mode
 
--- a row that stands for no state is refused with 2, where its bound is allowed
-pub no-state-is-2 : (row xs buf : List ℕ) → writerLength ≤ length row → standsForState row ≡ false → boundAllowed (boundIn (getD row 0 0) (getD row 1 0)) ≡ true
-    → writeNumber row xs buf ≡ 2
-unfolding stepNumber writeAnswer writerIn keepsRule judge
-no-state-is-2 row xs buf words none ok = rw (le-leb writerLength (length row) words, none, ok) (refuses (leb 1 (8 * lentBytes (length buf))) _ _)
-  where
-    -- a place and no value
-    refuses : (inside : Bool) (s : MacaqueV) (later : SaidOn MacaqueV MacaqueV) → plainNumber (stateless (cond (not (inside && false)) (refusedOn (fault 2) s) later)) ≡ 2
-    refuses true s later = refl
-    refuses false s later = refl
+-- a row that stands for no state, one that is too short among them, is refused with 2; where its bound is there and is not allowed, with 1 first
+pub no-state-is-2 : (row xs buf : List ℕ) → standsForState row ≡ false → writeNumber row xs buf ≡ cond (boundAllowed (boundFront row)) 2 1
+no-state-is-2 row xs buf h = ap plainNumber (no-state-refused row xs buf h)
+
+pub a-short-row-is-2 : (row xs buf : List ℕ) → length row < writerLength → writeNumber row xs buf ≡ cond (boundAllowed (boundFront row)) 2 1
+a-short-row-is-2 row xs buf h = no-state-is-2 row xs buf (short-stands-for-none row h)
 
 -- a mode above 1 is refused with 3: in `new` and `reopen` after the bound
 pub no-mode-is-3 : (bytes : List ℕ) (count mode value : ℕ) (out : List ℕ) → 1 < mode → gridNumber bytes count mode value out ≡ 3

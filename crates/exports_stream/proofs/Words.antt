@@ -1,23 +1,33 @@
--- Words of 32 bits are their own low bits; and the state that a row stands for, case by case. Assumes nothing.
+-- Words of 32 bits are their own low bits; the state that a row stands for, case by case; and a row that was put is read back as the writer that it was
+-- made of. Assumes nothing.
 use mathlib.Core.Path.{_≡_, refl, sym, ap, ap₂, _∙_}
-use mathlib.Core.Bool.{Bool, true, false, cond, _&&_, false≢true}
-use mathlib.Core.List.{List}
-use Prim.Native.Nat.{ℕ, _%_, _^_}
-use lib.Dec.{eqb}
-use lib.ListN.{length, getD}
+use mathlib.Core.Bool.{true, false}
+use mathlib.Core.List.{List, _∷_, _++_}
+use Prim.Native.Nat.{ℕ, zero, suc, _+_, _%_, _^_, _≤_, _<_}
+use native.Mathlib.Omega.{arith}
+use borrow.Author.Tests.{lt-ltb, le-leb, lt-leb, leb-true}
+use lib.Dec.{eqb, leb}
+use lib.ListN.{length, drop, getD}
+use lib.Seq.{drop-cons}
+use Rattle.models.specs.Bound.{BoundHeld}
 use Rattle.models.specs.declared.ErrorBound.{ErrorBound}
+use Rattle.models.proofs.Tests.{and-left, and-right, and-parts}
+use Rattle.macaque_v.specs.Made.{WordsSmall}
 use Rattle.macaque_v.specs.declared.MacaqueV.{MacaqueV}
+use Rattle.exports.specs.Words.{boundKind, boundBits, small, boundFront}
 use Rattle.exports.proofs.Small.{low-is}
-use Rattle.exports.specs.Words.{small, boundIn}
-use Rattle.exports_stream.specs.Row.{writerLength, writerRow, standsForState, spoiledWriter, readWriter, writerIn}
-
-and-both : (a b : Bool) → (a && b) ≡ true → (a ≡ true) × (b ≡ true)
-and-both true b h = (refl, h)
-and-both false b h = absurd (false≢true h)
+use Rattle.exports.proofs.Back.{bound-back, bound-front, flag-small, flag-back}
+use Rattle.exports_stream.specs.Row.{writerLength, writerRow, writtenRow, standsForState, spoiledWriter, readWriter, writerIn}
 
 pub writer-long : (m : MacaqueV) → length (writerRow m) ≡ writerLength
 unfolding writerRow
 writer-long m = refl
+
+pub written-long : (row : List ℕ) (m : MacaqueV) → length (writtenRow row m) ≡ writerLength
+unfolding writtenRow
+written-long row m = refl
+
+-- ---- the state that a row stands for
 
 -- the state whose five words of 32 bits are these
 abbrev pub stateWith : ErrorBound → List ℕ → ℕ → ℕ → ℕ → ℕ → ℕ → MacaqueV
@@ -35,22 +45,61 @@ stateWith b row min max last lead trail =
     }
 
 module _ (row : List ℕ) where
-  pub no-state : standsForState row ≡ false → spoiledWriter (boundIn (getD row 0 0) (getD row 1 0)) ≡ writerIn row
+  -- a row that is too short stands for none
+  pub short-stands-for-none : length row < writerLength → standsForState row ≡ false
+  unfolding standsForState
+  short-stands-for-none h = rw (lt-leb writerLength (length row) h)
+
+  pub no-state : standsForState row ≡ false → spoiledWriter (boundFront row) ≡ writerIn row
   unfolding writerIn
   no-state h = sym (rw h)
 
-  pub a-state : standsForState row ≡ true
-      → stateWith (boundIn (getD row 0 0) (getD row 1 0)) row (getD row 2 0 % 2 ^ 32) (getD row 3 0 % 2 ^ 32) (getD row 4 0 % 2 ^ 32) (getD row 5 0 % 2 ^ 32) (getD row 6 0 % 2 ^ 32)
-      ≡ writerIn row
-  unfolding writerIn standsForState
-  a-state h =
-      let b : ErrorBound = boundIn (getD row 0 0) (getD row 1 0) in
-      let t2 = and-both (small (getD row 2 0)) _ h in
-      let t3 = and-both (small (getD row 3 0)) _ (t2 .1) in
-      let t4 = and-both (small (getD row 4 0)) _ (t3 .1) in
-      let t5 = and-both (small (getD row 5 0)) _ (t4 .1) in
-      let t6 = and-both (small (getD row 6 0)) _ (t5 .1) in
-      ap₂ (λ (x y : ℕ). stateWith b row x y (getD row 4 0 % 2 ^ 32) (getD row 5 0 % 2 ^ 32) (getD row 6 0 % 2 ^ 32)) (low-is (getD row 2 0) (t2 .0)) (low-is (getD row 3 0) (t3 .0))
-      ∙ ap₂ (λ (x y : ℕ). stateWith b row (getD row 2 0) (getD row 3 0) x y (getD row 6 0 % 2 ^ 32)) (low-is (getD row 4 0) (t4 .0)) (low-is (getD row 5 0) (t5 .0))
-      ∙ ap (λ (x : ℕ). stateWith b row (getD row 2 0) (getD row 3 0) (getD row 4 0) (getD row 5 0) x) (low-is (getD row 6 0) (t6 .0))
-      ∙ sym (ap (λ (t : Bool). cond t (readWriter b row) (spoiledWriter b)) h)
+  module _ (h : standsForState row ≡ true) where
+    pub has-words : writerLength ≤ length row
+    unfolding standsForState
+    has-words = leb-true writerLength (length row) (and-left _ _ h)
+
+    pub a-state : readWriter (boundFront row) row ≡ writerIn row
+    unfolding writerIn
+    a-state = sym (rw h)
+
+    pub low-words : (b : ErrorBound) → stateWith b row (getD row 2 0 % 2 ^ 32) (getD row 3 0 % 2 ^ 32) (getD row 4 0 % 2 ^ 32) (getD row 5 0 % 2 ^ 32) (getD row 6 0 % 2 ^ 32) ≡ readWriter b row
+    unfolding standsForState
+    low-words b =
+        let t2 = and-parts (small (getD row 2 0)) _ (and-right (leb writerLength (length row)) _ h) in
+        let t3 = and-parts (small (getD row 3 0)) _ (t2 .1) in
+        let t4 = and-parts (small (getD row 4 0)) _ (t3 .1) in
+        let t5 = and-parts (small (getD row 5 0)) _ (t4 .1) in
+        let t6 = and-parts (small (getD row 6 0)) _ (t5 .1) in
+        ap₂ (λ (x y : ℕ). stateWith b row x y (getD row 4 0 % 2 ^ 32) (getD row 5 0 % 2 ^ 32) (getD row 6 0 % 2 ^ 32)) (low-is (getD row 2 0) (t2 .0)) (low-is (getD row 3 0) (t3 .0))
+        ∙ ap₂ (λ (x y : ℕ). stateWith b row (getD row 2 0) (getD row 3 0) x y (getD row 6 0 % 2 ^ 32)) (low-is (getD row 4 0) (t4 .0)) (low-is (getD row 5 0) (t5 .0))
+        ∙ ap (λ (x : ℕ). stateWith b row (getD row 2 0) (getD row 3 0) (getD row 4 0) (getD row 5 0) x) (low-is (getD row 6 0) (t6 .0))
+
+-- ---- a row is read back as the writer that it was made of
+
+pub row-back : (m : MacaqueV) (rest : List ℕ) → BoundHeld (m .«error_bound») → WordsSmall m → writerIn (writerRow m ++ rest) ≡ m
+unfolding writerRow writerIn standsForState
+row-back m rest f s =
+    let few = le-leb writerLength (length (writerRow m ++ rest)) (omega arith) in
+    let least = lt-ltb (m .«min_value») (2 ^ 32) (s .least) in
+    let greatest = lt-ltb (m .«max_value») (2 ^ 32) (s .greatest) in
+    let last = lt-ltb (m .«last_value») (2 ^ 32) (s .last) in
+    let leading = lt-ltb (m .«last_leading_zero_bits») (2 ^ 32) (s .leading) in
+    let trailing = lt-ltb (m .«last_trailing_zero_bits») (2 ^ 32) (s .trailing) in
+    rw (few, least, greatest, last, leading, trailing, flag-small (m .«with_first»), flag-back (m .«with_first»), bound-front (boundKind (m .«error_bound»)) (boundBits (m .«error_bound»)) _, bound-back (m .«error_bound») f)
+
+-- the words of the state that a row stands for are the row's own
+
+-- a list, with n of its elements from j on spelled out
+abbrev spelled : List ℕ → ℕ → ℕ → List ℕ
+spelled row j zero = drop j row
+spelled row j (suc n) = getD row j 0 ∷ spelled row (suc j) n
+
+spelled-is : (row : List ℕ) (j n : ℕ) → j + n ≤ length row → spelled row j n ≡ drop j row
+spelled-is row j zero h = refl
+spelled-is row j (suc n) h = ap (λ (l : List ℕ). getD row j 0 ∷ l) (spelled-is row (suc j) n (omega arith)) ∙ sym (drop-cons row j 0 (omega arith))
+
+pub own-words : (row : List ℕ) → standsForState row ≡ true → writtenRow row (writerIn row) ++ drop writerLength row ≡ row
+unfolding writtenRow
+own-words row h =
+    ap (λ (m : MacaqueV). writtenRow row m ++ drop writerLength row) (sym (a-state row h)) ∙ spelled-is row 0 writerLength (has-words row h)

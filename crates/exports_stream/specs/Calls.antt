@@ -1,9 +1,10 @@
 -- What the calls of MacaqueV's C face answer and leave: the number, and the lent memory afterwards, by what the call behind says. Assumes nothing.
+use mathlib.Core.Path.{_≡_}
 use mathlib.Core.Bool.{cond, not}
 use mathlib.Core.List.{List, [], _∷_, _++_}
-use Prim.Native.Nat.{ℕ, _≤_}
+use Prim.Native.Nat.{ℕ}
 use lib.Dec.{eqb, leb, ltb}
-use lib.ListN.{length}
+use lib.ListN.{length, take, drop}
 use Rattle.models.specs.Answers.{Said, Cause, _when_, judge, judgedMemory, faultNumber}
 use Rattle.models.specs.Bound.{boundAllowed}
 use Rattle.models.specs.declared.ErrorBound.{ErrorBound}
@@ -15,7 +16,7 @@ use Rattle.macaque_v.specs.declared.Opening.{Opening}
 use Rattle.macaque_v.specs.declared.Opening.the-variants.{First, On}
 use Rattle.exports.specs.Face.{boundOf, numberOf, rowIn, rowAfter, stepNumber, stepRow, plainNumber, oneWord}
 use Rattle.exports.specs.Words.{noCount}
-use Rattle.exports_stream.specs.Row.{writerLength, writerRow, writerIn}
+use Rattle.exports_stream.specs.Row.{writerLength, writerRow, writtenRow, writerIn}
 
 -- ---- how a stream opens: mode 0 stores the first value in full and looks at no other, mode 1 opens on the value
 
@@ -39,16 +40,16 @@ unfoldable pub newRow : ℕ → ℕ → ℕ → ℕ → List ℕ → List ℕ
 newRow kind bound mode opening row =
     judgedMemory row (newCauses (boundOf kind bound) mode (length row)) (rowIn writerRow row (newAnswer (boundOf kind bound) (openingOf mode opening)))
 
--- ---- compress_values: the number and the row of a step, and the buffer. The row is read before anything is judged, so a row that is too short is 4 first.
+-- ---- compress_values: the number and the row of a step, and the buffer
 
 abbrev pub writeNumber : List ℕ → List ℕ → List ℕ → ℕ
-writeNumber row xs buf = stepNumber writerLength row (writeAnswer (writerIn row) xs buf)
+writeNumber row xs buf = stepNumber (writeAnswer (writerIn row) xs buf)
 
 abbrev pub writeRow : List ℕ → List ℕ → List ℕ → List ℕ
-writeRow row xs buf = stepRow writerLength writerRow row (writeAnswer (writerIn row) xs buf)
+writeRow row xs buf = stepRow (writtenRow row) row (writeAnswer (writerIn row) xs buf)
 
-unfoldable pub writeBuffer : List ℕ → List ℕ → List ℕ → List ℕ
-writeBuffer row xs buf = cond (leb writerLength (length row)) (writeMemory (writerIn row) xs buf) buf
+abbrev pub writeBuffer : List ℕ → List ℕ → List ℕ → List ℕ
+writeBuffer row xs buf = writeMemory (writerIn row) xs buf
 
 -- ---- reopen: 1, 3, 12, then 4 for the row, and only then what the stream gives. Till then the buffer is untouched.
 
@@ -94,7 +95,17 @@ sumOut bytes count mode opening out = rowAfter 1 oneWord out (sumAnswer bytes (c
 
 -- ---- demand 3, of rows
 
--- row and buffer are what one fresh run over xs leaves: the row's writer has made the bytes
+-- row and buffer are what one fresh run over xs leaves: the writer that the row stands for has made the bytes, and its ten words stand at the row's front
 pub record RowMade (b : ErrorBound) (o : Opening) (xs buf row : List ℕ) : Type 0 where
-  pub words : writerLength ≤ length row
   pub made : Made b o xs buf (writerIn row)
+  pub words : row ≡ writerRow (writerIn row) ++ drop writerLength row
+
+-- a buffer whose first `used` bytes hold xs is reopened at k into a row, which then is `after`, and the buffer `cut`; and ys are written through it
+pub record RowResumes (xs buf : List ℕ) (used k mode opening kind bound : ℕ) (row ys after cut : List ℕ) : Type 0 where
+  pub opens : reopenNumber buf used (length xs) k mode opening kind bound row ≡ 0
+  pub accepts : writeNumber after ys cut ≡ 0
+  pub made : RowMade (boundOf kind bound) (openingOf mode opening) (take k xs ++ ys) (writeBuffer after ys cut) (writeRow after ys cut)
+
+abbrev pub RowResumesAsOne : List ℕ → List ℕ → ℕ → ℕ → ℕ → ℕ → ℕ → ℕ → List ℕ → List ℕ → Type 0
+RowResumesAsOne xs buf used k mode opening kind bound row ys =
+    RowResumes xs buf used k mode opening kind bound row ys (reopenRow buf used (length xs) k mode opening kind bound row) (reopenBuffer buf used (length xs) k mode opening kind bound row)

@@ -4,11 +4,12 @@ use mathlib.Core.Bool.{Bool, false, cond, _&&_}
 use mathlib.Core.List.{List, [], _∷_}
 use Prim.Native.Nat.{ℕ}
 use lib.Dec.{eqb, leb}
-use lib.ListN.{getD}
+use lib.ListN.{length, take, getD}
+use Rattle.bits.specs.Bits.{wholeBytes}
 use Rattle.models.specs.Floats.{freshBits}
 use Rattle.models.specs.declared.ErrorBound.{ErrorBound}
 use Rattle.exports.specs.Face.{wordOf}
-use Rattle.exports.specs.Words.{boundKind, boundBits, small, boundIn}
+use Rattle.exports.specs.Words.{boundKind, boundBits, small, boundFront}
 use Rattle.stream.specs.Format.{opening}
 use Rattle.macaque_v.specs.declared.MacaqueV.{MacaqueV}
 
@@ -17,30 +18,40 @@ writerLength = 10
 
 -- ---- a state's words
 
-unfoldable pub writerRow : MacaqueV → List ℕ
-writerRow m =
-    boundKind (m .«error_bound»)
-    ∷ boundBits (m .«error_bound»)
+-- with the words of the bound and of the mode as they are given
+abbrev pub stateWords : ℕ → ℕ → ℕ → MacaqueV → List ℕ
+stateWords kind bits mode m =
+    kind
+    ∷ bits
     ∷ m .«min_value»
     ∷ m .«max_value»
     ∷ m .«last_value»
     ∷ m .«last_leading_zero_bits»
     ∷ m .«last_trailing_zero_bits»
-    ∷ wordOf (m .«with_first»)
+    ∷ mode
     ∷ m .place
     ∷ m .length
     ∷ []
 
+-- a state that is handed out
+unfoldable pub writerRow : MacaqueV → List ℕ
+writerRow m = stateWords (boundKind (m .«error_bound»)) (boundBits (m .«error_bound»)) (wordOf (m .«with_first»)) m
+
+-- the state after a write: the bound and the mode cannot change, so words 0, 1 and 7 are those that stand in the row
+unfoldable pub writtenRow : List ℕ → MacaqueV → List ℕ
+writtenRow row m = stateWords (getD row 0 0) (getD row 1 0) (getD row 7 0) m
+
 -- ---- the state that words stand for
 
--- words of 32 bits where the state has such, and a flag of 0 or 1
+-- ten words or more, words of 32 bits where the state has such, and a flag of 0 or 1
 unfoldable pub standsForState : List ℕ → Bool
 standsForState row =
-    small (getD row 2 0)
+    leb writerLength (length row)
+    && (small (getD row 2 0)
     && (small (getD row 3 0)
     && (small (getD row 4 0)
     && (small (getD row 5 0)
-    && (small (getD row 6 0) && leb (getD row 7 0) 1))))
+    && (small (getD row 6 0) && leb (getD row 7 0) 1)))))
 
 -- the state that no buffer allows: it has a place and no value
 abbrev pub spoiledWriter : ErrorBound → MacaqueV
@@ -71,7 +82,16 @@ readWriter b row =
       length = getD row 9 0;
     }
 
+-- a row that is too short stands for no state, as one with wrong words does
 unfoldable pub writerIn : List ℕ → MacaqueV
-writerIn row =
-    let b = boundIn (getD row 0 0) (getD row 1 0) in
-    cond (standsForState row) (readWriter b row) (spoiledWriter b)
+writerIn row = cond (standsForState row) (readWriter (boundFront row) row) (spoiledWriter (boundFront row))
+
+-- ---- what a caller finds in the row of a stream
+
+-- the bytes in use, by the word of the place
+abbrev pub bytesInUse : List ℕ → List ℕ → List ℕ
+bytesInUse row buf = take (wholeBytes (getD row 8 0)) buf
+
+-- how many values they hold
+abbrev pub lengthWord : List ℕ → ℕ
+lengthWord row = getD row 9 0

@@ -6,12 +6,12 @@ ghost use Prim.Native.Nat.{_≤_};
 ghost use lib.ListN.{length};
 ghost use Rattle.models.specs.Answers.{verdict};
 ghost use Rattle.models.specs.Calls.{saysVerdict};
-ghost use Rattle.macaque_v.specs.Calls.{writeAnswer};
+ghost use Rattle.macaque_v.specs.Calls.{writeAnswer, writeMemory};
 ghost use Rattle.macaque_v.specs.Read.{saysOpen};
 ghost use Rattle.exports.specs.Face.{plainNumber, rowIn, stepNumber, stepRow};
-ghost use Rattle.exports_stream.specs.Row.{writerLength, writerRow, writerIn};
+ghost use Rattle.exports_stream.specs.Row.{writerLength, writerRow, writtenRow, writerIn};
 ghost use Rattle.exports_stream.specs.Calls.{openingOf, countIn, newCauses, reopenCausesWith};
-ghost use Rattle.exports_stream.specs.Calls.{newNumber, newRow, writeBuffer};
+ghost use Rattle.exports_stream.specs.Calls.{newNumber, newRow};
 ghost use Rattle.exports_stream.specs.Calls.{reopenNumber, reopenRow, reopenBuffer, gridNumber, gridOut, sumNumber, sumOut};
 use exports::words;
 use macaque_v::MacaqueV;
@@ -48,24 +48,23 @@ pub extern "C" fn modelardb_macaque_v_new(
     }
 }
 
-// Writes the values behind the state's place; the row becomes the state after them.
+// Writes the values behind the state's place; the row becomes the state after them, its words of the
+// bound and of the mode as they were. A row that is too short stands for no state, as one with wrong words
+// does: it is refused with 2, behind 1 for its bound.
 #[no_mangle]
 pub extern "C" fn modelardb_macaque_v_compress_values(
     state: &mut [u64],
     values: &[u32],
     buffer: &mut [u8],
 ) -> u32
-    ensures number { λ r. ⌜ r ≡ stepNumber writerLength (now (state .entry)) (writeAnswer (writerIn (now (state .entry))) (now (values .entry)) (now (buffer .entry))) ⌝ }
-    ensures row { λ r. ⌜ now (state .exit) ≡ stepRow writerLength writerRow (now (state .entry)) (writeAnswer (writerIn (now (state .entry))) (now (values .entry)) (now (buffer .entry))) ⌝ }
-    ensures bytes { λ r. ⌜ now (buffer .exit) ≡ writeBuffer (now (state .entry)) (now (values .entry)) (now (buffer .entry)) ⌝ }
+    ensures number { λ r. ⌜ r ≡ stepNumber (writeAnswer (writerIn (now (state .entry))) (now (values .entry)) (now (buffer .entry))) ⌝ }
+    ensures row { λ r. ⌜ now (state .exit) ≡ stepRow (writtenRow (now (state .entry))) (now (state .entry)) (writeAnswer (writerIn (now (state .entry))) (now (values .entry)) (now (buffer .entry))) ⌝ }
+    ensures bytes { λ r. ⌜ now (buffer .exit) ≡ writeMemory (writerIn (now (state .entry))) (now (values .entry)) (now (buffer .entry)) ⌝ }
 {
-    if state.len() < row::WORDS {
-        return exports::TOO_SHORT;
-    }
     match row::writer_of(state).compress_values(values, buffer) {
         WriteAnswer::Refused(r, _) => models::number_of(r),
         WriteAnswer::Written(after) => {
-            exports::put_said(Verdict::Passed, &row::writer_words(after), state)
+            exports::put_said(Verdict::Passed, &row::written_words(state, after), state)
         }
     }
 }

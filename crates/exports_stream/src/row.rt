@@ -1,65 +1,74 @@
 // A writer's state as a row of ten words (specs/Row.antt): to the row, and back. A row that stands for no
 // state stands for one that the call behind refuses.
 ghost use mathlib.Core.Path.{_≡_};
+ghost use mathlib.Core.Bool.{true};
 ghost use Prim.Native.Nat.{_≤_};
 ghost use lib.ListN.{length};
-ghost use Rattle.exports_stream.specs.Row.{writerLength, writerRow, standsForState, writerIn};
+ghost use Rattle.exports_stream.specs.Row.{writerLength, stateWords, writerRow, writtenRow, standsForState, readWriter, writerIn};
 use exports::words;
 use macaque_v::MacaqueV;
+use models::ErrorBound;
 
 pub const WORDS: usize = 10;
 
 // ---- to the row
 
-pub fn writer_words(m: MacaqueV) -> [u64; WORDS]
-    ensures { λ r. ⌜ r ≡ writerRow m ⌝ }
+// A state's words, with those of the bound and of the mode as they are given.
+fn state_words(kind: u64, bits: u64, mode: u64, m: MacaqueV) -> [u64; WORDS]
+    ensures { λ r. ⌜ r ≡ stateWords kind bits mode m ⌝ }
 {
-    let b = m.error_bound;
     [
-        words::kind_of(b),
-        words::bits_of(b),
+        kind,
+        bits,
         m.min_value as u64,
         m.max_value as u64,
         m.last_value as u64,
         m.last_leading_zero_bits as u64,
         m.last_trailing_zero_bits as u64,
-        exports::word_of(m.with_first) as u64,
+        mode,
         m.place as u64,
         m.length as u64,
     ]
 }
 
+// Of a state that is handed out.
+pub fn writer_words(m: MacaqueV) -> [u64; WORDS]
+    ensures { λ r. ⌜ r ≡ writerRow m ⌝ }
+{
+    let b = m.error_bound;
+    let mode = exports::word_of(m.with_first) as u64;
+    state_words(words::kind_of(b), words::bits_of(b), mode, m)
+}
+
+// Of the state after a write: the bound and the mode stay as they stand in the row.
+pub fn written_words(row: &[u64], m: MacaqueV) -> [u64; WORDS]
+    requires { ⌜ writerLength ≤ length (now row) ⌝ }
+    ensures { λ r. ⌜ r ≡ writtenRow (now (row .entry)) m ⌝ }
+{
+    state_words(row[0], row[1], row[7], m)
+}
+
 // ---- from the row
 
+// A row that is too short stands for no state.
 fn stands_for_state(row: &[u64]) -> bool
-    requires { ⌜ writerLength ≤ length (now row) ⌝ }
     ensures { λ r. ⌜ r ≡ standsForState (now (row .entry)) ⌝ }
 {
+    if row.len() < WORDS {
+        return false;
+    }
     words::is_small(row[2])
         & (words::is_small(row[3])
             & (words::is_small(row[4])
                 & (words::is_small(row[5]) & (words::is_small(row[6]) & (row[7] <= 1)))))
 }
 
-// The state that a row stands for.
-pub fn writer_of(row: &[u64]) -> MacaqueV
-    requires { ⌜ writerLength ≤ length (now row) ⌝ }
-    ensures { λ r. ⌜ r ≡ writerIn (now (row .entry)) ⌝ }
+// The state in a row that stands for one.
+fn read_writer(error_bound: ErrorBound, row: &[u64]) -> MacaqueV
+    requires words { ⌜ writerLength ≤ length (now row) ⌝ }
+    requires stands { ⌜ standsForState (now row) ≡ true ⌝ }
+    ensures { λ r. ⌜ r ≡ readWriter «error_bound» (now (row .entry)) ⌝ }
 {
-    let error_bound = words::bound_in(row[0], row[1]);
-    if !stands_for_state(row) {
-        return MacaqueV {
-            error_bound,
-            min_value: models::FRESH_BITS,
-            max_value: models::FRESH_BITS,
-            last_value: 0,
-            last_leading_zero_bits: MacaqueV::OPENING_LEADING,
-            last_trailing_zero_bits: MacaqueV::OPENING_TRAILING,
-            with_first: false,
-            place: 1,
-            length: 0,
-        };
-    }
     MacaqueV {
         error_bound,
         min_value: words::low(row[2]),
@@ -70,5 +79,26 @@ pub fn writer_of(row: &[u64]) -> MacaqueV
         with_first: row[7] == 1,
         place: row[8] as usize,
         length: row[9] as usize,
+    }
+}
+
+// The state that a row stands for.
+pub fn writer_of(row: &[u64]) -> MacaqueV
+    ensures { λ r. ⌜ r ≡ writerIn (now (row .entry)) ⌝ }
+{
+    let error_bound = words::bound_front(row);
+    if stands_for_state(row) {
+        return read_writer(error_bound, row);
+    }
+    MacaqueV {
+        error_bound,
+        min_value: models::FRESH_BITS,
+        max_value: models::FRESH_BITS,
+        last_value: 0,
+        last_leading_zero_bits: MacaqueV::OPENING_LEADING,
+        last_trailing_zero_bits: MacaqueV::OPENING_TRAILING,
+        with_first: false,
+        place: 1,
+        length: 0,
     }
 }

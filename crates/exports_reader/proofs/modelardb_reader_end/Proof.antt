@@ -1,8 +1,6 @@
 -- `exports_reader::modelardb_reader_end` meets its contract, by what the call behind it said. Assumes nothing.
 use borrow.Author.Needs.{needs}
 use mathlib.Core.Path.{_≡_, sym, ap, _∙_}
-use borrow.Author.Tests.{lt-leb, le-leb}
-use lib.ListN.{length}
 use Rattle.models.specs.Calls.{saysVerdict}
 use Rattle.models.specs.declared.Verdict.{Verdict}
 use Rattle.exports.specs.Face.{plainNumber}
@@ -12,32 +10,23 @@ use Rattle.exports_reader.proofs.modelardb_reader_end.Statement.{statem
 use Rattle.exports_reader.proofs.modelardb_reader_end.Tie as tie
 
 -- what the call behind says, of the reader that the row stands for
-said : (c : tie.After-end-from)
-    → plainNumber (saysVerdict (c .end-from .result)) ≡ endNumber (c .before .before .before .before .before .args .bytes .now) (c .before .before .before .before .before .args .reader .now)
-unfolding endNumber
-said c =
-    let a = c .before .before .before .before .before .args in
-    ap plainNumber (c .end-from .ensures ∙ ap (endAnswer (a .bytes .now)) (c .before .position-in .ensures)) ∙ sym (rw (le-leb 6 (length (a .reader .now)) (c .before .before .if1 .left)))
+said : (c : tie.After-end-from) → plainNumber (saysVerdict (c .end-from .result)) ≡ endNumber (c .before .before .before .before .args .bytes .now) (c .before .before .before .before .args .reader .now)
+said c = ap plainNumber (c .end-from .ensures ∙ ap (endAnswer (c .before .before .before .before .args .bytes .now)) (c .before .position-in .ensures))
 
 returns : tie.Need-returns
-unfolding endNumber
-returns c = sym (rw (lt-leb 6 (length (c .before .before .before .args .reader .now)) (c .if1 .taken)))
+returns c = c .number-of .ensures ∙ ap (λ (v : Verdict). plainNumber (saysVerdict v)) (sym (c .before .before .r .given .1)) ∙ said (c .before .before .before .before)
 
 returns-2 : tie.Need-returns-2
-returns-2 c = c .number-of .ensures ∙ ap (λ (v : Verdict). plainNumber (saysVerdict v)) (sym (c .before .before .r .given .1)) ∙ said (c .before .before .before .before)
-
-returns-3 : tie.Need-returns-3
-returns-3 c = ap (λ (v : Verdict). plainNumber (saysVerdict v)) (sym (c .enum-told .given .1)) ∙ said (c .before .before)
+returns-2 c = ap (λ (v : Verdict). plainNumber (saysVerdict v)) (sym (c .enum-told .given .1)) ∙ said (c .before .before)
 
 pub modelardb-reader-end-spec : {M : Type 1} → statement M
 modelardb-reader-end-spec =
     tie.close
     (tie.spec
+    (λ c κs. search needs)
+    (λ c κs. search needs)
+    (λ c. search needs)
+    (λ c κs. search needs)
+    (λ c. search needs)
     returns
-    (λ c κs. search needs)
-    (λ c κs. search needs)
-    (λ c. search needs)
-    (λ c κs. search needs)
-    (λ c. search needs)
-    returns-2
-    returns-3)
+    returns-2)

@@ -6,8 +6,8 @@ use Rattle.models.specs.declared.Verdict.the-variants.{Passed}
 use Rattle.macaque_v.specs.Read.{saysOpen}
 use Rattle.macaque_v.specs.declared.read.OpenAnswer.{OpenAnswer}
 use Rattle.exports.specs.inner.Put.{worded}
-use Rattle.exports.proofs.Rows.{put-plain}
-use Rattle.exports_stream.specs.Row.{writerLength, writerRow}
+use Rattle.exports_stream.specs.Row.{writerRow}
+use Rattle.exports_stream.proofs.Faces.{put-plain}
 use Rattle.exports_stream.proofs.Words.{writer-long}
 use borrow.Author.Needs.{needs}
 use Rattle.exports_stream.proofs.put_opened.Statement.{statement}
@@ -18,7 +18,7 @@ returns-2 c =
     let a = c .before .before .before .before .before .before .before .before .before .before .args in
     let words = c .before .before .before .before .before .writer-words .ensures in
     let e = ap answered words ∙ sym (ap (λ (w : OpenAnswer). worded writerRow (saysOpen w)) (c .before .before .before .before .before .before .before .writer2 .given .1)) in
-    put-plain writerRow writerLength (a .state .now) (saysOpen (a .writer)) Passed _ (c .before .before .before .before .before .before .before .before .before .before .pre) (ap length words ∙ writer-long (c .before .before .before .before .before .before .before .writer2 .given .0 .0)) e (c .before .before .put-said .ensures)
+    put-plain (a .state .now) (saysOpen (a .writer)) Passed _ (c .before .before .before .before .before .before .before .before .before .before .pre) (ap length words ∙ writer-long (c .before .before .before .before .before .before .before .writer2 .given .0 .0)) e (c .before .before .put-said .ensures)
 
 pub put-opened-spec : {M : Type 1} → statement M
 put-opened-spec =

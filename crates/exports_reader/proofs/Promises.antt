@@ -1,0 +1,240 @@
+-- What the reader's C face promises: the row that a call left stands for the reader that the next call begins with, so that a stream is read through rows
+-- as `Reader` reads it, and as `grid` draws it; and a row that stands for no reader is refused with 2. Assumes nothing.
+use mathlib.Core.Path.{_≡_, refl, sym, ap, ap₂, _∙_, subst}
+use mathlib.Core.Logic.{_⊎_, inl, inr}
+use mathlib.Core.Bool.{Bool, true, false}
+use mathlib.Core.List.{List, [], _∷_}
+use mathlib.Core.Option.{Option, none, some}
+use Prim.Native.Nat.{ℕ, zero, suc, _+_, _^_, _≤_, _<_}
+use native.Mathlib.Omega.{arith}
+use borrow.Author.Tests.{le-leb, le-ltb, ltb-true}
+use lib.ListN.{length, take, drop, getD}
+use Rattle.bits.specs.Bits.{Below, wholeBytes}
+use Rattle.models.specs.Answers.{Said, Done, answered, refused, SaidOn, answeredOn, refusedOn, refusing, stateless, Fault, fault, judge}
+use Rattle.models.specs.Limits.{mostValues}
+use Rattle.models.specs.declared.ErrorBound.{ErrorBound}
+use Rattle.models.specs.declared.ErrorBound.the-variants.{Lossless}
+use Rattle.models.proofs.Judged.{accepted-on, not-answered, not-answered-on, same-answer, same-answer-on}
+use Rattle.models.proofs.Tests.{or-right}
+use Rattle.stream.specs.Format.{macaque, Window, windowIn, rawNext, bare}
+use Rattle.stream.specs.Read as stream
+use Rattle.stream.specs.Read.{Step, got, stepAt, ended, endedBy, leftover}
+use Rattle.stream.proofs.Formats.{macaque-good, Framed}
+use Rattle.stream.proofs.OwnBits.{own}
+use Rattle.stream.proofs.Numbers.{FiveToSeven, one-value-is-refused-with-5-to-7}
+use Rattle.macaque_v.specs.State.{modeOf, openingValue}
+use Rattle.macaque_v.specs.ReadRun.{stateAt, ahead, movedBy, endSaid}
+use Rattle.macaque_v.specs.Read.{valuesRead, valuesIn, drawn, drawnIn}
+use Rattle.macaque_v.specs.Made.{keptOf}
+use Rattle.macaque_v.specs.declared.Opening.{Opening}
+use Rattle.macaque_v.specs.declared.Opening.the-variants.{First, On}
+use Rattle.macaque_v.proofs.Promises.{values-read-back, lossless-keeps-the-inputs}
+use Rattle.exports.specs.Face.{beforeShort, refusalNumber, numberOf, rowAfter, plainNumber}
+use Rattle.exports_stream.proofs.Numbers.{judged-so}
+use Rattle.exports_stream.proofs.Promises.{place-word, length-word}
+use Rattle.exports_stream.specs.Row.{writerIn, bytesInUse, lengthWord}
+use Rattle.exports_stream.specs.Calls.{openingOf, gridNumber, gridOut, RowMade}
+use Rattle.reader.specs.Calls.{openedAt, Taken, nextCauses, handed, nextRead, nextAnswer, endAnswer}
+use Rattle.reader.specs.Run.{also, andThen, nexts, ifEnded, andEnd}
+use Rattle.reader.specs.declared.position.Position.{Position}
+use Rattle.reader.proofs.Promises.{cons, also-cons, n-nexts-and-the-end, as-the-grid}
+use Rattle.exports_reader.specs.Row.{readerLength, standsForReader, positionIn}
+use Rattle.exports_reader.specs.Calls.{openNumber, openRow, nextRow, endNumber}
+use Rattle.exports_reader.specs.Run.{nextNumber, nextMoved, nextOut, ifZero, andLater, readThrough, EachAnswersZero}
+use Rattle.exports_reader.proofs.Faces.{short-stands-for-none, no-reader, small-words, a-reader, no-reader-next, no-reader-end, position-back}
+
+-- ---- a reader whose words are of 32 bits is read back from its row, and its next leads to such a one
+
+record Small (p : Position) : Type 0 where
+  last : p .at .last < 2 ^ 32
+  lead : p .at .lead < 2 ^ 32
+  trail : p .at .trail < 2 ^ 32
+
+-- whatever the row: the words of a reader that it stands for are small, and so are those of the one that no stream allows
+row-small : (row : List ℕ) → Small (positionIn row)
+row-small row = go (standsForReader row) refl
+  where
+    go : (b : Bool) → standsForReader row ≡ b → Small (positionIn row)
+    go true h =
+        let s = small-words row h in
+        subst Small (a-reader row h) (record { last = ltb-true (getD row 0 0) (2 ^ 32) (s .0); lead = ltb-true (getD row 1 0) (2 ^ 32) (s .1); trail = ltb-true (getD row 2 0) (2 ^ 32) (s .2) })
+    go false h = subst Small (no-reader row h) (record { last = omega arith; lead = omega arith; trail = omega arith })
+
+open-small : (o : Opening) → openingValue o < 2 ^ 32 → Small (openedAt o)
+open-small First h = record { last = omega arith; lead = omega arith; trail = omega arith }
+open-small (On v) h = record { last = h; lead = omega arith; trail = omega arith }
+
+module _ (bytes : List ℕ) (p : Position) (small : Small p) where
+  step-small : (q : Step) → stepAt (bare (modeOf (p .«with_first»))) (stateAt (p .at)) (ahead bytes (p .at)) ≡ q → (t : Taken) → handed p (movedBy (p .at) q) ≡ answeredOn t → Small (t .after)
+  step-small (got v win used) e t h =
+      let raw : Bool = rawNext (modeOf (p .«with_first»)) (p .at .count) in
+      let o = own macaque macaque-good (windowIn (p .at .lead) (p .at .trail)) (p .at .last) (small .last) (ahead bytes (p .at)) v win used raw e in
+      subst (λ (u : Taken). Small (u .after)) (same-answer-on h) (by-frame (o .small) (o .frame))
+    where
+      by-frame : v < 2 ^ 32 → (win ≡ windowIn (p .at .lead) (p .at .trail)) ⊎ Framed macaque win
+          → Small (record { «with_first» = p .«with_first»; at = record { last = v; lead = win .lead; trail = win .trail; place = p .at .place + used; count = p .at .count + 1 } })
+      by-frame hv (inl f) = record { last = hv; lead = subst (λ (w : Window). w .lead < 2 ^ 32) (sym f) (small .lead); trail = subst (λ (w : Window). w .trail < 2 ^ 32) (sym f) (small .trail) }
+      by-frame hv (inr f) = record { last = hv; lead = omega (arith, f .some); trail = omega (arith, f .some) }
+  step-small (stream.halt n) e t h = absurd (not-answered-on h)
+
+  next-small : (t : Taken) → nextAnswer bytes p ≡ answeredOn t → Small (t .after)
+  unfolding nextAnswer nextRead
+  next-small t h = step-small _ refl t (accepted-on p (nextCauses (length bytes) (p .at)) _ t h .1)
+
+-- ---- the row that a call left stands for the reader that it made
+
+pub an-opened-row : (mode opening : ℕ) (row : List ℕ) → mode ≤ 1 → readerLength ≤ length row → openingValue (openingOf mode opening) < 2 ^ 32
+    → (openNumber mode row ≡ 0) × (positionIn (openRow mode opening row) ≡ openedAt (openingOf mode opening))
+unfolding openNumber openRow judge
+an-opened-row mode opening row one words h =
+    let s = open-small (openingOf mode opening) h in
+    rw (le-ltb 1 mode one, le-ltb (length row) readerLength words) (refl, position-back (openedAt (openingOf mode opening)) _ (s .last) (s .lead) (s .trail))
+
+module _ (bytes row out : List ℕ) (room : 1 ≤ length out) (t : Taken) (h : nextAnswer bytes (positionIn row) ≡ answeredOn t) where
+  -- a next that the reader answers is 0, puts the value into out[0], and the row stands for the reader behind it
+  pub a-row-moves : (nextNumber bytes row out ≡ 0) × (nextOut bytes row out ≡ t .value ∷ drop 1 out) × (positionIn (nextMoved bytes row out) ≡ t .after)
+  unfolding numberOf rowAfter nextRow
+  a-row-moves =
+      let s = next-small bytes (positionIn row) (row-small row) t h in
+      rw (h, le-leb 1 (length out) room) (refl, refl, position-back (t .after) _ (s .last) (s .lead) (s .trail))
+
+-- ---- no refusal has the number 0, so a call's number tells what the call behind said
+
+abbrev Numbered : {A : Type 0} → Said A → Type 0
+Numbered (answered x) = Unit {0}
+Numbered (refused f) = 0 < f .number
+
+module _ (bytes : List ℕ) (p : Position) where
+  step-numbered : (q : Step) → FiveToSeven q → Numbered (stateless (handed p (movedBy (p .at) q)))
+  step-numbered (got v win used) h = tt
+  step-numbered (stream.halt n) h = omega (arith, h .0)
+
+  next-numbered : Numbered (stateless (nextAnswer bytes p))
+  unfolding nextAnswer nextRead
+  next-numbered =
+      let step : Step = stepAt (bare (modeOf (p .«with_first»))) (stateAt (p .at)) (ahead bytes (p .at)) in
+      let five : FiveToSeven step = one-value-is-refused-with-5-to-7 macaque (rawNext (modeOf (p .«with_first»)) (p .at .count)) (windowIn (p .at .lead) (p .at .trail)) (p .at .last) (ahead bytes (p .at)) in
+      judged-so (λ (q : SaidOn Position Taken). Numbered (stateless q)) (refusing p) (λ n h. h) (nextCauses (length bytes) (p .at)) (omega arith, (omega arith, tt)) _ (step-numbered step five)
+
+  end-numbered : Numbered (endAnswer bytes p)
+  unfolding endAnswer endSaid ended
+  end-numbered = judged-so Numbered refused (λ n h. h) _ (omega arith, tt) _ (go (leftover (p .at .place) (ahead bytes (p .at))))
+    where
+      go : (o : Option ℕ) → Numbered (drawn (valuesRead (endedBy [] (stateAt (p .at)) (ahead bytes (p .at)) o)))
+      go none = tt
+      go (some q) = omega arith
+
+told : (n : ℕ) (later : Said (List ℕ)) → 0 < n → ifZero n later ≡ refused (fault n)
+told zero later h = absurd (omega arith)
+told (suc n) later h = refl
+
+-- ---- reading through a row
+
+module _ (bytes : List ℕ) where
+  ends : (a : Said Done) → Numbered a → ifZero (plainNumber a) (answered []) ≡ ifEnded [] a
+  ends (answered u) h = refl
+  ends (refused f) h = told (f .number) (answered []) h
+
+  same-later : (v : ℕ) (a : Said (List ℕ)) → andLater v a ≡ cons v a
+  same-later v (answered vs) = refl
+  same-later v (refused f) = refl
+
+  -- a refused next, with an output of one place or more
+  next-refused-with : (row out : List ℕ) → 1 ≤ length out → (f : Fault) (p : Position) → nextAnswer bytes (positionIn row) ≡ refusedOn f p → nextNumber bytes row out ≡ f .number
+  unfolding numberOf refusalNumber
+  next-refused-with row out room f p e = rw (e, le-leb 1 (length out) room, or-right (beforeShort (f .number)) true refl)
+
+  -- through whatever row, with an output of one place or more: n nexts and the end hand over what the reader reads that the row stands for, or answer
+  -- its refusal
+  pub through-a-row : (n : ℕ) (row out : List ℕ) → 1 ≤ length out → readThrough bytes n row out ≡ andEnd bytes (nexts bytes n (positionIn row))
+  unfolding readThrough nexts
+  through-a-row zero row out room = ends (endAnswer bytes (positionIn row)) (end-numbered bytes (positionIn row))
+  through-a-row (suc n) row out room = go (nextAnswer bytes (positionIn row)) refl (λ row′ out′ room′. through-a-row n row′ out′ room′)
+    where
+      go : (q : SaidOn Position Taken) → nextAnswer bytes (positionIn row) ≡ q
+          → ((row′ out′ : List ℕ) → 1 ≤ length out′ → readThrough bytes n row′ out′ ≡ andEnd bytes (nexts bytes n (positionIn row′)))
+          → ifZero (nextNumber bytes row out) (andLater (getD (nextOut bytes row out) 0 0) (readThrough bytes n (nextMoved bytes row out) (nextOut bytes row out)))
+          ≡ andEnd bytes (andThen q (λ t. also (t .value) (nexts bytes n (t .after))))
+      go (answeredOn t) e ih =
+          let m = a-row-moves bytes row out room t e in
+          let long : 1 ≤ length (nextOut bytes row out) = subst (λ (l : List ℕ). 1 ≤ length l) (sym (m .1)) (omega arith) in
+          let later = ih (nextMoved bytes row out) (nextOut bytes row out) long ∙ ap (λ (p : Position). andEnd bytes (nexts bytes n p)) (m .2) in
+          ap (λ (k : ℕ). ifZero k (andLater (getD (nextOut bytes row out) 0 0) (readThrough bytes n (nextMoved bytes row out) (nextOut bytes row out)))) (m .0)
+          ∙ ap₂ andLater (ap (λ (l : List ℕ). getD l 0 0) (m .1)) later
+          ∙ same-later (t .value) (andEnd bytes (nexts bytes n (t .after)))
+          ∙ sym (also-cons bytes (t .value) (nexts bytes n (t .after)))
+      go (refusedOn f p) e ih =
+          ap (λ (k : ℕ). ifZero k (andLater (getD (nextOut bytes row out) 0 0) (readThrough bytes n (nextMoved bytes row out) (nextOut bytes row out)))) (next-refused-with row out room f p e)
+          ∙ told (f .number) _ (subst (λ (q : SaidOn Position Taken). Numbered (stateless q)) e (next-numbered bytes (positionIn row)))
+
+  -- the same, call by call
+  each : (n : ℕ) (row out : List ℕ) (vs : List ℕ) → readThrough bytes n row out ≡ answered vs → EachAnswersZero bytes row out vs
+  unfolding readThrough
+  each zero row out vs e = ended-so (endNumber bytes row) refl e
+    where
+      ended-so : (k : ℕ) → endNumber bytes row ≡ k → ifZero k (answered []) ≡ answered vs → EachAnswersZero bytes row out vs
+      ended-so zero z e = subst (EachAnswersZero bytes row out) (same-answer e) z
+      ended-so (suc k) z e = absurd (not-answered e)
+  each (suc n) row out vs e = go (nextNumber bytes row out) refl (readThrough bytes n (nextMoved bytes row out) (nextOut bytes row out)) refl e (λ us r. each n (nextMoved bytes row out) (nextOut bytes row out) us r)
+    where
+      go : (k : ℕ) → nextNumber bytes row out ≡ k → (q : Said (List ℕ)) → readThrough bytes n (nextMoved bytes row out) (nextOut bytes row out) ≡ q
+          → ifZero k (andLater (getD (nextOut bytes row out) 0 0) q) ≡ answered vs
+          → ((us : List ℕ) → readThrough bytes n (nextMoved bytes row out) (nextOut bytes row out) ≡ answered us → EachAnswersZero bytes (nextMoved bytes row out) (nextOut bytes row out) us)
+          → EachAnswersZero bytes row out vs
+      go zero z (answered us) r e ih = subst (EachAnswersZero bytes row out) (same-answer e) (z, refl, ih us r)
+      go zero z (refused f) r e ih = absurd (not-answered e)
+      go (suc k) z q r e ih = absurd (not-answered e)
+
+  -- ---- opened into a row, read n times and ended through it
+
+  module _ (mode opening : ℕ) (row out : List ℕ) (one : mode ≤ 1) (words : readerLength ≤ length row) (room : 1 ≤ length out) (h : openingValue (openingOf mode opening) < 2 ^ 32)
+      (n : ℕ) (few : n ≤ mostValues) where
+    -- the open is 0, and the nexts and the end hand over the values that reading takes of a count of n, or answer its refusal, 5 to 8
+    pub n-nexts-and-the-end-through-a-row : (openNumber mode row ≡ 0) × (readThrough bytes n (openRow mode opening row) out ≡ valuesIn bytes n (openingOf mode opening))
+    n-nexts-and-the-end-through-a-row =
+        let o = an-opened-row mode opening row one words h in
+        (o .0, through-a-row n (openRow mode opening row) out room ∙ ap (λ (p : Position). andEnd bytes (nexts bytes n p)) (o .1) ∙ n-nexts-and-the-end bytes (openingOf mode opening) h n few)
+
+    -- as the grid of the C face answers and draws them, where it has room
+    pub as-the-grid-through-a-row : (grid : List ℕ) → n ≤ length grid
+        → (gridNumber bytes n mode opening grid ≡ plainNumber (drawn (readThrough bytes n (openRow mode opening row) out)))
+        × (gridOut bytes n mode opening grid ≡ drawnIn grid (readThrough bytes n (openRow mode opening row) out))
+    unfolding gridNumber gridOut
+    as-the-grid-through-a-row grid fits =
+        let g = as-the-grid bytes (openingOf mode opening) h n few grid fits in
+        let same = n-nexts-and-the-end bytes (openingOf mode opening) h n few ∙ sym (n-nexts-and-the-end-through-a-row .1) in
+        rw (le-leb mode 1 one) (ap plainNumber (g .0) ∙ ap (λ (q : Said (List ℕ)). plainNumber (drawn q)) same, g .1 ∙ ap (drawnIn grid) same)
+
+    -- so of a stream that reads as n values each next answers 0 and the next of them, and the end answers 0
+    pub each-answers-0 : (vs : List ℕ) → valuesIn bytes n (openingOf mode opening) ≡ answered vs → EachAnswersZero bytes (openRow mode opening row) out vs
+    each-answers-0 vs e = each n (openRow mode opening row) out vs (n-nexts-and-the-end-through-a-row .1 ∙ e)
+
+-- ---- demand 2, from a writer's row to a reader's: what was written through the one reads back through the other as the kept values
+
+module _ {b : ErrorBound} (mode opening : ℕ) {xs buf writer : List ℕ} (R : RowMade b (openingOf mode opening) xs buf writer) (one : mode ≤ 1)
+    (h : openingValue (openingOf mode opening) < 2 ^ 32) (bx : Below 32 xs) (most : length xs ≤ mostValues) (row out : List ℕ) (words : readerLength ≤ length row) (room : 1 ≤ length out) where
+  pub what-was-written-reads-back : readThrough (bytesInUse writer buf) (lengthWord writer) (openRow mode opening row) out ≡ answered (keptOf b (openingOf mode opening) xs)
+  what-was-written-reads-back =
+      let used : take (wholeBytes ((writerIn writer) .place)) buf ≡ bytesInUse writer buf = ap (λ (p : ℕ). take (wholeBytes p) buf) (place-word R) in
+      let few : lengthWord writer ≤ mostValues = omega (arith, length-word R) in
+      n-nexts-and-the-end-through-a-row (bytesInUse writer buf) mode opening row out one words room h (lengthWord writer) few .1
+      ∙ ap₂ (λ (l : List ℕ) (n : ℕ). valuesIn l n (openingOf mode opening)) (sym used) (length-word R)
+      ∙ values-read-back (R .made) bx h
+
+-- lossless: the inputs
+module _ (mode opening : ℕ) {xs buf writer : List ℕ} (R : RowMade Lossless (openingOf mode opening) xs buf writer) (one : mode ≤ 1)
+    (h : openingValue (openingOf mode opening) < 2 ^ 32) (bx : Below 32 xs) (most : length xs ≤ mostValues) (row out : List ℕ) (words : readerLength ≤ length row) (room : 1 ≤ length out) where
+  pub lossless-reads-back-through-a-row : readThrough (bytesInUse writer buf) (lengthWord writer) (openRow mode opening row) out ≡ answered xs
+  lossless-reads-back-through-a-row =
+      what-was-written-reads-back mode opening R one h bx most row out words room ∙ ap answered (lossless-keeps-the-inputs (openingOf mode opening) xs)
+
+-- ---- words that stand for no reader
+
+-- a row that stands for no reader, one that is too short among them, is refused with 2 by next and by end
+module _ (bytes row : List ℕ) where
+  pub no-reader-is-2 : standsForReader row ≡ false → ((out : List ℕ) → nextNumber bytes row out ≡ 2) × (endNumber bytes row ≡ 2)
+  unfolding numberOf refusalNumber
+  no-reader-is-2 h = (λ out. rw (no-reader-next bytes row h), ap plainNumber (no-reader-end bytes row h))
+
+  pub a-short-row-is-2 : length row < readerLength → ((out : List ℕ) → nextNumber bytes row out ≡ 2) × (endNumber bytes row ≡ 2)
+  a-short-row-is-2 h = no-reader-is-2 (short-stands-for-none row h)

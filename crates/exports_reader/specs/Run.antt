@@ -1,0 +1,46 @@
+-- Reading a stream through a row, as a caller does: next after next with one output, and the end. Assumes nothing.
+use mathlib.Core.Path.{_≡_}
+use mathlib.Core.List.{List, [], _∷_}
+use Prim.Native.Nat.{ℕ, zero, suc}
+use lib.ListN.{length, getD}
+use Rattle.models.specs.Answers.{Said, answered, refused, fault}
+use Rattle.exports.specs.Face.{askNumber, askRow}
+use Rattle.reader.specs.Calls.{nextAnswer}
+use Rattle.exports_reader.specs.Row.{positionIn}
+use Rattle.exports_reader.specs.Calls.{oneValue, nextRow, endNumber}
+
+-- ---- one next: the number, the row and the output
+
+abbrev pub nextNumber : List ℕ → List ℕ → List ℕ → ℕ
+nextNumber bytes row out = askNumber 1 (length out) (nextAnswer bytes (positionIn row))
+
+abbrev pub nextMoved : List ℕ → List ℕ → List ℕ → List ℕ
+nextMoved bytes row out = nextRow row out (nextAnswer bytes (positionIn row))
+
+abbrev pub nextOut : List ℕ → List ℕ → List ℕ → List ℕ
+nextOut bytes row out = askRow 1 oneValue out (nextAnswer bytes (positionIn row))
+
+-- ---- n of them, and the end: the values that stood in out[0], where every call answered 0; else the first other number
+
+abbrev pub ifZero : ℕ → Said (List ℕ) → Said (List ℕ)
+ifZero zero later = later
+ifZero (suc n) later = refused (fault (suc n))
+
+-- a value before others
+abbrev pub andLater : ℕ → Said (List ℕ) → Said (List ℕ)
+andLater v (answered vs) = answered (v ∷ vs)
+andLater v (refused f) = refused f
+
+unfoldable pub readThrough : List ℕ → ℕ → List ℕ → List ℕ → Said (List ℕ)
+readThrough bytes zero row out = ifZero (endNumber bytes row) (answered [])
+readThrough bytes (suc n) row out =
+    ifZero (nextNumber bytes row out)
+    (andLater (getD (nextOut bytes row out) 0 0) (readThrough bytes n (nextMoved bytes row out) (nextOut bytes row out)))
+
+-- the same, call by call: each next answers 0 and puts its value into out[0], and behind them the end answers 0
+abbrev pub EachAnswersZero : List ℕ → List ℕ → List ℕ → List ℕ → Type 0
+EachAnswersZero bytes row out [] = endNumber bytes row ≡ 0
+EachAnswersZero bytes row out (v ∷ vs) =
+    (nextNumber bytes row out ≡ 0)
+    × (getD (nextOut bytes row out) 0 0 ≡ v)
+    × EachAnswersZero bytes (nextMoved bytes row out) (nextOut bytes row out) vs
