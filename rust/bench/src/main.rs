@@ -3,6 +3,7 @@
 //! `bench --quick`, a short run that holds each ratio to a loose limit.
 
 mod jobs;
+mod out;
 mod series;
 mod short;
 mod sides;
@@ -11,6 +12,7 @@ use jobs::{Job, Lists};
 use oracle::builds::AT_HAND;
 use oracle::paper::models::ErrorBound::{self, Absolute, Lossless, Relative};
 use oracle::rust::Calls;
+use out::{put, say};
 use sides::{MOST_VALUES, Ours, Side};
 use std::process::ExitCode;
 
@@ -42,7 +44,7 @@ const LOOSE: f64 = 2.5;
 fn main() -> ExitCode {
     let words: Vec<String> = std::env::args().skip(1).collect();
     let Some(bench) = Bench::asked(&words) else {
-        eprintln!("{USAGE}");
+        out::complain(format_args!("{USAGE}"));
         return ExitCode::from(2);
     };
     if bench.run() {
@@ -88,7 +90,7 @@ impl Bench {
     /// All tables. Whether the sides agree, and every ratio keeps the limit.
     fn run(&self) -> bool {
         if AT_HAND.is_empty() {
-            println!("only ours is timed, since ORACLE_SRC names no folder with the Rust's text\n");
+            say!("only ours is timed, since ORACLE_SRC names no folder with the Rust's text\n");
         }
         let rooms = series::rooms(self.streams, 1_000);
         let nights = series::rooms(self.streams / 66, MOST_VALUES);
@@ -107,9 +109,7 @@ impl Bench {
         if !JOBS.iter().any(|job| self.is_wanted(job.0)) {
             return true;
         }
-        println!(
-            "Nanoseconds a value, streams of 1,000 values, and ours as a part of the Rust's\n"
-        );
+        say!("Nanoseconds a value, streams of 1,000 values, and ours as a part of the Rust's\n");
         head(
             "| job | bound | ours |",
             " filled | ratio | goal | published | ratio | goal |",
@@ -123,7 +123,7 @@ impl Bench {
                 }
             }
         }
-        println!();
+        say!();
         good
     }
 
@@ -136,7 +136,7 @@ impl Bench {
             if lists.agree(&Ours, &calls.direct, job) {
                 builds.push(calls);
             } else if calls.is_filled() || job != Job::Written || lists.bound == Lossless {
-                println!("{name}, {bound}: ours and {} differ", calls.name);
+                say!("{name}, {bound}: ours and {} differ", calls.name);
                 good = false;
             }
         }
@@ -157,11 +157,11 @@ impl Bench {
             },
         );
         let ours = times[0];
-        print!("| {name} | {bound} | {ours:.2} |");
+        put!("| {name} | {bound} | {ours:.2} |");
         for (time, goal) in times[1..].iter().zip(goals) {
             good &= self.ratio(ours, *time, goal);
         }
-        println!();
+        say!();
         good
     }
 
@@ -186,13 +186,13 @@ impl Bench {
         let ratio = ours / other;
         let good = self.keeps(ratio, goal);
         let mark = if good { "" } else { " is above the limit" };
-        print!(" {other:.2} | {ratio:.2}{mark} | {goal:.2} |");
+        put!(" {other:.2} | {ratio:.2}{mark} | {goal:.2} |");
         good
     }
 
     /// The jobs and reopening at the end, a value of the longest streams beside one of short ones.
     fn long_streams(&self, rooms: &[Vec<f32>], nights: &[Vec<f32>]) -> bool {
-        println!("Nanoseconds a value, streams of 65,536 values beside those of 1,000\n");
+        say!("Nanoseconds a value, streams of 65,536 values beside those of 1,000\n");
         head("| job | bound | 65,536 | 1,000 | ratio | goal |", "");
         let mut pairs = BOUNDS.map(|(name, bound)| {
             let pair = [nights, rooms].map(|rooms| Lists::new(rooms, bound));
@@ -217,7 +217,7 @@ impl Bench {
                 good &= self.reopened(bound, long, short);
             }
         }
-        println!();
+        say!();
         good
     }
 
@@ -225,7 +225,7 @@ impl Bench {
     fn reopened(&self, bound: &str, long: &mut Lists, short: &mut Lists) -> bool {
         let same = long.reopens() && short.reopens();
         if !same {
-            println!("reopened, {bound}: another writer than the one that wrote");
+            say!("reopened, {bound}: another writer than the one that wrote");
         }
         let mut time = || {
             in_turns(
@@ -240,9 +240,9 @@ impl Bench {
     }
 
     fn long_row(&self, name: &str, bound: &str, long: f64, short: f64) -> bool {
-        print!("| {name} | {bound} | {long:.2} |");
+        put!("| {name} | {bound} | {long:.2} |");
         let good = self.ratio(long, short, LONG_GOAL);
-        println!();
+        say!();
         good
     }
 
@@ -250,7 +250,7 @@ impl Bench {
         let mut filled = AT_HAND.iter().filter(|calls| calls.is_filled());
         let good = filled.all(|calls| lists.agree(&Ours, &calls.direct, job));
         if !good {
-            println!("{name}, {bound}, 65,536 values: ours and filled differ");
+            say!("{name}, {bound}, 65,536 values: ours and filled differ");
         }
         good
     }
@@ -260,24 +260,24 @@ impl Bench {
         if !["written", "read"].iter().any(|job| self.is_wanted(job)) {
             return;
         }
-        println!("Nanoseconds a call, short calls through the Rust face\n");
+        say!("Nanoseconds a call, short calls through the Rust face\n");
         head("| call | bound | ours |", " filled | published |");
         if self.is_wanted("written") {
             for (bound, error_bound) in BOUNDS {
                 let ours = short::one_value_written(rooms, error_bound, self.rounds);
                 let others = AT_HAND.iter().map(|_| " – |").collect::<String>();
-                println!("| one value written to a state | {bound} | {ours:.0} |{others}");
+                say!("| one value written to a state | {bound} | {ours:.0} |{others}");
             }
         }
         if self.is_wanted("read") {
             for (bound, error_bound) in BOUNDS {
-                print!("| a stream of {} read | {bound} |", short::SHORT);
+                put!("| a stream of {} read | {bound} |", short::SHORT);
                 let builds = AT_HAND.iter().map(|calls| &calls.direct as &dyn Side);
                 for side in std::iter::once(&Ours as &dyn Side).chain(builds) {
                     let time = short::short_stream_read(side, rooms, error_bound, self.rounds);
-                    print!(" {time:.0} |");
+                    put!(" {time:.0} |");
                 }
-                println!();
+                say!();
             }
         }
     }
@@ -296,6 +296,6 @@ fn head(row: &str, of_the_text: &str) {
         [] => row.to_string(),
         _ => format!("{row}{of_the_text}"),
     };
-    println!("{row}");
-    println!("{}|", "|---".repeat(row.matches('|').count() - 1));
+    say!("{row}");
+    say!("{}|", "|---".repeat(row.matches('|').count() - 1));
 }

@@ -17,9 +17,9 @@ pub fn one_value_written(rooms: &[Vec<f32>], bound: ErrorBound, rounds: u32) -> 
         .map(|values| (sides::written(bound, &values[..SHORT]).0, values[SHORT]))
         .collect();
     let mut buffer = [0; 128];
-    each(&begun, rounds, |&(writer, value)| {
-        let mut writer = writer;
-        let written = writer.compress_values(&[value], &mut buffer);
+    each(&begun, rounds, |(writer, value)| {
+        let mut writer = writer.clone();
+        let written = writer.compress_values(&[*value], &mut buffer);
         let _ = black_box((written, &buffer, writer));
     })
 }

@@ -25,7 +25,9 @@ pub use segments::{
 
 mod c {
     unsafe extern "C" {
+        /// The bits of the f64 of an f32's value.
         pub safe fn modelardb_widen(bits: u32) -> u64;
+        /// The bits of the f32 nearest to an f64's value, a tie to the even one.
         pub safe fn modelardb_narrow(bits: u64) -> u32;
         pub unsafe fn modelardb_is_value_within_error_bound(
             kind: u32,

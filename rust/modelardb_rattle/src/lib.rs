@@ -4,6 +4,9 @@
 //! Values are f32. Where a NaN's payload matters, a call on the value's bits stands beside the call
 //! on floats.
 //!
+//! A state changes in place: what fits or is written is part of it from then on. So writers, readers,
+//! models and builders are no `Copy`; to keep one as it was, clone it.
+//!
 //! [`choose_model`] says which model stores a run of values, [`PMCMean`] or [`Swing`]; a [`Segment`]
 //! holds that model and the values behind it, which [`MacaqueV`] writes as a stream.
 //!
@@ -18,6 +21,8 @@
 //! assert_eq!(refused, Err(Refusal::BoundNotAllowed));
 //! ```
 
+#![warn(missing_docs)]
+
 pub mod ffi;
 pub mod macaque_v;
 pub mod models;
@@ -26,6 +31,7 @@ pub mod parameters;
 pub mod pmc_mean;
 mod refusal;
 pub mod segments;
+mod shown;
 pub mod swing;
 pub mod types;
 

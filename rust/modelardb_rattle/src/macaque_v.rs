@@ -6,7 +6,9 @@ mod read;
 mod reader;
 
 use crate::ffi::{self, STATE_WORDS, Words};
+use crate::shown::F32;
 use crate::{ErrorBound, Refusal};
+use std::fmt::{self, Debug, Formatter};
 
 pub use read::{grid, grid_bits, sum, sum_bits};
 pub use reader::{Reader, last_value, last_value_bits};
@@ -42,6 +44,10 @@ impl Opening {
 
 /// The writer of a stream: what it knows of the values behind it. Their bytes stand in the buffer
 /// that each call is lent, the same one or a copy.
+///
+/// A stream keeps for each value one that is within the bound of it, lossless the value itself, bit for
+/// bit, odd NaNs and both zeros included. It holds neither its count nor a checksum: keep the count
+/// beside the bytes, and let what carries them see that they arrive unaltered.
 ///
 /// Two of the paper's marked cases, and an upload that is cut at a value and goes on as if it had
 /// never stopped:
@@ -84,7 +90,7 @@ impl Opening {
 /// assert_eq!(resumed[..used], in_one_run[..used]);
 /// # Ok::<(), Refusal>(())
 /// ```
-#[derive(Clone, Copy, Debug, PartialEq, Eq)]
+#[derive(Clone, PartialEq, Eq)]
 pub struct MacaqueV {
     /// The state as it crosses the C face: see [`STATE_WORDS`].
     row: [u64; STATE_WORDS],
@@ -103,7 +109,11 @@ impl MacaqueV {
     /// The trailing zero bits of the window before any is set.
     pub const OPENING_TRAILING: u32 = 0;
 
-    /// The writer before any value. Refused where the bound is not allowed.
+    /// The writer before any value.
+    ///
+    /// # Errors
+    ///
+    /// [`Refusal::BoundNotAllowed`].
     ///
     /// ```
     /// use modelardb_rattle::{ErrorBound, MacaqueV, Opening, Refusal};
@@ -120,6 +130,13 @@ impl MacaqueV {
     /// The writer behind the first `k` of the `count` values in the buffer's first `used` bytes. The
     /// whole stream is checked first; then the bits behind those values are zeroed in the byte that
     /// they end in. A refusal leaves the buffer as it was.
+    ///
+    /// # Errors
+    ///
+    /// [`Refusal::BoundNotAllowed`]; [`Refusal::OverLimit`] for a count above 65,536;
+    /// [`Refusal::CountsDisagree`] for a `k` above the count, or a `used` above the buffer's length; then
+    /// what is wrong with the stream: [`Refusal::EndsEarly`], [`Refusal::NoWindow`],
+    /// [`Refusal::WindowNotAllowed`] or [`Refusal::Leftover`].
     pub fn reopen(
         buffer: &mut [u8],
         used: usize,
@@ -134,14 +151,20 @@ impl MacaqueV {
         Refusal::judge(number).map(|()| Self { row })
     }
 
-    /// Writes the values behind those that stand in the buffer. A refusal leaves the writer and the
-    /// buffer as they were.
+    /// Writes the values behind those that stand in the buffer. No values change nothing. A refusal
+    /// leaves the writer and the buffer as they were.
+    ///
+    /// # Errors
+    ///
+    /// [`Refusal::StateNotAllowed`] where the buffer is shorter than the stream that stands there;
+    /// [`Refusal::OverLimit`] for more than 65,536 values in all; [`Refusal::OutputTooShort`] where the
+    /// buffer has no room for these, which it has if it has 45 bits for each value.
     ///
     /// ```
     /// use modelardb_rattle::{ErrorBound, MacaqueV, Opening, Refusal};
     ///
     /// let mut writer = MacaqueV::new(ErrorBound::Lossless, Opening::First)?;
-    /// let (before, mut buffer) = (writer, [7; 4]);
+    /// let (before, mut buffer) = (writer.clone(), [7; 4]);
     /// let refused = writer.compress_values(&[1.0, 2.0], &mut buffer);
     /// assert_eq!(refused, Err(Refusal::OutputTooShort));
     /// assert_eq!((writer, buffer), (before, [7; 4]));
@@ -152,6 +175,10 @@ impl MacaqueV {
     }
 
     /// [`MacaqueV::compress_values`] on the values' bits.
+    ///
+    /// # Errors
+    ///
+    /// Those of [`MacaqueV::compress_values`].
     ///
     /// ```
     /// use modelardb_rattle::{ErrorBound, MacaqueV, Opening, Refusal, macaque_v};
@@ -246,5 +273,33 @@ impl MacaqueV {
     /// A word that holds 32 bits.
     fn bits(&self, word: usize) -> u32 {
         self.row[word] as u32
+    }
+}
+
+/// The state by its fields, each value beside its bits.
+///
+/// ```
+/// use modelardb_rattle::{ErrorBound, MacaqueV, Opening, Refusal};
+///
+/// let mut writer = MacaqueV::new(ErrorBound::Absolute(0.5), Opening::First)?;
+/// writer.compress_values(&[20.5], &mut [0; 8])?;
+/// let shown = format!("{writer:?}");
+/// assert!(shown.starts_with("MacaqueV { error_bound: Absolute(0.5), min_value: 20.5 (41A40000), "));
+/// assert!(shown.ends_with("with_first: true, place: 32, length: 1 }"));
+/// # Ok::<(), Refusal>(())
+/// ```
+impl Debug for MacaqueV {
+    fn fmt(&self, f: &mut Formatter) -> fmt::Result {
+        f.debug_struct("MacaqueV")
+            .field("error_bound", &self.error_bound())
+            .field("min_value", &F32(self.min_value_bits()))
+            .field("max_value", &F32(self.max_value_bits()))
+            .field("last_value", &F32(self.last_value_bits()))
+            .field("last_leading_zero_bits", &self.last_leading_zero_bits())
+            .field("last_trailing_zero_bits", &self.last_trailing_zero_bits())
+            .field("with_first", &self.with_first())
+            .field("place", &self.place())
+            .field("length", &self.length())
+            .finish()
     }
 }

@@ -4,9 +4,17 @@ use crate::Refusal;
 use crate::ffi::{self, Words};
 
 /// How far an approximation may be from the value that it stands for.
+///
+/// What that says of values that come back depends on what keeps them. A stream
+/// ([`MacaqueV`](crate::MacaqueV), and so the residuals of a [`Segment`](crate::Segment)) keeps for each
+/// value one that is within the bound of it by [`is_value_within_error_bound`], and lossless the value
+/// bit for bit. A model's own values are computed: an average, or the points of a line. The bound
+/// decides which values a model takes, and nothing is promised of what it draws for them, lossless
+/// neither: -0 comes back as +0, and a line's values may differ in their last bits from those that it
+/// took.
 #[derive(Clone, Copy, Debug, PartialEq)]
 pub enum ErrorBound {
-    /// Not at all.
+    /// Not at all: equal as numbers, or both NaN.
     Lossless,
     /// By at most this much: finite and above 0.
     Absolute(f32),
@@ -37,6 +45,10 @@ impl ErrorBound {
 
 /// Whether `approximate_value` may stand for `real_value`.
 ///
+/// # Errors
+///
+/// [`Refusal::BoundNotAllowed`].
+///
 /// ```
 /// use modelardb_rattle::{ErrorBound, is_value_within_error_bound};
 ///
@@ -57,6 +69,10 @@ pub fn is_value_within_error_bound(
 
 /// [`is_value_within_error_bound`] on the values' bits.
 ///
+/// # Errors
+///
+/// [`Refusal::BoundNotAllowed`].
+///
 /// ```
 /// use modelardb_rattle::{ErrorBound, is_value_within_error_bound_bits};
 ///
@@ -76,6 +92,10 @@ pub fn is_value_within_error_bound_bits(
 
 /// How far a line may pass from `value`, in f64.
 ///
+/// # Errors
+///
+/// [`Refusal::BoundNotAllowed`].
+///
 /// ```
 /// use modelardb_rattle::{ErrorBound, Refusal, maximum_allowed_deviation};
 ///
@@ -89,6 +109,10 @@ pub fn maximum_allowed_deviation(error_bound: ErrorBound, value: f64) -> Result<
 }
 
 /// [`maximum_allowed_deviation`] on the value's bits; a NaN is answered as 7FF8000000000000.
+///
+/// # Errors
+///
+/// [`Refusal::BoundNotAllowed`].
 pub fn maximum_allowed_deviation_bits(error_bound: ErrorBound, value: u64) -> Result<u64, Refusal> {
     let mut out = [0];
     let number = ffi::maximum_allowed_deviation(error_bound.words(), value, &mut out);

@@ -10,6 +10,10 @@ use crate::{Refusal, ffi};
 /// The residuals' least and greatest value are both NaN where there are none. A refusal leaves `out` as
 /// it was.
 ///
+/// # Errors
+///
+/// [`Refusal::OutputTooShort`].
+///
 /// ```
 /// use modelardb_rattle::Refusal;
 /// use modelardb_rattle::parameters::encode_values_for_pmc_mean;
@@ -38,6 +42,10 @@ pub fn encode_values_for_pmc_mean(
 }
 
 /// [`encode_values_for_pmc_mean`] on bits.
+///
+/// # Errors
+///
+/// [`Refusal::OutputTooShort`].
 pub fn encode_values_for_pmc_mean_bits(
     value: u32,
     residuals_min_value: u32,
@@ -54,6 +62,10 @@ pub fn encode_values_for_pmc_mean_bits(
 /// Writes Swing's parameter bytes to the front of `out`, and answers how many they are: none, 1, 5 or 8.
 /// The residuals' least and greatest value are both NaN where there are none. A refusal leaves `out` as
 /// it was.
+///
+/// # Errors
+///
+/// [`Refusal::OutputTooShort`].
 ///
 /// ```
 /// use modelardb_rattle::parameters::encode_values_for_swing;
@@ -77,6 +89,10 @@ pub fn encode_values_for_swing(
 }
 
 /// [`encode_values_for_swing`] on bits.
+///
+/// # Errors
+///
+/// [`Refusal::OutputTooShort`].
 pub fn encode_values_for_swing_bits(
     first_value: u32,
     last_value: u32,
@@ -93,6 +109,10 @@ pub fn encode_values_for_swing_bits(
 }
 
 /// The value that PMC-Mean's parameter bytes give with the segment's least and greatest value.
+///
+/// # Errors
+///
+/// [`Refusal::FormNotAllowed`] for other than 0, 1 or 4 bytes.
 ///
 /// ```
 /// use modelardb_rattle::Refusal;
@@ -113,6 +133,10 @@ pub fn decode_values_for_pmc_mean(
 }
 
 /// [`decode_values_for_pmc_mean`] on bits; a NaN is answered as 7FC00000.
+///
+/// # Errors
+///
+/// Those of [`decode_values_for_pmc_mean`].
 pub fn decode_values_for_pmc_mean_bits(
     min_value: u32,
     max_value: u32,
@@ -126,6 +150,10 @@ pub fn decode_values_for_pmc_mean_bits(
 
 /// The first and the last value that Swing's parameter bytes give with the segment's least and greatest
 /// value.
+///
+/// # Errors
+///
+/// [`Refusal::FormNotAllowed`] for other than 0, 1, 5 or 8 bytes, and for 5 with a flag above 3.
 ///
 /// ```
 /// use modelardb_rattle::Refusal;
@@ -148,6 +176,10 @@ pub fn decode_values_for_swing(
 }
 
 /// [`decode_values_for_swing`] on bits; a NaN is answered as 7FC00000.
+///
+/// # Errors
+///
+/// Those of [`decode_values_for_swing`].
 pub fn decode_values_for_swing_bits(
     min_value: u32,
     max_value: u32,

@@ -2,7 +2,9 @@
 //! value and add it up.
 
 use crate::ffi::{self, PMC_MEAN_WORDS};
+use crate::shown::{F32, F64};
 use crate::{ErrorBound, Refusal};
+use std::fmt::{self, Debug, Formatter};
 
 /// The place of the word that says whether a step's value fitted.
 const FITS: usize = PMC_MEAN_WORDS - 1;
@@ -20,7 +22,7 @@ const FITS: usize = PMC_MEAN_WORDS - 1;
 /// assert_eq!(room.model(), Ok(20.75));
 ///
 /// // With 22.0 the average is 21.17, and 20.5 is further than 0.5 from that: nothing changes.
-/// let before = room;
+/// let before = room.clone();
 /// assert!(!room.fit_value(22.0)?);
 /// assert_eq!(room, before);
 /// assert_eq!(room.len(), 2);
@@ -28,7 +30,7 @@ const FITS: usize = PMC_MEAN_WORDS - 1;
 /// assert_eq!(room.bytes_per_value(12), Ok(6.0));
 /// # Ok::<(), Refusal>(())
 /// ```
-#[derive(Clone, Copy, Debug, PartialEq, Eq)]
+#[derive(Clone, PartialEq, Eq)]
 pub struct PMCMean {
     /// The state as it crosses the C face: see [`PMC_MEAN_WORDS`]. Its last word is 0 between calls, so
     /// that a failed fit leaves the state as it was.
@@ -36,20 +38,39 @@ pub struct PMCMean {
 }
 
 impl PMCMean {
-    /// The state before any value. Refused where the bound is not allowed.
+    /// The state before any value.
+    ///
+    /// # Errors
+    ///
+    /// [`Refusal::BoundNotAllowed`].
     pub fn new(error_bound: ErrorBound) -> Result<Self, Refusal> {
         let mut row = [0; PMC_MEAN_WORDS];
         Refusal::judge(ffi::pmc_mean_new(error_bound.words(), &mut row))?;
         Ok(Self { row })
     }
 
+    /// The state that the first words of a builder's row stand for.
+    pub(crate) fn in_row(words: &[u64]) -> Self {
+        let mut row = [0; PMC_MEAN_WORDS];
+        row[..FITS].copy_from_slice(&words[..FITS]);
+        Self { row }
+    }
+
     /// Whether the value fits; where it does, it is one of the model's values from now on. A value
     /// that does not fit changes nothing, and neither does a refusal.
+    ///
+    /// # Errors
+    ///
+    /// [`Refusal::OverLimit`] for a model of 65,536 values.
     pub fn fit_value(&mut self, value: f32) -> Result<bool, Refusal> {
         self.fit_value_bits(value.to_bits())
     }
 
     /// [`PMCMean::fit_value`] on the value's bits.
+    ///
+    /// # Errors
+    ///
+    /// Those of [`PMCMean::fit_value`].
     ///
     /// ```
     /// use modelardb_rattle::{ErrorBound, PMCMean, Refusal};
@@ -66,8 +87,12 @@ impl PMCMean {
         Ok(std::mem::take(&mut self.row[FITS]) == 1)
     }
 
-    /// How many bytes each value costs where the metadata takes `metadata_size`, from 1 to 65,535:
-    /// that size by the number of values. Refused while there is none.
+    /// How many bytes each value costs where the metadata takes `metadata_size`: that size by the number
+    /// of values.
+    ///
+    /// # Errors
+    ///
+    /// [`Refusal::OverLimit`] for a size of 0 or above 65,535; [`Refusal::NoModel`] while there is no value.
     pub fn bytes_per_value(&self, metadata_size: usize) -> Result<f32, Refusal> {
         let mut out = [0];
         let number = ffi::pmc_mean_bytes_per_value(&self.row, metadata_size, &mut out);
@@ -75,7 +100,11 @@ impl PMCMean {
         Ok(f32::from_bits(out[0]))
     }
 
-    /// The average that stands for all values. Refused while there is none.
+    /// The average that stands for all values.
+    ///
+    /// # Errors
+    ///
+    /// [`Refusal::NoModel`] while there is no value.
     ///
     /// ```
     /// use modelardb_rattle::{ErrorBound, PMCMean, Refusal};
@@ -89,6 +118,10 @@ impl PMCMean {
     }
 
     /// The bits of [`PMCMean::model`]; a NaN is answered as 7FC00000.
+    ///
+    /// # Errors
+    ///
+    /// Those of [`PMCMean::model`].
     pub fn model_bits(&self) -> Result<u32, Refusal> {
         let mut out = [0];
         Refusal::judge(ffi::pmc_mean_model(&self.row, &mut out))?;
@@ -126,7 +159,24 @@ impl PMCMean {
     }
 }
 
+/// The state by its fields, each value beside its bits.
+impl Debug for PMCMean {
+    fn fmt(&self, f: &mut Formatter) -> fmt::Result {
+        f.debug_struct("PMCMean")
+            .field("error_bound", &self.error_bound())
+            .field("min_value", &F32(self.row[2] as u32))
+            .field("max_value", &F32(self.row[3] as u32))
+            .field("sum_of_values", &F64(self.row[4]))
+            .field("length", &self.len())
+            .finish()
+    }
+}
+
 /// The sum of `count` values that a model of this value stands for, in f32.
+///
+/// # Errors
+///
+/// [`Refusal::OverLimit`] for a count above 65,536.
 ///
 /// ```
 /// use modelardb_rattle::{Refusal, pmc_mean};
@@ -139,6 +189,10 @@ pub fn sum(count: usize, value: f32) -> Result<f32, Refusal> {
 }
 
 /// [`sum`] on bits; a NaN is answered as 7FC00000.
+///
+/// # Errors
+///
+/// Those of [`sum`].
 pub fn sum_bits(count: usize, value: u32) -> Result<u32, Refusal> {
     let mut out = [0];
     Refusal::judge(ffi::pmc_mean_sum(count, value, &mut out))?;
@@ -146,6 +200,10 @@ pub fn sum_bits(count: usize, value: u32) -> Result<u32, Refusal> {
 }
 
 /// Draws the value into the first `count` places of `out`. A refusal leaves `out` as it was.
+///
+/// # Errors
+///
+/// [`Refusal::OverLimit`] for a count above 65,536; [`Refusal::OutputTooShort`].
 ///
 /// ```
 /// use modelardb_rattle::{Refusal, pmc_mean};
@@ -161,6 +219,10 @@ pub fn grid(value: f32, count: usize, out: &mut [f32]) -> Result<(), Refusal> {
 }
 
 /// [`grid`] on bits; a NaN is drawn as 7FC00000.
+///
+/// # Errors
+///
+/// Those of [`grid`].
 pub fn grid_bits(value: u32, count: usize, out: &mut [u32]) -> Result<(), Refusal> {
     Refusal::judge(ffi::pmc_mean_grid(value, count, out))
 }

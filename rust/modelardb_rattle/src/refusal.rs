@@ -3,20 +3,54 @@
 use std::error::Error;
 use std::fmt::{Display, Formatter, Result};
 
-/// The twelve causes, in the order of their numbers and under the names of the proved library.
+/// The twelve causes, in the order of their numbers and under the names of the proved library. Where
+/// several apply, the first is answered in the order 1, 2, 3, 12, 4, 10, 9, 11, and then 5 to 8 by the
+/// first place in the stream. A refused call has changed nothing that it was lent.
+///
+/// Further requests may add causes.
 #[derive(Clone, Copy, Debug, PartialEq, Eq, Hash)]
+#[non_exhaustive]
 pub enum Refusal {
+    /// 1: the bound is not allowed. An absolute one must be finite and above 0, a relative one above 0
+    /// and at most 100; for no error at all there is [`ErrorBound::Lossless`](crate::ErrorBound).
     BoundNotAllowed,
+    /// 2: the state's fields do not go together, or not with what it was lent. Through the safe types
+    /// there is one cause: a writer's buffer is shorter than the stream that it has written. Lend it
+    /// the buffer that holds those bytes.
     StateNotAllowed,
+    /// 3: a number is above its limit, or the metadata size is 0. A stream, a model and a call take at
+    /// most 65,536 values, a segment 255 residuals and model 0 or 1, and the metadata size is at most
+    /// 65,535. Begin a new stream, model or segment with what does not fit in.
     OverLimit,
+    /// 4: the lent output does not hold the answer. Lend a longer one: for a stream, 45 bits a value
+    /// are always enough.
     OutputTooShort,
+    /// 5: the stream ends before its last value. Bytes are missing, the count is too high, or the
+    /// bytes are not those that were written: look at both, and fetch them again.
     EndsEarly,
+    /// 6: the stream keeps a window before any was set, which none that is written does: the bytes or
+    /// the opening are not those of its writer, or the count is too high. Look at all three, and fetch
+    /// them again.
     NoWindow,
+    /// 7: the stream sets a window of no bits, or of more than 32 with its leading zeros, which none
+    /// that is written does: the bytes or the opening are not those of its writer. Fetch them again.
     WindowNotAllowed,
+    /// 8: the stream goes on behind its last value, with a set padding bit or a further byte. The count
+    /// is too low, bytes of another stream follow, or they are not those that were written.
     Leftover,
+    /// 9: the parameter bytes' length or flag, or a residual count byte of 0, is not allowed: the bytes
+    /// are not those of a segment of this model. Fetch them again.
     FormNotAllowed,
+    /// 10: the timestamps do not increase strictly, a time lies outside -2^52 to 2^52, a line's end is not
+    /// behind its start, or the residuals leave one timestamp to a Swing model. Sort them and drop
+    /// repeats, count time in a coarser unit, or hand in all timestamps of the segment.
     TimesNotAllowed,
+    /// 11: there is no model. Nothing was fitted yet, or a line is to be drawn whose ends differ while
+    /// at least one is not finite: such a segment can be stored, but not read.
     NoModel,
+    /// 12: counts or lengths do not go together: `k` is above the count, more is used than the buffer
+    /// holds, timestamps and values are not equally many, or the residuals leave no timestamp to the
+    /// model. Hand in what belongs together.
     CountsDisagree,
 }
 
@@ -28,7 +62,7 @@ const CAUSES: [(Refusal, &str); 12] = [
     ),
     (
         Refusal::StateNotAllowed,
-        "the state is not allowed: its fields do not go together",
+        "the state is not allowed: its fields do not go together, or not with the buffer that it was lent",
     ),
     (
         Refusal::OverLimit,
@@ -57,7 +91,7 @@ const CAUSES: [(Refusal, &str); 12] = [
     ),
     (
         Refusal::TimesNotAllowed,
-        "the timestamps are not strictly increasing, or one is outside -2^52 to 2^52",
+        "the timestamps are not strictly increasing, one is outside -2^52 to 2^52, a line does not end behind its start, or a Swing segment owns one timestamp only",
     ),
     (
         Refusal::NoModel,

@@ -68,6 +68,30 @@ impl From<SelectedModel> for Model {
 /// assert_eq!(segment.sum_by_average(&times), Ok(124.0));
 /// # Ok::<(), Refusal>(())
 /// ```
+///
+/// Its residuals are a stream, which keeps them within the bound, lossless bit for bit. Its model's own
+/// values are computed, and nothing is promised of what it draws for the values that it took. So, lossless:
+///
+/// ```
+/// use modelardb_rattle::{ErrorBound, Refusal, Segment, choose_model};
+///
+/// let lossless = ErrorBound::Lossless;
+/// let mut out = [0.0; 2];
+/// // -0 counts as 0, and its average is +0.
+/// let chosen = choose_model(&[0], &[-0.0], lossless, 12)?;
+/// Segment::write(chosen, lossless, &[])?.grid(&[0], &mut out)?;
+/// assert_eq!(out[0].to_bits(), 0x0000_0000);
+/// // As a residual it comes back as it was.
+/// Segment::write(chosen, lossless, &[-0.0])?.grid(&[0, 1], &mut out)?;
+/// assert_eq!(out.map(f32::to_bits), [0x0000_0000, 0x8000_0000]);
+///
+/// // A line between two readings, a second apart, at times in microseconds: its last bit is another.
+/// let times = [1_700_000_000_000_000, 1_700_000_001_000_000];
+/// let chosen = choose_model(&times, &[10.0, 100.1], lossless, 12)?;
+/// Segment::write(chosen, lossless, &[])?.grid(&times, &mut out)?;
+/// assert_eq!(out, [10.0, 100.100006]);
+/// # Ok::<(), Refusal>(())
+/// ```
 #[derive(Clone, Debug, PartialEq, Eq)]
 pub struct Segment {
     /// [`ModelBuilder::PMC_MEAN_ID`] or [`ModelBuilder::SWING_ID`].
@@ -84,7 +108,11 @@ pub struct Segment {
 }
 
 impl Segment {
-    /// The segment of a model and of the values that follow its own, each kept within the bound: at most
+    /// The segment of a model and of the values that follow its own, each kept within the bound.
+    ///
+    /// # Errors
+    ///
+    /// [`Refusal::BoundNotAllowed`]; [`Refusal::OverLimit`] for more than
     /// [`MOST_RESIDUALS`](crate::MacaqueV::MOST_RESIDUALS).
     ///
     /// ```
@@ -106,6 +134,10 @@ impl Segment {
     }
 
     /// [`Segment::write`] with the residuals as their bits.
+    ///
+    /// # Errors
+    ///
+    /// Those of [`Segment::write`].
     ///
     /// ```
     /// use modelardb_rattle::{ErrorBound, Model, Refusal, Segment};
@@ -148,8 +180,11 @@ impl Segment {
         f32::from_bits(self.max_value_bits)
     }
 
-    /// The model that the parameter bytes give. Refused where their form is not allowed, and where the
-    /// model's number is above 1.
+    /// The model that the parameter bytes give.
+    ///
+    /// # Errors
+    ///
+    /// [`Refusal::OverLimit`] where the model's number is above 1; [`Refusal::FormNotAllowed`].
     pub fn model(&self) -> Result<Model, Refusal> {
         let (min, max) = (self.min_value_bits, self.max_value_bits);
         match self.model_type_id {
@@ -167,6 +202,15 @@ impl Segment {
 
     /// Draws all values into the first places of `out`: the model's at its timestamps, the first ones,
     /// and then the residuals as they were kept. A refusal leaves `out` as it was.
+    ///
+    /// # Errors
+    ///
+    /// [`Refusal::OverLimit`] where the model's number is above 1, or for more than 65,536 timestamps;
+    /// [`Refusal::CountsDisagree`] where the residuals leave no timestamp to the model;
+    /// [`Refusal::OutputTooShort`]; [`Refusal::TimesNotAllowed`], also where a line has one timestamp only;
+    /// [`Refusal::FormNotAllowed`]; [`Refusal::NoModel`] for a line with ends that differ while at least
+    /// one is not finite; then what is wrong with the residuals: [`Refusal::EndsEarly`],
+    /// [`Refusal::NoWindow`], [`Refusal::WindowNotAllowed`] or [`Refusal::Leftover`].
     ///
     /// ```
     /// use modelardb_rattle::{ErrorBound, Model, Refusal, Segment};
@@ -186,12 +230,20 @@ impl Segment {
     }
 
     /// [`Segment::grid`] with the values drawn as bits; of the model a NaN is drawn as 7FC00000.
+    ///
+    /// # Errors
+    ///
+    /// Those of [`Segment::grid`].
     pub fn grid_bits(&self, timestamps: &[i64], out: &mut [u32]) -> Result<(), Refusal> {
         Refusal::judge(ffi::segment_grid(self.into(), timestamps, out))
     }
 
     /// The sum of all values, a line's by the average of its ends: right where its timestamps are
     /// equally far apart.
+    ///
+    /// # Errors
+    ///
+    /// Those of [`Segment::grid`], but for [`Refusal::OutputTooShort`].
     ///
     /// ```
     /// use modelardb_rattle::{ErrorBound, Model, Refusal, Segment};
@@ -207,6 +259,10 @@ impl Segment {
     }
 
     /// The bits of [`Segment::sum_by_average`]; a NaN is answered as 7FC00000.
+    ///
+    /// # Errors
+    ///
+    /// Those of [`Segment::sum_by_average`].
     pub fn sum_by_average_bits(&self, timestamps: &[i64]) -> Result<u32, Refusal> {
         let mut out = [0];
         let number = ffi::segment_sum_by_average(self.into(), timestamps, &mut out);
@@ -215,11 +271,19 @@ impl Segment {
     }
 
     /// The sum of all values, a line's one by one at its timestamps.
+    ///
+    /// # Errors
+    ///
+    /// Those of [`Segment::sum_by_average`].
     pub fn sum_over(&self, timestamps: &[i64]) -> Result<f32, Refusal> {
         self.sum_over_bits(timestamps).map(f32::from_bits)
     }
 
     /// The bits of [`Segment::sum_over`]; a NaN is answered as 7FC00000.
+    ///
+    /// # Errors
+    ///
+    /// Those of [`Segment::sum_by_average`].
     pub fn sum_over_bits(&self, timestamps: &[i64]) -> Result<u32, Refusal> {
         let mut out = [0];
         let number = ffi::segment_sum_over(self.into(), timestamps, &mut out);

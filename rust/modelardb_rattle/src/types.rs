@@ -2,7 +2,9 @@
 //! [`choose_model`] is the whole rule as one call.
 
 use crate::ffi::{self, MODEL_BUILDER_WORDS, PMC_MEAN_WORDS, SELECTED_MODEL_WORDS};
-use crate::{ErrorBound, Refusal};
+use crate::shown::F32;
+use crate::{ErrorBound, PMCMean, Refusal, Swing};
+use std::fmt::{self, Debug, Formatter};
 
 /// The two models, each fitted to the points from the first one on until it fails for the first time.
 ///
@@ -23,7 +25,7 @@ use crate::{ErrorBound, Refusal};
 /// assert_eq!((chosen.first_value(), chosen.last_value()), (20.0, 22.0));
 /// # Ok::<(), Refusal>(())
 /// ```
-#[derive(Clone, Copy, Debug, PartialEq, Eq)]
+#[derive(Clone, PartialEq, Eq)]
 pub struct ModelBuilder {
     /// The state as it crosses the C face: see [`MODEL_BUILDER_WORDS`].
     row: [u64; MODEL_BUILDER_WORDS],
@@ -36,7 +38,11 @@ impl ModelBuilder {
     /// The number of Swing in a segment.
     pub const SWING_ID: u32 = 1;
 
-    /// The builder before any point. Refused where the bound is not allowed.
+    /// The builder before any point.
+    ///
+    /// # Errors
+    ///
+    /// [`Refusal::BoundNotAllowed`].
     pub fn new(error_bound: ErrorBound) -> Result<Self, Refusal> {
         let mut row = [0; MODEL_BUILDER_WORDS];
         Refusal::judge(ffi::model_builder_new(error_bound.words(), &mut row))?;
@@ -45,6 +51,12 @@ impl ModelBuilder {
 
     /// Tries one more point with each model that has not failed. Whether one of them stands for all
     /// points so far. A refusal leaves the builder as it was.
+    ///
+    /// # Errors
+    ///
+    /// [`Refusal::OverLimit`] where a model that has not failed stands for 65,536 points;
+    /// [`Refusal::TimesNotAllowed`] for a timestamp outside -2^52 to 2^52 or, while Swing has not failed,
+    /// not behind the last one.
     ///
     /// ```
     /// use modelardb_rattle::{ErrorBound, ModelBuilder, Refusal};
@@ -62,6 +74,10 @@ impl ModelBuilder {
     }
 
     /// [`ModelBuilder::try_to_update_models`] on the value's bits.
+    ///
+    /// # Errors
+    ///
+    /// Those of [`ModelBuilder::try_to_update_models`].
     pub fn try_to_update_models_bits(
         &mut self,
         timestamp: i64,
@@ -72,10 +88,14 @@ impl ModelBuilder {
         Ok(self.pmc_mean_could_fit_all() || self.swing_could_fit_all())
     }
 
-    /// The model that needs fewer bytes for each value, where the metadata takes `metadata_size`, from
-    /// 1 to 65,535. PMC-Mean wins a tie, and wherever Swing's line runs from a finite value to one
-    /// that is not. Refused while there is no point.
-    pub fn finish(self, metadata_size: usize) -> Result<SelectedModel, Refusal> {
+    /// The model that needs fewer bytes for each value, where the metadata takes `metadata_size`.
+    /// PMC-Mean wins a tie, and wherever Swing's line runs from a finite value to one that is not. The
+    /// builder stays, and may take further points.
+    ///
+    /// # Errors
+    ///
+    /// [`Refusal::OverLimit`] for a size of 0 or above 65,535; [`Refusal::NoModel`] while there is no point.
+    pub fn finish(&self, metadata_size: usize) -> Result<SelectedModel, Refusal> {
         let mut row = [0; SELECTED_MODEL_WORDS];
         let number = ffi::model_builder_finish(&self.row, metadata_size, &mut row);
         Refusal::judge(number)?;
@@ -108,8 +128,21 @@ impl ModelBuilder {
     }
 }
 
+/// The state by its fields, each value beside its bits.
+impl Debug for ModelBuilder {
+    fn fmt(&self, f: &mut Formatter) -> fmt::Result {
+        let (pmc_mean, swing) = self.row.split_at(PMC_MEAN_WORDS);
+        f.debug_struct("ModelBuilder")
+            .field("pmc_mean", &PMCMean::in_row(pmc_mean))
+            .field("pmc_mean_could_fit_all", &self.pmc_mean_could_fit_all())
+            .field("swing", &Swing::in_row(swing))
+            .field("swing_could_fit_all", &self.swing_could_fit_all())
+            .finish()
+    }
+}
+
 /// The model that was chosen. Two are equal where all their bits are.
-#[derive(Clone, Copy, Debug, PartialEq, Eq)]
+#[derive(Clone, Copy, PartialEq, Eq)]
 pub struct SelectedModel {
     /// The model as it crosses the C face: see [`SELECTED_MODEL_WORDS`].
     row: [u64; SELECTED_MODEL_WORDS],
@@ -152,8 +185,32 @@ impl SelectedModel {
     }
 }
 
+/// The model by its fields, each value beside its bits.
+impl Debug for SelectedModel {
+    fn fmt(&self, f: &mut Formatter) -> fmt::Result {
+        f.debug_struct("SelectedModel")
+            .field("model_type_id", &self.model_type_id())
+            .field("length", &self.length())
+            .field("first_value", &F32(self.first_value_bits()))
+            .field("last_value", &F32(self.last_value_bits()))
+            .field("bytes_per_value", &self.bytes_per_value())
+            .finish()
+    }
+}
+
 /// Fits both models to the points from the first one on, each until it fails, and chooses the one that
-/// needs fewer bytes for each value. All timestamps are judged, those behind the model's too.
+/// needs fewer bytes for each value. All timestamps are judged, those behind the model's too. Whether that is
+/// less than the 4 bytes of a plain value is for the caller to see: of noisy values, lossless, it need not be.
+///
+/// The bound decides which values a model takes. What it draws for them is computed, and nothing is
+/// promised of that, lossless neither: see [`ErrorBound`]. Values that must come back bit for bit belong
+/// into a stream ([`MacaqueV`](crate::MacaqueV)).
+///
+/// # Errors
+///
+/// [`Refusal::BoundNotAllowed`]; [`Refusal::OverLimit`] for more than 65,536 values, or a metadata size of
+/// 0 or above 65,535; [`Refusal::CountsDisagree`] where timestamps and values are not equally many;
+/// [`Refusal::TimesNotAllowed`]; [`Refusal::NoModel`] for no values.
 ///
 /// Three readings, and what is chosen and why:
 ///
@@ -188,6 +245,10 @@ pub fn choose_model(
 }
 
 /// [`choose_model`] on the values' bits.
+///
+/// # Errors
+///
+/// Those of [`choose_model`].
 pub fn choose_model_bits(
     timestamps: &[i64],
     values: &[u32],

@@ -1,6 +1,9 @@
 //! The examples on the shipped readings: the shipped stream is what the library writes, an upload that is cut at
-//! any value goes on as one run, and the README shows what they print.
+//! any value goes on as one run, a flipped bit is often read as other values, a bad line is named, and the README
+//! shows what they print.
 
+#[path = "../examples/flipped/damage.rs"]
+mod damage;
 #[path = "../examples/day/show.rs"]
 mod day;
 #[path = "../examples/morning/show.rs"]
@@ -13,29 +16,30 @@ mod store;
 mod upload;
 
 use modelardb_rattle::ErrorBound;
+use readings::Readings;
 use upload::{cut, resumed, written};
 
 const STREAM: &[u8] = include_bytes!("../../../examples/morning.stream");
 
 const README: &str = include_str!("../../../README.md");
 
-/// The times and values of a shipped file.
-fn shipped(name: &str) -> (Vec<String>, Vec<f32>) {
+/// The readings of a shipped file.
+fn shipped(name: &str) -> Readings {
     let folder = concat!(env!("CARGO_MANIFEST_DIR"), "/../../examples/");
     readings::of_file(&format!("{folder}{name}")).expect("the shipped readings")
 }
 
 #[test]
 fn the_shipped_stream_is_the_mornings() {
-    let (writer, bytes) =
-        written(&shipped("morning.txt").1, ErrorBound::Absolute(0.5)).expect("an allowed bound");
+    let (writer, bytes) = written(&shipped("morning.txt").values, ErrorBound::Absolute(0.5))
+        .expect("an allowed bound");
     let count = (writer.length() as u32).to_le_bytes();
     assert_eq!(STREAM, [&count[..], &bytes].concat());
 }
 
 #[test]
 fn a_cut_at_any_value_leaves_no_trace() {
-    let (_, values) = shipped("morning.txt");
+    let values = shipped("morning.txt").values;
     for bound in ["lossless", "0.5", "1%"] {
         let error_bound = readings::bound(bound).expect("a bound");
         let whole = written(&values, error_bound).expect("an allowed bound");
@@ -46,15 +50,65 @@ fn a_cut_at_any_value_leaves_no_trace() {
     }
 }
 
+/// The documents give these figures of the example `flipped` on the shipped day.
 #[test]
-fn the_readme_shows_what_the_examples_print() {
-    let (times, values) = shipped("morning.txt");
-    let text = morning::show(&times, &values, ErrorBound::Absolute(0.5)).expect("an upload");
-    assert!(README.contains(&text), "README lacks:\n{text}");
+fn flipped_bits_are_often_read_as_other_values() {
+    let values = shipped("day.txt").values;
+    for (bound, size, other, refused) in [
+        ("lossless", 232, 1367, [83, 5, 383, 18]),
+        ("0.25", 120, 452, [166, 72, 268, 2]),
+    ] {
+        let error_bound = readings::bound(bound).expect("a bound");
+        let stream = damage::written(&values, error_bound).expect("an allowed bound");
+        assert_eq!(stream.bytes.len(), size);
+        let (flipped, cut) = (stream.flipped(), stream.cut());
+        assert_eq!((flipped.total(), cut.total()), (8 * size, size));
+        assert_eq!(
+            (flipped.same, flipped.other, flipped.refused),
+            (0, other, refused)
+        );
+        assert_eq!(
+            cut.refused,
+            [size, 0, 0, 0],
+            "a stream that is cut ends early"
+        );
+    }
+}
 
-    let (names, values) = shipped("day.txt");
-    let times = readings::minutes(&names).expect("times of a day");
-    let stored = store::store(&times, &values, ErrorBound::Absolute(0.25), 26).expect("segments");
-    let text = day::show(&names, &times, &values, &stored, 26).expect("segments that read back");
+#[test]
+fn a_bad_line_is_named_by_its_number() {
+    for (text, why) in [
+        (
+            "# Room 1\n06:00 20\n06:05 warm\n",
+            "room:3: \"warm\" is not a number",
+        ),
+        (
+            "06:00 20\n\n06:60 20\n",
+            "room:3: \"06:60\" is no time of the day",
+        ),
+        (
+            "06:00 20\n06:00 21\n",
+            "room:2: 06:00 is not later than the time before it",
+        ),
+        ("06:00\n", "room:1: \"06:00\" is not a time and a value"),
+        ("# Room 1\n", "room: no readings"),
+    ] {
+        assert_eq!(readings::of_text("room", text).err().as_deref(), Some(why));
+    }
+}
+
+#[test]
+fn the_readme_shows_the_morning() {
+    let Readings { names, values, .. } = shipped("morning.txt");
+    let text = morning::show(&names, &values, ErrorBound::Absolute(0.5)).expect("an upload");
+    assert!(README.contains(&text), "README lacks:\n{text}");
+}
+
+#[test]
+fn the_readme_shows_the_day() {
+    let readings = shipped("day.txt");
+    let (times, values) = (&readings.times, &readings.values);
+    let stored = store::store(times, values, ErrorBound::Absolute(0.25), 26).expect("segments");
+    let text = day::show(&readings, &stored, 26).expect("segments that read back");
     assert!(README.contains(&text), "README lacks:\n{text}");
 }

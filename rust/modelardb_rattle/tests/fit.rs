@@ -40,10 +40,10 @@ fn a_value_that_does_not_fit_leaves_the_state() {
         assert_eq!(average.fit_value(value), Ok(true));
         assert_eq!(line.fit_data_point(time, value), Ok(true));
     }
-    let before = (average, line);
+    let before = (average.clone(), line.clone());
     assert_eq!(average.fit_value(2.0), Ok(false));
     assert_eq!(line.fit_data_point(2, 2.0), Ok(false));
-    assert_eq!((average, line), before);
+    assert_eq!((&average, &line), (&before.0, &before.1));
     // A model by itself may be tried again, at a time that has passed without a fit.
     assert_eq!(average.fit_value(1.0), Ok(true));
     assert_eq!(line.fit_data_point(2, 1.0), Ok(true));
@@ -56,7 +56,7 @@ fn a_refused_step_leaves_the_state() {
     let mut builder = ModelBuilder::new(Lossless).unwrap();
     line.fit_data_point(latest, 1.0).unwrap();
     builder.try_to_update_models(latest, 1.0).unwrap();
-    let before = (line, builder);
+    let before = (line.clone(), builder.clone());
     for time in [latest, latest + 1, -latest - 1, i64::MIN, i64::MAX] {
         let refused = Err(Refusal::TimesNotAllowed);
         assert_eq!(line.fit_data_point(time, 1.0), refused);
@@ -71,7 +71,7 @@ fn a_model_takes_65_536_values() {
     for _ in 0..65_536 {
         assert_eq!(average.fit_value(20.5), Ok(true));
     }
-    let before = average;
+    let before = average.clone();
     assert_eq!(average.fit_value(20.5), Err(Refusal::OverLimit));
     assert_eq!(average, before);
     assert_eq!(average.bytes_per_value(65_535), Ok(65_535.0 / 65_536.0));
@@ -124,4 +124,22 @@ fn a_refused_grid_leaves_the_output() {
     assert_eq!(out, [9.0; 2]);
     swing::grid(line, &[5], &mut out).unwrap();
     assert_eq!(out, [1.5, 9.0]);
+}
+
+#[test]
+fn a_state_is_shown_by_its_fields() {
+    let mut builder = ModelBuilder::new(Absolute(0.5)).unwrap();
+    builder.try_to_update_models(7, 20.5).unwrap();
+    let shown = format!("{builder:?}");
+    let average = "PMCMean { error_bound: Absolute(0.5), min_value: 20.5 (41A40000), \
+                   max_value: 20.5 (41A40000), sum_of_values: 20.5 (4034800000000000), length: 1 }";
+    let begin = format!("ModelBuilder {{ pmc_mean: {average}, pmc_mean_could_fit_all: true, ");
+    assert!(shown.starts_with(&begin), "{shown}");
+    assert!(shown.contains("Swing { error_bound: Absolute(0.5), start_time: 7, end_time: 7, "));
+    assert!(shown.ends_with("length: 1 }, swing_could_fit_all: true }"));
+    assert_eq!(
+        format!("{:?}", builder.finish(12).unwrap()),
+        "SelectedModel { model_type_id: 0, \
+         length: 1, first_value: 20.5 (41A40000), last_value: 20.5 (41A40000), bytes_per_value: 12.0 }"
+    );
 }

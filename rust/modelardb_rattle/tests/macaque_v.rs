@@ -59,7 +59,7 @@ fn a_refused_write_changes_nothing() {
     let mut writer = opened(ErrorBound::Lossless, Opening::On(1.0));
     let mut buffer = [0xA5; 3];
     writer.compress_values(&[1.0], &mut buffer).expect("room");
-    let (before, bytes) = (writer, buffer);
+    let (before, bytes) = (writer.clone(), buffer);
     assert_eq!(
         writer.compress_values(&[2.5], &mut buffer),
         Err(Refusal::OutputTooShort)

@@ -1,7 +1,10 @@
 //! A call takes no more stack than its documentation says: here it runs in a thread that has that much and
 //! what a thread needs besides.
 
-use modelardb_rattle::{ErrorBound, MacaqueV, Opening, Refusal, macaque_v};
+use modelardb_rattle::{
+    ErrorBound, MacaqueV, ModelBuilder, Opening, Refusal, Segment, choose_model, macaque_v,
+    pmc_mean,
+};
 use std::thread;
 
 /// What the thread itself and the functions around a call take.
@@ -58,4 +61,27 @@ fn writing_summing_and_reopening_take_less_than_16_kib() {
         macaque_v::last_value(&bytes, count, Opening::First)
     });
     assert_eq!(last, Ok((count - 1) as f32));
+}
+
+#[test]
+fn fitting_choosing_storing_and_drawing_take_less_than_16_kib() {
+    let last = in_a_thread(16 << 10, move || {
+        let (times, values): (Vec<i64>, Vec<f32>) = (0..400).map(|n| (n, n as f32)).unzip();
+        let mut builder = ModelBuilder::new(ErrorBound::Lossless)?;
+        for (time, value) in times.iter().zip(&values) {
+            builder.try_to_update_models(*time, *value)?;
+        }
+        let chosen = choose_model(&times, &values, ErrorBound::Lossless, 12)?;
+        assert_eq!(builder.finish(12), Ok(chosen));
+        let residuals = &values[..MacaqueV::MOST_RESIDUALS];
+        let segment = Segment::write(chosen, ErrorBound::Lossless, residuals)?;
+        segment.model()?;
+        segment.sum_over(&times)?;
+        segment.sum_by_average(&times)?;
+        let mut out = vec![0.0; times.len()];
+        segment.grid(&times, &mut out)?;
+        pmc_mean::grid(20.5, 1, &mut out)?;
+        Ok::<_, Refusal>(out[times.len() - 1])
+    });
+    assert_eq!(last, Ok((MacaqueV::MOST_RESIDUALS - 1) as f32));
 }

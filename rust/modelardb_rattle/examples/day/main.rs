@@ -20,10 +20,10 @@ fn main() -> ExitCode {
 }
 
 fn shown(file: &str, bound: &str, m: &str) -> Result<String, String> {
-    let (names, values) = readings::of_file(file)?;
-    let times = readings::minutes(&names)?;
+    let readings = readings::of_file(file)?;
     let error_bound = readings::bound(bound)?;
     let m = m.parse().map_err(|_| format!("{m:?} is no size"))?;
-    let stored = store::store(&times, &values, error_bound, m).map_err(|why| why.to_string())?;
-    show::show(&names, &times, &values, &stored, m).map_err(|why| why.to_string())
+    let stored = store::store(&readings.times, &readings.values, error_bound, m);
+    let stored = stored.map_err(|why| why.to_string())?;
+    show::show(&readings, &stored, m).map_err(|why| why.to_string())
 }

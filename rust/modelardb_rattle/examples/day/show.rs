@@ -1,59 +1,66 @@
 //! What was stored, in words.
 
+use crate::readings::Readings;
 use crate::store::Stored;
 use modelardb_rattle::{Model, Refusal};
 use std::fmt::Write;
 
-/// A line for each segment, and what they save.
-pub fn show(
-    names: &[String],
-    times: &[i64],
-    values: &[f32],
-    stored: &[Stored],
-    m: usize,
-) -> Result<String, Refusal> {
-    let mut text = String::from(
-        "byte from  to    readings model               residuals bytes  why (PMC-Mean against Swing, bytes a value)\n",
-    );
+const HEAD: &str = "byte from  to    model    readings draws          residuals bytes  PMC-Mean's cost  Swing's cost\n";
+
+/// A line for each segment, what its columns mean, and what the segments save.
+pub fn show(readings: &Readings, stored: &[Stored], m: usize) -> Result<String, Refusal> {
+    let mut text = String::from(HEAD);
     let mut place = 0;
     for one in stored {
-        let (from, to) = (&names[one.from], &names[one.end() - 1]);
+        let (from, to) = (&readings.names[one.from], &readings.names[one.end() - 1]);
         let (length, residuals, bytes) = (one.chosen.length(), one.residuals, one.bytes(m));
-        let model = model(one.segment.model()?);
-        let why = why(one, m);
+        let (name, draws) = model(one.segment.model()?);
+        let (cost, other_cost) = costs(one, m);
         _ = writeln!(
             text,
-            "{place:4} {from} {to} {length:8} {model:19} {residuals:9} {bytes:5}  {why}"
+            "{place:4} {from:5} {to:5} {name:8} {length:8} {draws:14} {residuals:9} {bytes:5}  {cost:15}  {other_cost}"
         );
         place += bytes;
     }
-    let plain = 4 * values.len();
+    text += &legend(m);
+    let (count, plain) = (readings.values.len(), 4 * readings.values.len());
     _ = writeln!(
         text,
-        "{} readings in {} segments: {place} bytes, against {plain} as plain values: {:.0} % saved",
-        values.len(),
+        "{count} readings in {} segments: {place} bytes, against {plain} as plain values: {:.0} % saved",
         stored.len(),
         100.0 * (1.0 - place as f64 / plain as f64)
     );
-    text += &read_back(times, values, stored)?;
+    text += &read_back(&readings.times, &readings.values, stored)?;
     Ok(text)
 }
 
-fn model(model: Model) -> String {
+/// A model's name, and what it draws for its readings.
+fn model(model: Model) -> (&'static str, String) {
     match model {
-        Model::PMCMean(value) => format!("{value:.2}"),
-        Model::Swing(first, last) => format!("{first:.2} to {last:.2}"),
+        Model::PMCMean(value) => ("PMC-Mean", format!("{value:.2}")),
+        Model::Swing(first, last) => ("Swing", format!("{first:.2} to {last:.2}")),
     }
 }
 
-/// What each model costs for a value: the smaller one is taken.
-fn why(stored: &Stored, m: usize) -> String {
+/// What each model costs for a reading.
+fn costs(stored: &Stored, m: usize) -> (String, String) {
+    let cost =
+        |size: usize, length| format!("{size}/{length} = {:.2}", size as f32 / length as f32);
     let (pmc_mean, swing) = stored.lengths;
+    (cost(m, pmc_mean), cost(m + 1, swing))
+}
+
+/// What a column says, where its name does not.
+fn legend(m: usize) -> String {
     format!(
-        "{m}/{pmc_mean} = {:.2}, {}/{swing} = {:.2}",
-        m as f32 / pmc_mean as f32,
-        m + 1,
-        (m + 1) as f32 / swing as f32
+        "\
+byte       where the segment begins
+readings   how many the model stands for, and draws
+residuals  how many follow them, kept one by one
+bytes      {m} of metadata, the model's parameters, the residuals
+cost       bytes a reading: {m} by how many PMC-Mean could stand for, {} by how many Swing could; the smaller decides
+",
+        m + 1
     )
 }
 

@@ -20,7 +20,8 @@ fn main() -> ExitCode {
 }
 
 fn shown(file: &str, bound: &str) -> Result<String, String> {
-    let (times, values) = readings::of_file(file)?;
+    let readings = readings::of_file(file)?;
     let error_bound = readings::bound(bound)?;
-    show::show(&times, &values, error_bound).map_err(|refusal| refusal.to_string())
+    let shown = show::show(&readings.names, &readings.values, error_bound);
+    shown.map_err(|refusal| refusal.to_string())
 }

@@ -22,9 +22,8 @@ fn main() -> ExitCode {
 }
 
 fn shown(file: &str, bound: &str, m: &str) -> Result<String, String> {
-    let (times, values) = readings::of_file(file)?;
+    let readings = readings::of_file(file)?;
     let m = m.parse().map_err(|_| format!("{m:?} is no size"))?;
     let error_bound = readings::bound(bound)?;
-    let steps = steps::steps(&times, &values, error_bound, m)?;
-    steps.map_err(|refusal| refusal.to_string())
+    steps::steps(&readings, error_bound, m).map_err(|refusal| refusal.to_string())
 }

@@ -1,33 +1,19 @@
 //! The rule reading by reading: what each model does with it, and the choice in the end.
 
-use crate::readings::minutes;
+use crate::readings::Readings;
 use crate::table::{bound, kept, name, why};
 use modelardb_rattle::{
     ErrorBound, PMCMean, Refusal, Swing, choose_model, is_value_within_error_bound,
 };
 
-/// What is said of the readings, or why a time cannot be read.
-pub fn steps(
-    times: &[String],
-    values: &[f32],
-    error_bound: ErrorBound,
-    m: usize,
-) -> Result<Result<String, Refusal>, String> {
-    Ok(said(times, &minutes(times)?, values, error_bound, m))
-}
-
-fn said(
-    times: &[String],
-    minutes: &[i64],
-    values: &[f32],
-    error_bound: ErrorBound,
-    m: usize,
-) -> Result<String, Refusal> {
+/// What is said of the readings.
+pub fn steps(readings: &Readings, error_bound: ErrorBound, m: usize) -> Result<String, Refusal> {
+    let (names, minutes, values) = (&readings.names, &readings.times, &readings.values);
     let mut text = format!("bound {}, M {m}\n", bound(error_bound));
     let (mut average, mut line) = (Average::new(error_bound)?, Swing::new(error_bound)?);
     let (mut average_fits, mut line_fits) = (true, true);
-    for ((time, &minute), &value) in times.iter().zip(minutes).zip(values) {
-        text += &format!("{time}  {value}\n");
+    for ((name, &minute), &value) in names.iter().zip(minutes).zip(values) {
+        text += &format!("{name}  {value}\n");
         let mut why;
         if average_fits {
             (average_fits, why) = average.tried(value)?;
@@ -91,7 +77,7 @@ impl Average {
 
 /// Whether the point fits Swing, and why.
 fn tried(model: &mut Swing, minute: i64, value: f32) -> Result<(bool, String), Refusal> {
-    let before = *model;
+    let before = model.clone();
     let fits = model.fit_data_point(minute, value)?;
     let (upper, lower) = if fits {
         model.slopes()

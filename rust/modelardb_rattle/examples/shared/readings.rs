@@ -1,47 +1,73 @@
-//! Readings from a file: a time as 06:05 and a value on each line; a line that begins with # is skipped.
+//! Readings from a file: a time as 06:05 and a value on each line, the times increasing; a line that begins
+//! with # is skipped, and so is an empty one.
 
 use modelardb_rattle::ErrorBound;
 
-/// The times and values of a file.
-pub fn of_file(file: &str) -> Result<(Vec<String>, Vec<f32>), String> {
-    let text = std::fs::read_to_string(file).map_err(|why| format!("{file}: {why}"))?;
-    let (mut times, mut values) = (vec![], vec![]);
-    for (at, line) in text.lines().enumerate() {
-        if line.starts_with('#') || line.is_empty() {
-            continue;
-        }
-        let (time, value) = line
-            .split_once(' ')
-            .ok_or(format!("{file}:{}: no time and value", at + 1))?;
-        times.push(time.to_string());
-        values.push(number(value)?);
-    }
-    Ok((times, values))
+/// What a file holds.
+#[derive(Default)]
+pub struct Readings {
+    /// The times as they stand there.
+    pub names: Vec<String>,
+    /// Their minutes of the day.
+    pub times: Vec<i64>,
+    pub values: Vec<f32>,
 }
 
-pub fn number(word: &str) -> Result<f32, String> {
+pub fn of_file(file: &str) -> Result<Readings, String> {
+    let text = std::fs::read_to_string(file).map_err(|why| format!("{file}: {why}"))?;
+    of_text(file, &text)
+}
+
+/// The readings of a file's text, or which line is not one and why.
+pub fn of_text(file: &str, text: &str) -> Result<Readings, String> {
+    let mut readings = Readings::default();
+    for (at, line) in text.lines().enumerate() {
+        if !line.starts_with('#') && !line.trim().is_empty() {
+            let taken = readings.take(line);
+            taken.map_err(|why| format!("{file}:{}: {why}", at + 1))?;
+        }
+    }
+    if readings.values.is_empty() {
+        return Err(format!("{file}: no readings"));
+    }
+    Ok(readings)
+}
+
+impl Readings {
+    /// Takes one more line.
+    fn take(&mut self, line: &str) -> Result<(), String> {
+        let words: Vec<&str> = line.split_whitespace().collect();
+        let [name, value] = words[..] else {
+            return Err(format!("{line:?} is not a time and a value"));
+        };
+        let time = minute(name).ok_or_else(|| format!("{name:?} is no time of the day"))?;
+        if self.times.last().is_some_and(|&last| last >= time) {
+            return Err(format!("{name} is not later than the time before it"));
+        }
+        self.values.push(number(value)?);
+        self.times.push(time);
+        self.names.push(name.to_string());
+        Ok(())
+    }
+}
+
+/// The minute of the day at a time as 06:05.
+fn minute(time: &str) -> Option<i64> {
+    let (hour, minute) = time.split_once(':')?;
+    let (hour, minute): (u8, u8) = (hour.parse().ok()?, minute.parse().ok()?);
+    (hour < 24 && minute < 60).then_some(60 * i64::from(hour) + i64::from(minute))
+}
+
+fn number(word: &str) -> Result<f32, String> {
     let not_one = |_| format!("{word:?} is not a number");
     word.parse().map_err(not_one)
 }
 
 /// A bound in words: `lossless`, `0.5` or `5%`.
-#[allow(dead_code, reason = "not every example takes such a bound")]
 pub fn bound(word: &str) -> Result<ErrorBound, String> {
     match word.strip_suffix('%') {
         _ if word == "lossless" => Ok(ErrorBound::Lossless),
         Some(percent) => number(percent).map(ErrorBound::Relative),
         None => number(word).map(ErrorBound::Absolute),
     }
-}
-
-/// The minutes of the day at times as 06:05.
-#[allow(dead_code, reason = "not every example needs the times as numbers")]
-pub fn minutes(times: &[String]) -> Result<Vec<i64>, String> {
-    let minute = |time: &String| {
-        let (hours, minutes) = time.split_once(':')?;
-        Some(60 * hours.parse::<i64>().ok()? + minutes.parse::<i64>().ok()?)
-    };
-    let no_time = |time: &String| format!("{time:?} is no time of the day");
-    let read = |time| minute(time).ok_or_else(|| no_time(time));
-    times.iter().map(read).collect()
 }

@@ -1,16 +1,26 @@
 //! How an example ends: with its text, or with what was wrong.
 
+use std::io::{ErrorKind, Write, stderr, stdout};
 use std::process::ExitCode;
 
 pub fn told(text: Result<String, String>) -> ExitCode {
-    match text {
-        Ok(text) => {
-            print!("{text}");
-            ExitCode::SUCCESS
-        }
+    match text.and_then(|text| written(&text)) {
+        Ok(()) => ExitCode::SUCCESS,
         Err(why) => {
-            eprintln!("{why}");
+            // Where nobody reads that either, the code alone says it.
+            _ = writeln!(stderr(), "{why}");
             ExitCode::FAILURE
         }
+    }
+}
+
+/// Whoever closes the pipe has read enough; a full disk is told.
+fn written(text: &str) -> Result<(), String> {
+    let mut out = stdout().lock();
+    match out.write_all(text.as_bytes()).and_then(|()| out.flush()) {
+        Err(why) if why.kind() != ErrorKind::BrokenPipe => {
+            Err(format!("the output could not be written: {why}"))
+        }
+        _ => Ok(()),
     }
 }

@@ -100,21 +100,26 @@ mod c {
 /// parameter bytes and how many residual bytes there are.
 pub const SEGMENT_WORDS: usize = 4;
 
-/// The most parameter bytes of a segment, and the most residual bytes: 45 bits for each of 255
-/// residuals, and the byte that counts them.
+/// The most parameter bytes of a segment.
 pub const MOST_VALUES_BYTES: usize = 8;
+
+/// The most residual bytes of a segment: 45 bits for each of 255 residuals, and the byte that counts
+/// them.
 pub const MOST_RESIDUALS_BYTES: usize = 1_436;
 
 /// The bits of two values: a least and a greatest one, or a model's first and last.
 pub type Pair = (u32, u32);
 
-/// A segment as it is read: its model's number, the bits of its least and greatest value, its
-/// parameter bytes and its residual bytes.
+/// A segment as it is read.
 #[derive(Clone, Copy, Debug)]
 pub struct StoredSegment<'a> {
+    /// Its model's number.
     pub model: u32,
+    /// The bits of its least and of its greatest value.
     pub extremes: Pair,
+    /// Its parameter bytes.
     pub values: &'a [u8],
+    /// Its residual bytes.
     pub residuals: &'a [u8],
 }
 

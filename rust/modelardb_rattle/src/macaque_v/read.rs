@@ -7,6 +7,12 @@ use crate::{Refusal, ffi};
 /// `out` as it was: the values wait on the stack until the whole stream is found right, which takes
 /// 5 KiB for each 1,024 of them, so up to 320 KiB.
 ///
+/// # Errors
+///
+/// [`Refusal::OverLimit`] for a count above 65,536; [`Refusal::OutputTooShort`]; then what is wrong with
+/// the stream: [`Refusal::EndsEarly`], [`Refusal::NoWindow`], [`Refusal::WindowNotAllowed`] or
+/// [`Refusal::Leftover`].
+///
 /// ```
 /// use modelardb_rattle::{Opening, Refusal, macaque_v};
 ///
@@ -24,6 +30,10 @@ pub fn grid(bytes: &[u8], count: usize, opening: Opening, out: &mut [f32]) -> Re
 }
 
 /// [`grid`] on the values' bits.
+///
+/// # Errors
+///
+/// Those of [`grid`].
 pub fn grid_bits(
     bytes: &[u8],
     count: usize,
@@ -34,6 +44,10 @@ pub fn grid_bits(
 }
 
 /// The sum of the values of a stream, `count` of them, in f32 from the left.
+///
+/// # Errors
+///
+/// Those of [`grid`], but for [`Refusal::OutputTooShort`].
 ///
 /// ```
 /// use modelardb_rattle::{Opening, Refusal, macaque_v};
@@ -48,6 +62,10 @@ pub fn sum(bytes: &[u8], count: usize, opening: Opening) -> Result<f32, Refusal>
 }
 
 /// The bits of [`sum`]; a NaN is answered as 7FC00000.
+///
+/// # Errors
+///
+/// Those of [`sum`].
 pub fn sum_bits(bytes: &[u8], count: usize, opening: Opening) -> Result<u32, Refusal> {
     let mut out = [0];
     Refusal::judge(ffi::macaque_v_sum(bytes, count, opening.words(), &mut out))?;

@@ -3,6 +3,8 @@
 use super::Opening;
 use crate::Refusal;
 use crate::ffi::{self, READER_WORDS};
+use crate::shown::F32;
+use std::fmt::{self, Debug, Formatter};
 
 /// A reader that keeps hold of the lent stream and its place. It knows no total: its user decides how many
 /// values to read, and [`Reader::end`] judges what follows them.
@@ -24,7 +26,7 @@ use crate::ffi::{self, READER_WORDS};
 /// assert_eq!(reader.place(), 64);
 /// # Ok::<(), Refusal>(())
 /// ```
-#[derive(Clone, Copy, Debug, PartialEq, Eq)]
+#[derive(Clone, PartialEq, Eq)]
 pub struct Reader<'a> {
     stream: &'a [u8],
     /// Where it stands, as it crosses the C face: see [`READER_WORDS`].
@@ -40,13 +42,21 @@ impl<'a> Reader<'a> {
         Self { stream, row }
     }
 
-    /// The next value. Refused where the stream ends early or holds a code that none may, and behind 65,536
-    /// values; a refusal leaves the reader as it was.
+    /// The next value. A refusal leaves the reader as it was.
+    ///
+    /// # Errors
+    ///
+    /// [`Refusal::OverLimit`] behind 65,536 values; then what is wrong with the stream at this place:
+    /// [`Refusal::EndsEarly`], [`Refusal::NoWindow`] or [`Refusal::WindowNotAllowed`].
     pub fn next_value(&mut self) -> Result<f32, Refusal> {
         self.next_value_bits().map(f32::from_bits)
     }
 
     /// The bits of [`Reader::next_value`].
+    ///
+    /// # Errors
+    ///
+    /// Those of [`Reader::next_value`].
     pub fn next_value_bits(&mut self) -> Result<u32, Refusal> {
         let mut out = [0];
         let number = ffi::reader_next(self.stream, &mut self.row, &mut out);
@@ -54,7 +64,11 @@ impl<'a> Reader<'a> {
         Ok(out[0])
     }
 
-    /// Whether the stream ends behind the values read: refused where a padding bit is set or a byte follows.
+    /// Whether the stream ends behind the values read.
+    ///
+    /// # Errors
+    ///
+    /// [`Refusal::Leftover`] where a padding bit is set or a byte follows.
     ///
     /// ```
     /// use modelardb_rattle::{Opening, Reader, Refusal};
@@ -91,19 +105,44 @@ impl<'a> Reader<'a> {
     }
 }
 
-/// The last of a stream's values, `count` of them, +0 where there are none.
+/// The state by its fields, the last value beside its bits.
+impl Debug for Reader<'_> {
+    fn fmt(&self, f: &mut Formatter) -> fmt::Result {
+        f.debug_struct("Reader")
+            .field("stream", &format_args!("{} bytes", self.stream.len()))
+            .field("last_value", &F32(self.last_value_bits()))
+            .field("last_leading_zero_bits", &self.row[1])
+            .field("last_trailing_zero_bits", &self.row[2])
+            .field("with_first", &(self.row[3] == 1))
+            .field("place", &self.place())
+            .field("length", &self.length())
+            .finish()
+    }
+}
+
+/// The last of a stream's values, `count` of them; +0 for a count of 0, whatever the stream opens on.
+///
+/// # Errors
+///
+/// [`Refusal::OverLimit`] for a count above 65,536; then what is wrong with the stream:
+/// [`Refusal::EndsEarly`], [`Refusal::NoWindow`], [`Refusal::WindowNotAllowed`] or [`Refusal::Leftover`].
 ///
 /// ```
 /// use modelardb_rattle::{Opening, macaque_v};
 ///
 /// let case_a = [0x3F, 0x80, 0x00, 0x00, 0xB0, 0x91, 0xFE];
 /// assert_eq!(macaque_v::last_value(&case_a, 3, Opening::First), Ok(2.0));
+/// assert_eq!(macaque_v::last_value(&[], 0, Opening::On(7.0)), Ok(0.0));
 /// ```
 pub fn last_value(bytes: &[u8], count: usize, opening: Opening) -> Result<f32, Refusal> {
     last_value_bits(bytes, count, opening).map(f32::from_bits)
 }
 
 /// The bits of [`last_value`].
+///
+/// # Errors
+///
+/// Those of [`last_value`].
 pub fn last_value_bits(bytes: &[u8], count: usize, opening: Opening) -> Result<u32, Refusal> {
     let mut out = [0];
     let number = ffi::reader_last_value(bytes, count, opening.words(), &mut out);
