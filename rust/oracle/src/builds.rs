@@ -7,3 +7,7 @@ pub static AT_HAND: &[Calls] = &[crate::filled::CALLS, crate::published::CALLS];
 
 #[cfg(not(text_at_hand))]
 pub static AT_HAND: &[Calls] = &[];
+
+/// Whether the text's debug assertions stand in these builds, and its sums are checked, as in cargo's debug
+/// profile.
+pub const ARE_DEBUG: bool = cfg!(debug_assertions);

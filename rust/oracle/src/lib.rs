@@ -3,11 +3,10 @@
 //! where the text is at hand: [`builds`] lists them, and [`rust`] says what each can be asked.
 
 pub mod builds;
+pub mod faults;
 pub mod paper;
 pub mod rust;
 
-#[cfg(text_at_hand)]
-mod faults;
 #[cfg(text_at_hand)]
 mod filled;
 #[cfg(text_at_hand)]

@@ -18,13 +18,13 @@ pub const CALLS: [(&str, &[u64]); 38] = [
     ("modelardb_macaque_v_grid", &[3, 4, 5, 6, 7, 8]),
     ("modelardb_macaque_v_sum", &[3, 4, 5, 6, 7, 8]),
     ("modelardb_pmc_mean_new", &[1, 4]),
-    ("modelardb_pmc_mean_fit_value", &[1, 2, 3, 4]),
+    ("modelardb_pmc_mean_fit_value", &[1, 2, 3]),
     ("modelardb_pmc_mean_bytes_per_value", &[1, 2, 3, 4, 11]),
     ("modelardb_pmc_mean_model", &[1, 2, 4, 11]),
     ("modelardb_pmc_mean_sum", &[3, 4]),
     ("modelardb_pmc_mean_grid", &[3, 4]),
     ("modelardb_swing_new", &[1, 4]),
-    ("modelardb_swing_fit_data_point", &[1, 2, 3, 4, 10]),
+    ("modelardb_swing_fit_data_point", &[1, 2, 3, 10]),
     ("modelardb_swing_bytes_per_value", &[1, 2, 3, 4, 11]),
     ("modelardb_swing_model", &[1, 2, 4, 11]),
     ("modelardb_swing_sum_by_average", &[3, 4, 10, 11]),
@@ -33,7 +33,7 @@ pub const CALLS: [(&str, &[u64]); 38] = [
     ("modelardb_model_builder_new", &[1, 4]),
     (
         "modelardb_model_builder_try_to_update_models",
-        &[1, 2, 3, 4, 10],
+        &[1, 2, 3, 10],
     ),
     ("modelardb_model_builder_finish", &[1, 2, 3, 4, 11]),
     ("modelardb_choose_model", &[1, 3, 4, 10, 11, 12]),
@@ -53,7 +53,7 @@ pub const CALLS: [(&str, &[u64]); 38] = [
     ),
     ("modelardb_reader_open", &[3, 4]),
     ("modelardb_reader_next", &[2, 3, 4, 5, 6, 7]),
-    ("modelardb_reader_end", &[2, 4, 8]),
+    ("modelardb_reader_end", &[2, 8]),
     ("modelardb_reader_last_value", &[3, 4, 5, 6, 7, 8]),
 ];
 

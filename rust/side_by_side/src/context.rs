@@ -21,6 +21,10 @@ impl Part {
         Self { name, run }
     }
 
+    pub fn name(&self) -> &'static str {
+        self.name
+    }
+
     /// Whether its name begins so.
     pub fn is_named(&self, beginning: &str) -> bool {
         self.name.starts_with(beginning)

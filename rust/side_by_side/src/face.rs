@@ -24,12 +24,13 @@ pub fn new(bound: Words, opening: Words, row: &mut [u64]) -> u32 {
     })
 }
 
-/// The row is read before anything is judged: 4 for a short one comes first.
+/// The words of the bound and of the mode stay as they are handed in.
 pub fn compress_values(row: &mut [u64], values: &[u32], buffer: &mut [u8]) -> u32 {
     number(|| {
-        refuse_if(row.len() < STATE_WORDS, OUTPUT)?;
         let after = state_in(row)?.compress_values(values, buffer)?;
+        let kept = [row[0], row[1], row[7]];
         put(row, after);
+        [row[0], row[1], row[7]] = kept;
         Ok(())
     })
 }
@@ -112,6 +113,20 @@ fn allowed_bound((kind, bits): Words) -> Answer<ErrorBound> {
     bound.judge().map(|()| bound)
 }
 
+/// A row too short for the state that is read from it stands for none: 2, behind 1 for a bound that is in it,
+/// by the places where the words of bounds begin.
+pub fn judge_words(row: &[u64], words: usize, bounds: &[usize]) -> Answer<()> {
+    if row.len() >= words {
+        return Ok(());
+    }
+    for &place in bounds {
+        if let Some(&[kind, bits]) = row.get(place..place + 2) {
+            fit::bound_in(kind, bits).judge()?;
+        }
+    }
+    Err(STATE)
+}
+
 /// "A mode above 1 with 3".
 fn opening_in((mode, value): Words) -> Answer<Opening> {
     match mode {
@@ -121,8 +136,10 @@ fn opening_in((mode, value): Words) -> Answer<Opening> {
     }
 }
 
-/// The state that a row stands for: 1 where its bound does not, 2 where another word is too large.
+/// The state that a row stands for: 1 where its bound does not, 2 where it is too short or another word is too
+/// large.
 fn state_in(row: &[u64]) -> Answer<MacaqueV> {
+    judge_words(row, STATE_WORDS, &[0])?;
     let bits = |word: usize| u32::try_from(row[word]).map_err(|_| STATE);
     let zeros = |word: usize| u8::try_from(row[word]).map_err(|_| STATE);
     let half = |word: usize| u32::try_from(row[word]).map_err(|_| BOUND);

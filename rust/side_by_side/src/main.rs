@@ -33,8 +33,15 @@ fn main() -> ExitCode {
         println!("skipped: the published Rust, since ORACLE_SRC names no folder with its text");
     }
     let named = parts::ALL.iter().filter(|part| part.is_named(&name));
-    let last = all.then_some(&parts::EVERY_F32);
-    let parts: Vec<&Part> = named.chain(last).collect();
+    let mut parts: Vec<&Part> = named.collect();
+    if parts.is_empty() {
+        eprintln!("no part's name begins with {name:?}; the parts are:");
+        for part in parts::ALL {
+            eprintln!("    {}", part.name());
+        }
+        return ExitCode::from(2);
+    }
+    parts.extend(all.then_some(&parts::EVERY_F32));
     let (sender, outcomes) = mpsc::channel();
     let (parts, next) = (&parts, &AtomicUsize::new(0));
     thread::scope(|scope| {

@@ -42,6 +42,22 @@ pub const BOUNDS: [(Words, u32); 10] = [
 /// Two of them that are allowed, and two that are not.
 pub const FEW_BOUNDS: [(Words, u32); 4] = [BOUNDS[0], BOUNDS[2], BOUNDS[3], BOUNDS[8]];
 
+/// A row that a state is read from: of no words, of a part of its bound, of its bound alone, of one word less
+/// than needed, of just enough and of more.
+pub fn lengths(words: usize) -> [usize; 6] {
+    [0, 1, 2, words - 1, words, words + 2]
+}
+
+/// What a row of this length brings in, where the whole row would bring in these causes, the first of them of
+/// its bound: one that is too short stands for no state, and its bound is judged where it is there.
+pub fn of_row(length: usize, words: usize, causes: &[u32]) -> Vec<u32> {
+    match length {
+        _ if length >= words => causes.to_vec(),
+        0 | 1 => vec![STATE],
+        _ => vec![causes[0], STATE],
+    }
+}
+
 /// A memory of no words, of one less than needed, of just enough and of more.
 pub fn rooms(words: usize) -> [(usize, u32); 4] {
     [(0, OUTPUT), (words - 1, OUTPUT), (words, 0), (words + 2, 0)]

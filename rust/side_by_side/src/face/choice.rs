@@ -1,11 +1,10 @@
 //! The choice: a builder's row is that of PMC-Mean and then that of Swing, the last word of each a flag.
 
 use super::fit::{NO_LENGTH, in_room, metadata, pmc_mean_in, put_pmc_mean, put_swing, swing_in};
-use super::{allowed_bound, number};
+use super::{allowed_bound, judge_words, number};
 use modelardb_rattle::ffi::{MODEL_BUILDER_WORDS, PMC_MEAN_WORDS, SELECTED_MODEL_WORDS, Words};
-use oracle::paper::refusal::OUTPUT;
+use oracle::paper::Answer;
 use oracle::paper::types::{self, Model, ModelBuilder};
-use oracle::paper::{Answer, refuse_if};
 
 pub fn new(bound: Words, row: &mut [u64]) -> u32 {
     number(|| {
@@ -17,7 +16,7 @@ pub fn new(bound: Words, row: &mut [u64]) -> u32 {
 
 pub fn try_to_update_models(row: &mut [u64], timestamp: i64, value: u32) -> u32 {
     number(|| {
-        refuse_if(row.len() < MODEL_BUILDER_WORDS, OUTPUT)?;
+        judge_words(row, MODEL_BUILDER_WORDS, &[0, PMC_MEAN_WORDS])?;
         let (_, after) = builder_in(row).try_to_update_models(timestamp, value)?;
         put(row, after);
         Ok(())
@@ -26,7 +25,7 @@ pub fn try_to_update_models(row: &mut [u64], timestamp: i64, value: u32) -> u32 
 
 pub fn finish(row: &[u64], m: usize, out: &mut [u64]) -> u32 {
     number(|| {
-        refuse_if(row.len() < MODEL_BUILDER_WORDS, OUTPUT)?;
+        judge_words(row, MODEL_BUILDER_WORDS, &[0, PMC_MEAN_WORDS])?;
         put_model(out, builder_in(row).finish(metadata(m)))
     })
 }

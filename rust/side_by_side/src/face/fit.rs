@@ -1,13 +1,13 @@
-//! PMC-Mean and Swing. A state's row is read before anything is judged: 4 for a short one comes first.
+//! PMC-Mean and Swing.
 
-use super::{allowed_bound, number};
+use super::{allowed_bound, judge_words, number};
 use modelardb_rattle::ffi::{Ends, PMC_MEAN_WORDS, SWING_WORDS, Words};
 use oracle::paper::models::ErrorBound::{self, Absolute, Lossless, Relative};
 use oracle::paper::numbers::canonical;
 use oracle::paper::pmc_mean::{self, PMCMean};
 use oracle::paper::refusal::{BOUND, COUNTS, LIMIT, OUTPUT, STATE};
 use oracle::paper::swing::{self, Line, Swing};
-use oracle::paper::{Answer, MOST_VALUES, refuse_if};
+use oracle::paper::{Answer, MOST_VALUES};
 
 /// A length that no state may have, for a row that stands for none.
 pub const NO_LENGTH: usize = MOST_VALUES + 1;
@@ -23,7 +23,7 @@ pub fn pmc_mean_new(bound: Words, row: &mut [u64]) -> u32 {
 
 pub fn pmc_mean_fit_value(row: &mut [u64], value: u32) -> u32 {
     number(|| {
-        refuse_if(row.len() < PMC_MEAN_WORDS, OUTPUT)?;
+        judge_words(row, PMC_MEAN_WORDS, &[0])?;
         let (fits, state) = pmc_mean_in(row).fit_value(value)?;
         put_pmc_mean(row, state, fits);
         Ok(())
@@ -59,7 +59,7 @@ pub fn swing_new(bound: Words, row: &mut [u64]) -> u32 {
 
 pub fn swing_fit_data_point(row: &mut [u64], timestamp: i64, value: u32) -> u32 {
     number(|| {
-        refuse_if(row.len() < SWING_WORDS, OUTPUT)?;
+        judge_words(row, SWING_WORDS, &[0])?;
         let (fits, state) = swing_in(row).fit_data_point(timestamp, value)?;
         put_swing(row, state, fits);
         Ok(())
@@ -111,7 +111,7 @@ fn ask<const N: usize>(
     call: impl FnOnce() -> Answer<[u32; N]>,
 ) -> u32 {
     number(|| {
-        refuse_if(row.len() < words, OUTPUT)?;
+        judge_words(row, words, &[0])?;
         let answer = in_room(call(), N, out.len())?;
         out[..N].copy_from_slice(&answer);
         Ok(())
@@ -161,7 +161,7 @@ pub fn swing_in(row: &[u64]) -> Swing {
 }
 
 /// A bound's two words; those that stand for none make one that is not allowed.
-fn bound_in(kind: u64, bits: u64) -> ErrorBound {
+pub fn bound_in(kind: u64, bits: u64) -> ErrorBound {
     let value = |bits| f32::from_bits(canonical(bits));
     match (kind, u32::try_from(bits)) {
         (0, Ok(_)) => Lossless,

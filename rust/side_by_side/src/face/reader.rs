@@ -1,6 +1,6 @@
 //! The reader by document 01, behind rows of words.
 
-use super::{number, opening_in};
+use super::{judge_words, number, opening_in};
 use modelardb_rattle::ffi::{READER_WORDS, Words};
 use oracle::paper::macaque_v::{Reader, Window, read_all};
 use oracle::paper::refusal::{LIMIT, OUTPUT, STATE};
@@ -15,8 +15,7 @@ pub fn open(opening: Words, row: &mut [u64]) -> u32 {
     })
 }
 
-/// The row is read before anything is judged: 4 for a short one comes first. 4 for the output has its place
-/// behind 2 and 3.
+/// 4 for the output has its place behind 2 and 3.
 pub fn next(bytes: &[u8], row: &mut [u64], out: &mut [u32]) -> u32 {
     number(|| {
         let reader = reader_in(bytes, row)?;
@@ -45,9 +44,9 @@ pub fn last_value(bytes: &[u8], count: usize, opening: Words, out: &mut [u32]) -
     })
 }
 
-/// The reader that a row stands for: 2 where a word is too large.
+/// The reader that a row stands for: 2 where it is too short or a word is too large.
 fn reader_in<'a>(stream: &'a [u8], row: &[u64]) -> Answer<Reader<'a>> {
-    refuse_if(row.len() < READER_WORDS, OUTPUT)?;
+    judge_words(row, READER_WORDS, &[])?;
     let zeros = |word: usize| u8::try_from(row[word]).map_err(|_| STATE);
     refuse_if(row[3] > 1, STATE)?;
     Ok(Reader {

@@ -58,7 +58,9 @@ pub const ALL: &[Part] = &[
     Part::new("parameter bytes", parameters::parameters),
     Part::new("segments", segments::segments),
     Part::new("list", list_program::list_program),
-    Part::new("listed differences", differences::differences),
+    Part::new("differences", differences::differences),
+    Part::new("differences: refused segments", differences::refused),
+    Part::new("differences: segments stored before", differences::before),
 ];
 
 /// The long one: all 2^32 patterns.

@@ -1,225 +1,307 @@
-//! The rows about fitting and the choice. Their answers "here" are those of the paper's program and of
-//! the compiled library, also where the published text is not at hand.
+//! The rows about PMC-Mean, Swing and the choice between them.
 
-use crate::context::Context;
-use crate::face::numbered;
-use crate::inputs::{INFINITY, ONE, TWO};
-use modelardb_rattle::{self as library, ErrorBound as Bound, Line as LibraryLine};
-use oracle::paper::MOST_VALUES;
-use oracle::paper::models::ErrorBound::{Absolute, Lossless, Relative};
-use oracle::paper::models::maximum_allowed_deviation;
-use oracle::paper::numbers::{NAN_32, canonical};
+use super::said::{Row, decimal, ends, fits, row};
+use crate::face::safe_bound;
+use crate::inputs::{ONE, TWO};
+use modelardb_rattle::{self as library, ErrorBound as Bound, Refusal};
+use oracle::paper::models::ErrorBound::{self, Absolute, Lossless};
 use oracle::paper::pmc_mean::PMCMean;
-use oracle::paper::swing::{self, Line, Swing};
-use oracle::paper::types::{ModelBuilder, choose_model};
-use oracle::rust::Calls;
-use std::fmt::Debug;
+use oracle::paper::swing::Swing;
+use oracle::paper::types::{ModelBuilder, PMC_MEAN_ID, choose_model};
+use oracle::paper::{Answer, MOST_VALUES};
+use oracle::rust::{Calls, Chosen};
 
-pub fn fitting(context: &mut Context) {
-    deviation(context);
-    line_of_two(context);
-    choice(context);
-    times(context);
-    lines(context);
-    full_states(context);
-    choices_of_no_model(context);
+const ALLOWED: &str = "an allowed step";
+
+/// Points, and what a chosen model is said to be.
+type Points = Vec<(i64, u32)>;
+type Said = (u32, usize, u32);
+
+pub fn rows() -> Vec<Row> {
+    let mut rows = vec![line_of_two(), minimum_of_zeros()];
+    rows.extend(two_points());
+    rows.push(ends_of_i64());
+    rows.extend(full_states());
+    rows.extend(fresh_models());
+    rows.extend(under_no_bound());
+    rows.extend(choices());
+    rows.extend(choices_of_no_model());
+    rows
 }
 
-/// A row: the answers of the paper and of the library, what the published text answers, and both as the
-/// list has them.
-fn row<A: PartialEq + Debug + Clone>(
-    context: &mut Context,
-    what: &str,
-    here: [A; 2],
-    theirs: impl Fn(&Calls) -> A,
-    listed: (A, A),
-) {
-    let (paper, by_the_list) = (here[0].clone(), [listed.0.clone(), listed.0.clone()]);
-    context.same("paper and library", by_the_list, here, || what.to_string());
-    for rust in context.rust.iter().filter(|rust| !rust.is_filled()) {
-        context.listed(paper.clone(), theirs(rust), listed.clone(), what);
+/// A fresh state under any bound, allowed or not.
+fn pmc_mean_under(error_bound: ErrorBound) -> PMCMean {
+    let fresh = PMCMean::new(Lossless).expect("an allowed bound");
+    PMCMean {
+        error_bound,
+        ..fresh
     }
 }
 
-/// 1: The published deviation is 0.99 × bound, or divides by 100.1.
-fn deviation(context: &mut Context) {
-    let one = 1f64.to_bits();
-    let rows = [
-        (Absolute(1.0), Bound::Absolute(1.0), 0.99),
-        (Relative(100.0), Bound::Relative(100.0), 100.0 / 100.1),
-    ];
-    for (bound, ours, there) in rows {
-        let paper = maximum_allowed_deviation(bound, one).map(f64::from_bits);
-        let here = [
-            paper,
-            numbered(library::maximum_allowed_deviation(ours, 1.0)),
-        ];
-        let theirs = |rust: &Calls| Ok(f64::from_bits((rust.deviation)(bound, one)));
-        let what = format!("1: deviation of 1, {bound:?}");
-        row(context, &what, here, theirs, (Ok(1.0), Ok(there)));
+fn swing_under(error_bound: ErrorBound) -> Swing {
+    let fresh = Swing::new(Lossless).expect("an allowed bound");
+    Swing {
+        error_bound,
+        ..fresh
     }
 }
 
-fn fresh(bound: oracle::paper::models::ErrorBound) -> Swing {
-    Swing::new(bound).expect("an allowed bound")
+fn builder_under(error_bound: ErrorBound) -> ModelBuilder {
+    ModelBuilder {
+        pmc_mean: pmc_mean_under(error_bound),
+        pmc_mean_could_fit_all: true,
+        swing: swing_under(error_bound),
+        swing_could_fit_all: true,
+    }
 }
 
-/// 1: The same for a line of two points.
-fn line_of_two(context: &mut Context) {
-    let points = [(0, 0), (10, 5f32.to_bits())];
-    let mut paper = fresh(Absolute(1.0));
-    let mut ours = library::Swing::new(Bound::Absolute(1.0)).expect("an allowed bound");
+/// 1: The deviation of a line of two points.
+fn line_of_two() -> Row {
+    let (bound, points) = (Absolute(1.0), [(0, 0), (10, 5f32.to_bits())]);
+    let mut paper = swing_under(bound);
+    let mut ours = library::Swing::new(safe_bound(bound)).expect(ALLOWED);
     for (time, value) in points {
-        (_, paper) = paper.fit_data_point(time, value).expect("a step");
-        ours.fit_data_point_bits(time, value).expect("a step");
+        (_, paper) = paper.fit_data_point(time, value).expect(ALLOWED);
+        ours.fit_data_point_bits(time, value).expect(ALLOWED);
     }
-    let theirs = |rust: &Calls| {
+    let there = move |rust: &Calls| {
         let step = |state, (time, value)| (rust.swing_step)(state, time, value).1;
-        let state = points.into_iter().fold(fresh(Absolute(1.0)), step);
-        Ok((rust.swing_model)(state))
+        Some((rust.swing_model)(
+            points.into_iter().fold(swing_under(bound), step),
+        ))
     };
-    let here = [paper.model(), numbered(ours.model_bits())];
-    let listed = (Ok((0, 6f32.to_bits())), Ok((0, 5.99f32.to_bits())));
-    let what = "1: Swing, Absolute(1), 0 at 0 and 5 at 10";
-    row(context, what, here, theirs, listed);
+    let here = (paper.model(), ours.model_bits());
+    row("Swing, Absolute(1): 0 at 0, 5 at 10", here, there, ends)
 }
 
-/// 6: A line that runs off to infinity is chosen there.
-fn choice(context: &mut Context) {
-    let (bound, max) = (Absolute(3e38), f32::MAX.to_bits());
-    let values = [max | 1 << 31, max];
-    let paper = choose_model(&[0, 1], &values, bound, 2).map(|m| (m.id, m.last_value));
-    let ours = library::choose_model_bits(&[0, 1], &values, Bound::Absolute(3e38), 2);
-    let ours = numbered(ours).map(|m| (m.model_type_id(), m.last_value_bits()));
-    let theirs = |rust: &Calls| {
-        let fresh = ModelBuilder::new(bound).expect("an allowed bound");
-        let step = |builder, (time, value)| (rust.builder_step)(builder, time, value).1;
-        let chosen = (rust.choose)((0..).zip(values).fold(fresh, step), 2);
-        Ok((chosen.id, chosen.last_value))
+/// 7: Which of two zeros is the least.
+fn minimum_of_zeros() -> Row {
+    let zeros = [0, 1 << 31];
+    let mut paper = pmc_mean_under(Lossless);
+    let mut ours = library::PMCMean::new(Bound::Lossless).expect(ALLOWED);
+    for value in zeros {
+        (_, paper) = paper.fit_value(value).expect(ALLOWED);
+        ours.fit_value_bits(value).expect(ALLOWED);
+    }
+    let there = move |rust: &Calls| {
+        let step = |state, value| (rust.pmc_step)(state, value).1;
+        let state = zeros.into_iter().fold(pmc_mean_under(Lossless), step);
+        Some(state.min_value.to_bits())
     };
-    let listed = (Ok((0, values[0])), Ok((1, INFINITY)));
-    let what = "6: choice of -MAX, MAX, Absolute(3e38)";
-    row(context, what, [paper, ours], theirs, listed);
+    let here = (
+        Ok(paper.min_value.to_bits()),
+        Ok(ours.min_value().to_bits()),
+    );
+    row(
+        "PMC-Mean, Lossless: 0, then −0: the least",
+        here,
+        there,
+        decimal,
+    )
 }
 
-/// 9 and 10: Times that do not increase, or that are beyond the limits.
-fn times(context: &mut Context) {
-    let beyond = (1i64 << 52) + 1;
+/// 9: A second point at a time that is not allowed.
+fn two_points() -> Vec<Row> {
     let rows = [
-        (5, 5, true, "9: Swing, two points at one time"),
-        (5, beyond, true, "9: Swing, a time beyond 2^52"),
+        ("Swing: 2 at 5 after 1 at 5", 5),
+        ("Swing: 2 at 2^52 + 1 after 1 at 5", (1 << 52) + 1),
     ];
-    for (first, second, fits, what) in rows {
-        let (_, one) = fresh(Lossless).fit_data_point(first, ONE).expect("a point");
+    let (_, one) = swing_under(Lossless).fit_data_point(5, ONE).expect(ALLOWED);
+    let of = |(input, second)| {
         let paper = one.fit_data_point(second, TWO).map(|(fits, _)| fits);
-        let mut ours = library::Swing::new(Bound::Lossless).expect("an allowed bound");
-        ours.fit_data_point(first, 1.0).expect("a point");
-        let here = [paper, numbered(ours.fit_data_point(second, 2.0))];
-        let theirs = |rust: &Calls| Ok((rust.swing_step)(one, second, TWO).0);
-        row(context, what, here, theirs, (Err(10), Ok(fits)));
-    }
-    // The difference of these faults there where overflow is checked, else it wraps.
-    let paper = fresh(Lossless).fit_data_point(i64::MIN, ONE).map(|_| 0.0);
-    let mut ours = library::Swing::new(Bound::Lossless).expect("an allowed bound");
-    let ours = numbered(ours.fit_data_point(i64::MIN, 1.0)).map(|_| 0.0);
-    let theirs = |rust: &Calls| {
-        let (_, first) = (rust.swing_step)(fresh(Lossless), i64::MIN, ONE);
-        Ok((rust.swing_step)(first, i64::MAX, TWO).1.upper_bound_slope)
+        let mut ours = library::Swing::new(Bound::Lossless).expect(ALLOWED);
+        ours.fit_data_point(5, 1.0).expect(ALLOWED);
+        let here = (paper, ours.fit_data_point(second, 2.0));
+        let there = move |rust: &Calls| Some((rust.swing_step)(one, second, TWO).0);
+        row(input, here, there, fits)
     };
-    let what = "10: times at the ends of i64";
-    row(context, what, [paper, ours], theirs, (Err(10), Ok(-1.0)));
+    rows.map(of).into()
 }
 
-/// 9: Lines that are drawn there.
-fn lines(context: &mut Context) {
-    let rows = [
-        (
-            INFINITY,
-            [0, 10],
-            11,
-            NAN_32,
-            "9: a line from 1 to infinity",
-        ),
-        (TWO, [5, 5], 10, 0x3FC0_0000, "9: a line's grid at 5 and 5"),
-    ];
-    for (last_value, times, refusal, drawn, what) in rows {
-        let line = Line {
-            start_time: 0,
-            end_time: 10,
-            first_value: ONE,
-            last_value,
-        };
-        let (mut out, mut ours) = ([0; 2], [0; 2]);
-        let paper = swing::grid(line, &times, &mut out).map(|()| out.to_vec());
-        let of_library = LibraryLine {
-            start_time: 0,
-            end_time: 10,
-            first_value: 1.0,
-            last_value: f32::from_bits(last_value),
-        };
-        let answer = library::swing::grid_bits(of_library, &times, &mut ours);
-        let here = [paper, numbered(answer).map(|()| ours.to_vec())];
-        let theirs = |rust: &Calls| {
-            let drawn = (rust.swing_grid)(line, &times);
-            Ok(drawn.into_iter().map(canonical).collect())
-        };
-        let listed = (Err(refusal), Ok(vec![drawn; 2]));
-        row(context, what, here, theirs, listed);
-    }
+/// 10: The difference of these times does not fit an i64.
+fn ends_of_i64() -> Row {
+    let paper = swing_under(Lossless)
+        .fit_data_point(i64::MIN, ONE)
+        .map(|_| 0.0);
+    let mut ours = library::Swing::new(Bound::Lossless).expect(ALLOWED);
+    let ours = ours.fit_data_point(i64::MIN, 1.0).map(|_| 0.0);
+    let there = |rust: &Calls| {
+        let (_, first) = (rust.swing_step)(swing_under(Lossless), i64::MIN, ONE);
+        Some((rust.swing_step)(first, i64::MAX, TWO).1.upper_bound_slope)
+    };
+    let input = "Swing: 1 at the least i64, 2 at the greatest";
+    row(input, (paper, ours), there, |slope: f64| {
+        format!("slope {slope}")
+    })
 }
 
 /// 9: A model of 65,536 values takes more there.
-fn full_states(context: &mut Context) {
-    let mut paper = PMCMean::new(Lossless).expect("an allowed bound");
-    let mut ours = library::PMCMean::new(Bound::Lossless).expect("an allowed bound");
-    for _ in 0..MOST_VALUES {
-        (_, paper) = paper.fit_value(ONE).expect("a value under the limit");
-        ours.fit_value(1.0).expect("a value under the limit");
+fn full_states() -> Vec<Row> {
+    let (mut pmc_mean, mut swing) = (pmc_mean_under(Lossless), swing_under(Lossless));
+    let mut our_pmc_mean = library::PMCMean::new(Bound::Lossless).expect(ALLOWED);
+    let mut our_swing = library::Swing::new(Bound::Lossless).expect(ALLOWED);
+    let next = MOST_VALUES as i64;
+    for time in 0..next {
+        (_, pmc_mean) = pmc_mean.fit_value(ONE).expect(ALLOWED);
+        (_, swing) = swing.fit_data_point(time, ONE).expect(ALLOWED);
+        our_pmc_mean.fit_value(1.0).expect(ALLOWED);
+        our_swing.fit_data_point(time, 1.0).expect(ALLOWED);
     }
-    let answer = paper.fit_value(ONE).map(|(fits, _)| fits);
-    let here = [answer, numbered(ours.fit_value(1.0))];
-    let theirs = |rust: &Calls| Ok((rust.pmc_step)(paper, ONE).0);
-    let what = "9: PMC, value number 65,537";
-    row(context, what, here, theirs, (Err(3), Ok(true)));
+    let paper = pmc_mean.fit_value(ONE).map(|(fits, _)| fits);
+    let here = (paper, our_pmc_mean.fit_value(1.0));
+    let there = move |rust: &Calls| Some((rust.pmc_step)(pmc_mean, ONE).0);
+    let of_pmc_mean = row("PMC-Mean: value number 65,537", here, there, fits);
+    let paper = swing.fit_data_point(next, ONE).map(|(fits, _)| fits);
+    let here = (paper, our_swing.fit_data_point(next, 1.0));
+    let there = move |rust: &Calls| Some((rust.swing_step)(swing, next, ONE).0);
+    vec![
+        of_pmc_mean,
+        row("Swing: point number 65,537", here, there, fits),
+    ]
 }
 
-/// 9 and 10: A choice where one of the two models, or either, has no value. The first is a handed-in
-/// state, and no state of the safe type.
-fn choices_of_no_model(context: &mut Context) {
-    let empty = ModelBuilder::new(Lossless).expect("an allowed bound");
-    let mut builder = empty;
-    (_, builder.pmc_mean) = builder.pmc_mean.fit_value(ONE).expect("a first value");
-    let number = library::ffi::model_builder_finish(&builder.row(), 1, &mut [0; 5]);
-    let ours = if number == 0 { Ok((0, 0)) } else { Err(number) };
-    let paper = builder.finish(1).map(|model| (model.id, model.last_value));
-    let theirs = |rust: &Calls| {
-        let chosen = (rust.choose)(builder, 1);
-        Ok((chosen.id, chosen.last_value))
-    };
-    let what = "9: a choice with a fresh Swing";
-    row(
-        context,
-        what,
-        [paper, ours],
-        theirs,
-        (Err(11), Ok((0, ONE))),
-    );
+/// 9: A model of no value is asked for its model and its cost.
+fn fresh_models() -> Vec<Row> {
+    let (pmc_mean, swing) = (pmc_mean_under(Lossless), swing_under(Lossless));
+    let our_pmc_mean = library::PMCMean::new(Bound::Lossless).expect(ALLOWED);
+    let our_swing = library::Swing::new(Bound::Lossless).expect(ALLOWED);
+    let cost = |ours: Result<f32, Refusal>| ours.map(f32::to_bits);
+    vec![
+        row(
+            "the model of a fresh PMC-Mean",
+            (pmc_mean.model(), our_pmc_mean.model_bits()),
+            move |rust| Some((rust.pmc_model)(pmc_mean)),
+            decimal,
+        ),
+        row(
+            "the cost of a fresh PMC-Mean, M 1",
+            (
+                pmc_mean.bytes_per_value(1),
+                cost(our_pmc_mean.bytes_per_value(1)),
+            ),
+            move |rust| Some((rust.pmc_cost)(pmc_mean, 1)),
+            decimal,
+        ),
+        row(
+            "the model of a fresh Swing",
+            (swing.model(), our_swing.model_bits()),
+            move |rust| Some((rust.swing_model)(swing)),
+            ends,
+        ),
+        row(
+            "the cost of a fresh Swing, M 1",
+            (swing.bytes_per_value(1), cost(our_swing.bytes_per_value(1))),
+            move |rust| Some((rust.swing_cost)(swing, 1)),
+            decimal,
+        ),
+    ]
+}
 
-    let paper = empty
-        .finish(1)
-        .map(|model| (model.length, model.last_value));
-    let ours = library::ModelBuilder::new(Bound::Lossless).expect("an allowed bound");
-    let ours = numbered(ours.finish(1)).map(|model| (model.length(), model.last_value_bits()));
-    let theirs = |rust: &Calls| {
-        let chosen = (rust.choose)(empty, 1);
-        Ok((chosen.length, chosen.last_value))
+/// 9: A model under a bound that is not allowed.
+fn under_no_bound() -> Vec<Row> {
+    let (pmc_mean, swing) = (pmc_mean_under(Absolute(0.0)), swing_under(Absolute(0.0)));
+    let our_pmc_mean = library::PMCMean::new(Bound::Absolute(0.0));
+    let our_swing = library::Swing::new(Bound::Absolute(0.0));
+    vec![
+        row(
+            "PMC-Mean, Absolute(0): 1",
+            (
+                pmc_mean.fit_value(ONE).map(|(fits, _)| fits),
+                our_pmc_mean.and_then(|mut ours| ours.fit_value(1.0)),
+            ),
+            move |rust| Some((rust.pmc_step)(pmc_mean, ONE).0),
+            fits,
+        ),
+        row(
+            "Swing, Absolute(0): 1 at 0",
+            (
+                swing.fit_data_point(0, ONE).map(|(fits, _)| fits),
+                our_swing.and_then(|mut ours| ours.fit_data_point(0, 1.0)),
+            ),
+            move |rust| Some((rust.swing_step)(swing, 0, ONE).0),
+            fits,
+        ),
+    ]
+}
+
+/// 6 and 9: Choices over lists.
+fn choices() -> Vec<Row> {
+    let max = f32::MAX.to_bits();
+    let many = (0..=MOST_VALUES as i64).map(|time| (time, ONE)).collect();
+    vec![
+        choice(
+            "choice of −MAX at 0, MAX at 1, Absolute(3e38), M 2",
+            Absolute(3e38),
+            vec![(0, max | 1 << 31), (1, max)],
+        ),
+        choice(
+            "choice of 1 at 0, Absolute(0), M 2",
+            Absolute(0.0),
+            vec![(0, ONE)],
+        ),
+        choice(
+            "choice of 1 at 0, 1 at 0, Lossless, M 2",
+            Lossless,
+            vec![(0, ONE); 2],
+        ),
+        choice("choice of 65,537 times 1, Lossless, M 2", Lossless, many),
+    ]
+}
+
+fn choice(input: &'static str, bound: ErrorBound, points: Points) -> Row {
+    let (times, values): (Vec<i64>, Vec<u32>) = points.iter().copied().unzip();
+    let paper = choose_model(&times, &values, bound, 2);
+    let paper = paper.map(|model| (model.id, model.length, model.last_value));
+    let ours = library::choose_model_bits(&times, &values, safe_bound(bound), 2);
+    let there = move |rust: &Calls| {
+        let step =
+            |builder, &(time, value): &(i64, u32)| (rust.builder_step)(builder, time, value).1;
+        let builder = points.iter().fold(builder_under(bound), step);
+        Some(of_chosen((rust.choose)(builder, 2)))
     };
-    let what = "10: a choice of nothing";
-    row(
-        context,
-        what,
-        [paper, ours],
-        theirs,
-        (Err(11), Ok((0, NAN_32))),
-    );
+    row(input, (paper, ours.map(of_selected)), there, model)
+}
+
+fn of_chosen(chosen: Chosen) -> Said {
+    (chosen.id, chosen.length, chosen.last_value)
+}
+
+fn of_selected(chosen: library::SelectedModel) -> Said {
+    let last = chosen.last_value_bits();
+    (chosen.model_type_id(), chosen.length(), last)
+}
+
+/// A model's kind, the number of its values and its last one.
+fn model((id, length, last): Said) -> String {
+    let kind = if id == PMC_MEAN_ID {
+        "PMC-Mean"
+    } else {
+        "Swing"
+    };
+    format!("{kind} of {length}, last {last:08X}")
+}
+
+/// 9 and 10: A choice where one of the two models, or either, has no value. The first is a handed-in state,
+/// and no state of the safe type.
+fn choices_of_no_model() -> Vec<Row> {
+    let empty = builder_under(Lossless);
+    let mut builder = empty;
+    (_, builder.pmc_mean) = builder.pmc_mean.fit_value(ONE).expect(ALLOWED);
+    let of_paper = |builder: ModelBuilder| -> Answer<Said> {
+        let model = builder.finish(1)?;
+        Ok((model.id, model.length, model.last_value))
+    };
+    let mut out = [0; 5];
+    let number = library::ffi::model_builder_finish(&builder.row(), 1, &mut out);
+    let ours = match Refusal::from_number(number) {
+        Some(refusal) => Err(refusal),
+        None => Ok((out[0] as u32, out[1] as usize, out[3] as u32)),
+    };
+    let there = move |rust: &Calls| Some(of_chosen((rust.choose)(builder, 1)));
+    let input = "choice of PMC-Mean of 1 and a fresh Swing (a handed-in state)";
+    let first = row(input, (of_paper(builder), ours), there, model);
+    let ours = library::ModelBuilder::new(Bound::Lossless).expect(ALLOWED);
+    let here = (of_paper(empty), ours.finish(1).map(of_selected));
+    let there = move |rust: &Calls| Some(of_chosen((rust.choose)(empty, 1)));
+    vec![first, row("choice of nothing", here, there, model)]
 }

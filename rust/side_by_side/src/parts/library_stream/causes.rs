@@ -15,8 +15,8 @@ use oracle::paper::models::ErrorBound;
 
 const MODES: [u32; 4] = [0, 1, 2, u32::MAX];
 
-/// A row's lengths: none, one word less, just enough, and more.
-const ROWS: [usize; 4] = [0, STATE_WORDS - 1, STATE_WORDS, STATE_WORDS + 2];
+/// A row's lengths: none, a part of its bound, its bound alone, one word less, just enough, and more.
+const ROWS: [usize; 6] = [0, 1, 2, STATE_WORDS - 1, STATE_WORDS, STATE_WORDS + 2];
 
 pub fn causes(context: &mut Context) {
     of_new(context);

@@ -5,7 +5,7 @@ use super::super::{both, metadata};
 use crate::context::Context;
 use crate::inputs::ONE;
 use crate::lent::{STALE_VALUE, STALE_WORD};
-use crate::order::{BOUNDS, FEW_BOUNDS, in_order, rooms};
+use crate::order::{BOUNDS, FEW_BOUNDS, in_order, lengths, of_row, rooms};
 use modelardb_rattle::ffi::Words;
 use oracle::paper::refusal::{LIMIT, NO_MODEL, OUTPUT, STATE, TIMES};
 use oracle::paper::{MOST_VALUES, TIME_LIMIT};
@@ -102,7 +102,7 @@ fn of_time(time: i64) -> u32 {
     }
 }
 
-/// A step of each model; a row too short is 4 before anything.
+/// A step of each model.
 pub fn steps(context: &mut Context) {
     for (bound, cause) in BOUNDS {
         for state in STATES {
@@ -117,11 +117,11 @@ pub fn steps(context: &mut Context) {
 }
 
 fn step(context: &mut Context, kind: &Kind, row: Vec<u64>, time: i64, causes: &[u32]) {
-    for (length, short) in rooms(kind.words) {
+    for length in lengths(kind.words) {
         let row = resized(&row, length);
         let (number, _) = both::step(context, kind, &row, (time, ONE));
-        let causes = if short > 0 { &[short] } else { causes };
-        in_order(context, causes, number, || {
+        let causes = of_row(length, kind.words, causes);
+        in_order(context, &causes, number, || {
             format!("{} step at {time} of {row:X?}", kind.name)
         });
     }
@@ -153,13 +153,13 @@ fn ask(context: &mut Context, kind: &Kind, row: Vec<u64>, causes: &[u32]) {
             // Only the cost looks at M.
             let over = if at == 0 { over } else { 0 };
             for (room, short_out) in rooms(ask.words) {
-                for (length, short) in rooms(kind.words) {
+                for length in lengths(kind.words) {
                     let row = resized(&row, length);
                     let out = vec![STALE_VALUE; room];
                     let (number, _) = both::ask(context, ask, &row, m, &out);
-                    let all = [causes, &[over, short_out]].concat();
-                    let causes = if short > 0 { &[OUTPUT] } else { &all[..] };
-                    in_order(context, causes, number, || {
+                    let causes = [causes, &[over, short_out]].concat();
+                    let causes = of_row(length, kind.words, &causes);
+                    in_order(context, &causes, number, || {
                         format!("{} of {row:X?}, M {m}, room {room}", ask.name)
                     });
                 }
@@ -235,14 +235,17 @@ fn builder(
             in_order(context, &causes, number, input);
         }
     }
-    for length in [0, 19] {
+    // A row too short stands for no builder; the bounds that are in it are judged, whatever failed.
+    for length in [0, 1, 2, 6, 7, 8, 9, 19] {
+        let of_other = if length < 9 { 0 } else { of_other };
+        let causes = of_row(length, 20, &[of_bound.max(of_other)]);
         let row = &row[..length];
         let (number, _) = both::step(context, &BUILDER, row, (7, ONE));
-        in_order(context, &[OUTPUT], number, || {
+        in_order(context, &causes, number, || {
             format!("builder of {length} words")
         });
         let (number, _) = both::finish(context, row, 0, &[STALE_WORD; 5]);
-        in_order(context, &[OUTPUT], number, || {
+        in_order(context, &causes, number, || {
             format!("choice of {length} words")
         });
     }
