@@ -2,8 +2,9 @@
 //! what a thread needs besides.
 
 use modelardb_rattle::{
-    ErrorBound, MacaqueV, ModelBuilder, Opening, Refusal, Segment, choose_model, macaque_v,
-    pmc_mean,
+    ErrorBound, Line, MacaqueV, ModelBuilder, Opening, PMCMean, Refusal, Segment, Swing,
+    choose_model, is_value_within_error_bound, macaque_v, maximum_allowed_deviation, parameters,
+    pmc_mean, swing,
 };
 use std::thread;
 
@@ -84,4 +85,40 @@ fn fitting_choosing_storing_and_drawing_take_less_than_16_kib() {
         Ok::<_, Refusal>(out[times.len() - 1])
     });
     assert_eq!(last, Ok((MacaqueV::MOST_RESIDUALS - 1) as f32));
+}
+
+#[test]
+fn the_calls_on_one_model_take_less_than_16_kib() {
+    let last = in_a_thread(16 << 10, move || {
+        let half = ErrorBound::Absolute(0.5);
+        is_value_within_error_bound(half, 20.0, 20.5)?;
+        maximum_allowed_deviation(half, 20.0)?;
+        let mut pmc_mean = PMCMean::new(half)?;
+        let mut swing = Swing::new(half)?;
+        for time in 0..400 {
+            pmc_mean.fit_value(20.0)?;
+            swing.fit_data_point(time, 20.0 + time as f32)?;
+        }
+        (pmc_mean.model()?, pmc_mean.bytes_per_value(12)?);
+        (swing.model()?, swing.bytes_per_value(12)?);
+        pmc_mean::sum(MacaqueV::MOST_VALUES, 20.5)?;
+        let line = Line {
+            start_time: 0,
+            end_time: 65_535,
+            first_value: 20.0,
+            last_value: 22.0,
+        };
+        let times: Vec<i64> = (0..65_536).collect();
+        swing::sum_by_average(line, times.len())?;
+        swing::sum_over(line, &times)?;
+        let mut out = vec![0.0; times.len()];
+        swing::grid(line, &times, &mut out)?;
+        let mut bytes = [0; 8];
+        let used = parameters::encode_values_for_pmc_mean(5.0, 4.0, 6.0, &mut bytes)?;
+        parameters::decode_values_for_pmc_mean(4.0, 6.0, &bytes[..used])?;
+        let used = parameters::encode_values_for_swing(2.0, 1.0, 1.0, 3.0, &mut bytes)?;
+        parameters::decode_values_for_swing(1.0, 3.0, &bytes[..used])?;
+        Ok::<_, Refusal>(out[times.len() - 1])
+    });
+    assert_eq!(last, Ok(22.0));
 }
