@@ -8,7 +8,8 @@ use native.Mathlib.Omega.{arith}
 use borrow.Author.Tests.{le-leb, lt-leb, ltb-true, ltb-false}
 use lib.Dec.{leb, ltb}
 use lib.ListN.{length, drop, set}
-use Rattle.models.specs.Answers.{Fault, Said, answered, refused, SaidOn, stateless, Cause, _when_, judge, judgedOn}
+use Rattle.models.specs.Answers.{Said, answered, refused, SaidOn, stateless, Cause, _when_, judge, judgedOn}
+use Rattle.models.specs.declared.Fault.{Fault}
 use Rattle.models.specs.declared.Verdict.{Verdict}
 use Rattle.models.specs.declared.Verdict.the-variants as OfVerdict
 use Rattle.models.proofs.Tests.{or-right}

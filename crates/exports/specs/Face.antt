@@ -6,7 +6,8 @@ use Prim.Native.Nat.{ℕ}
 use lib.Dec.{eqb, leb}
 use lib.Ieee.{Float, nan, binary32, binary64, ofBits, toBits}
 use lib.ListN.{length, drop}
-use Rattle.models.specs.Answers.{Fault, fault, Said, answered, refused, SaidOn, stateless}
+use Rattle.models.specs.Answers.{fault, Said, answered, refused, SaidOn, stateless}
+use Rattle.models.specs.declared.Fault.{Fault}
 use Rattle.models.specs.declared.ErrorBound.{ErrorBound}
 use Rattle.models.specs.declared.ErrorBound.the-variants.{Lossless, Absolute, Relative}
 

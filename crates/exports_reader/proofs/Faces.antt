@@ -7,7 +7,8 @@ use native.Mathlib.Omega.{arith}
 use borrow.Author.Tests.{le-leb, lt-leb, leb-true, leb-false, lt-ltb, le-ltb}
 use lib.Dec.{eqb, leb, ltb}
 use lib.ListN.{length, drop, getD}
-use Rattle.models.specs.Answers.{Fault, fault, answered, refused, SaidOn, answeredOn, refusedOn, stateless, judge}
+use Rattle.models.specs.Answers.{fault, answered, refused, SaidOn, answeredOn, refusedOn, stateless, judge}
+use Rattle.models.specs.declared.Fault.{Fault}
 use Rattle.models.proofs.Judged.{not-answered-on}
 use Rattle.models.proofs.Tests.{and-left, and-right, and-parts, and-false}
 use Rattle.stream.specs.Format.{keepsRule}

@@ -10,7 +10,8 @@ use native.Mathlib.Omega.{arith}
 use borrow.Author.Tests.{le-leb, le-ltb, ltb-true}
 use lib.ListN.{length, take, drop, getD}
 use Rattle.bits.specs.Bits.{Below, wholeBytes}
-use Rattle.models.specs.Answers.{Said, Done, answered, refused, SaidOn, answeredOn, refusedOn, refusing, stateless, Fault, fault, judge}
+use Rattle.models.specs.Answers.{Said, Done, answered, refused, SaidOn, answeredOn, refusedOn, refusing, stateless, fault, judge}
+use Rattle.models.specs.declared.Fault.{Fault}
 use Rattle.models.specs.Limits.{mostValues}
 use Rattle.models.specs.declared.ErrorBound.{ErrorBound}
 use Rattle.models.specs.declared.ErrorBound.the-variants.{Lossless}

@@ -2,7 +2,8 @@
 use mathlib.Core.Bool.{true, false}
 use mathlib.Core.List.{List, [], _∷_}
 use Prim.Native.Nat.{ℕ, _<_}
-use Rattle.models.specs.Answers.{Fault, fault, Cause, _when_, judge}
+use Rattle.models.specs.Answers.{fault, Cause, _when_, judge}
+use Rattle.models.specs.declared.Fault.{Fault}
 
 -- every number of a list of causes is above 0
 abbrev pub AboveZero : List Cause → Type 0

@@ -11,7 +11,8 @@ use lib.ListN.{length, take, drop, getD}
 use lib.Seq.{length-take-le}
 use Rattle.bits.specs.Bits.{Below, wholeBytes}
 use Rattle.bits.proofs.Below.{below-nil, below-take}
-use Rattle.models.specs.Answers.{Said, answered, SaidOn, answeredOn, refusedOn, refusing, stateless, Cause, _when_, judge, Fault, faultNumber, keeping, NoneHolds}
+use Rattle.models.specs.Answers.{Said, answered, SaidOn, answeredOn, refusedOn, refusing, stateless, Cause, _when_, judge, faultNumber, keeping, NoneHolds}
+use Rattle.models.specs.declared.Fault.{Fault}
 use Rattle.models.specs.Limits.{mostValues}
 use Rattle.models.specs.Bound.{boundAllowed, BoundHeld}
 use Rattle.models.specs.declared.ErrorBound.{ErrorBound}

@@ -10,7 +10,8 @@ use borrow.Author.Tests.{ltb-false, lt-leb}
 use lib.ListN.{length, drop}
 use lib.Seq.{drop-drop, length-sets}
 use Rattle.bits.specs.Bits.{bitsOf}
-use Rattle.models.specs.Answers.{Said, answered, refused, Cause, _when_, judge, Fault, fault, NoneHolds}
+use Rattle.models.specs.Answers.{Said, answered, refused, Cause, _when_, judge, fault, NoneHolds}
+use Rattle.models.specs.declared.Fault.{Fault}
 use Rattle.models.specs.Limits.{mostValues}
 use Rattle.stream.specs.Format.{Window, State, isRaw, advance, windowIn}
 use Rattle.stream.specs.Calls.{faultAt}

@@ -9,7 +9,7 @@ use borrow.Author.Tests.{lt-ltb, le-ltb}
 use lib.Dec.{ltb, lit≤}
 use lib.ListN.{length, take, drop, getD, set, length-append}
 use lib.Seq.{sets, sets-eq, set-comm, drop-cons, take-at}
-use Rattle.models.specs.Answers.{Fault}
+use Rattle.models.specs.declared.Fault.{Fault}
 use Rattle.listing.specs.Text.{digitText, digitsOf, placesUpTo, places, decimal, hexadecimal, kindWord, leadText, totalWord, refusedWord}
 use Rattle.listing.specs.Text.{field, lastField, rowText, totalText, refusedText, laid}
 use Rattle.listing.specs.inner.Lines.{Put}

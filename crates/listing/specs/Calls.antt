@@ -7,7 +7,7 @@ use lib.Dec.{leb, ltb}
 use lib.ListN.{length}
 use Rattle.models.specs.Answers.{Said, answered, refused, Cause, _when_, judge, Injective, told-apart, keeping}
 use Rattle.models.specs.Limits.{mostValues}
-use Rattle.models.specs.Refusals.{numbered-number, unsaid, faultOf}
+use Rattle.models.specs.Refusals.{refusal-told, unsaid, faultOf}
 use Rattle.stream.specs.Format.{macaque, windowIn, unset, isRaw}
 use Rattle.stream.specs.Calls.{faultAt}
 use Rattle.stream.specs.Read as stream
@@ -38,7 +38,7 @@ saysJudged (OfJudged.Refused r) = refused (faultOf r)
 
 judged-told : (r : Judged) → unsaid OfJudged.Rows OfJudged.Refused (saysJudged r) ≡ r
 judged-told (OfJudged.Rows n) = refl
-judged-told (OfJudged.Refused r) = ap OfJudged.Refused (numbered-number r)
+judged-told (OfJudged.Refused r) = ap OfJudged.Refused (refusal-told r)
 
 pub saysJudged-injective : Injective saysJudged
 saysJudged-injective = told-apart saysJudged (unsaid OfJudged.Rows OfJudged.Refused) judged-told
@@ -101,7 +101,7 @@ rowBack l = OfRow.Row (l .length) (l .next)
 
 row-told : (r : RowAnswer) → unsaid rowBack OfRow.Refused (saysRow r) ≡ r
 row-told (OfRow.Row length next) = refl
-row-told (OfRow.Refused r) = ap OfRow.Refused (numbered-number r)
+row-told (OfRow.Refused r) = ap OfRow.Refused (refusal-told r)
 
 pub saysRow-injective : Injective saysRow
 saysRow-injective = told-apart saysRow (unsaid rowBack OfRow.Refused) row-told

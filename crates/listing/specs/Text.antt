@@ -4,7 +4,7 @@ use mathlib.Core.List.{List, [], _∷_, _++_}
 use Prim.Native.Nat.{ℕ, zero, suc, _+_, _/_, _%_}
 use lib.Dec.{ltb}
 use lib.Seq.{sets}
-use Rattle.models.specs.Answers.{Fault}
+use Rattle.models.specs.declared.Fault.{Fault}
 use Rattle.listing.specs.declared.Kind.{Kind}
 use Rattle.listing.specs.declared.Kind.the-variants.{Raw, Same, New, Keep}
 use Rattle.listing.specs.declared.Fields.{Fields}

@@ -7,7 +7,8 @@ use native.Mathlib.Omega.{arith}
 use lib.ListN.{length, take, drop, length-append, take-append-drop}
 use lib.Seq.{take-take, take-append-le, drop-at, length-take-le}
 use Rattle.bits.specs.Bits.{bitsOf}
-use Rattle.models.specs.Answers.{Fault, Said, Done, answered, refused}
+use Rattle.models.specs.Answers.{Said, Done, answered, refused}
+use Rattle.models.specs.declared.Fault.{Fault}
 use Rattle.models.specs.Refusals.{faultOf}
 use Rattle.models.specs.declared.Refusal.{Refusal}
 use Rattle.models.proofs.Judged.{not-answered, not-refused}

@@ -4,7 +4,7 @@ use mathlib.Core.Path.{_≡_, refl}
 use mathlib.Core.List.{List}
 use Prim.Native.Nat.{ℕ}
 use Rattle.models.specs.Answers.{Said, SaidOn, answeredOn, refusedOn, Cause, Injective, told-apart}
-use Rattle.models.specs.Refusals.{numbered, numbered-number, faultOf}
+use Rattle.models.specs.Refusals.{refusalOf, refusal-told, faultOf}
 use Rattle.models.specs.declared.ErrorBound.{ErrorBound}
 use Rattle.stream.specs.Calls as stream
 pub use Rattle.stream.specs.Calls.{lentBytes, tooMany}
@@ -37,11 +37,11 @@ saysWrite (OfWrite.Refused r s) = refusedOn (faultOf r) s
 
 abbrev write-back : SaidOn MacaqueV MacaqueV → WriteAnswer
 write-back (answeredOn s) = OfWrite.Written s
-write-back (refusedOn n s) = OfWrite.Refused (numbered (n .number)) s
+write-back (refusedOn n s) = OfWrite.Refused (refusalOf n) s
 
 write-told : (r : WriteAnswer) → write-back (saysWrite r) ≡ r
 write-told (OfWrite.Written s) = refl
-write-told (OfWrite.Refused r s) = rw (numbered-number r)
+write-told (OfWrite.Refused r s) = rw (refusal-told r)
 
 pub saysWrite-injective : Injective saysWrite
 saysWrite-injective = told-apart saysWrite write-back write-told

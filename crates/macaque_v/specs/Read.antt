@@ -8,7 +8,7 @@ use lib.Ieee.{binary32, toBits}
 use Rattle.models.specs.Answers.{Said, Done, answered, refused, Cause, judge, Injective, told-apart}
 use Rattle.models.specs.Floats.{zeroF}
 use Rattle.models.specs.Causes.{boundCauses, countCauses}
-use Rattle.models.specs.Refusals.{faultOf, numbered, numbered-number}
+use Rattle.models.specs.Refusals.{faultOf, refusalOf, refusal-told}
 use Rattle.models.specs.declared.ErrorBound.{ErrorBound}
 use Rattle.stream.specs.Format.{opening, openedOn, gatherFrom}
 use Rattle.stream.specs.Calls as theory
@@ -68,11 +68,11 @@ saysOpen (OfOpen.Refused r) = refused (faultOf r)
 
 abbrev open-back : Said MacaqueV → OpenAnswer
 open-back (answered m) = OfOpen.Opened m
-open-back (refused n) = OfOpen.Refused (numbered (n .number))
+open-back (refused n) = OfOpen.Refused (refusalOf n)
 
 open-told : (r : OpenAnswer) → open-back (saysOpen r) ≡ r
 open-told (OfOpen.Opened m) = refl
-open-told (OfOpen.Refused r) = ap OfOpen.Refused (numbered-number r)
+open-told (OfOpen.Refused r) = ap OfOpen.Refused (refusal-told r)
 
 pub saysOpen-injective : Injective saysOpen
 saysOpen-injective = told-apart saysOpen open-back open-told

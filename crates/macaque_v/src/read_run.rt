@@ -6,7 +6,8 @@ ghost use lib.ListN.{length, take, drop, replicate};
 ghost use Rattle.models.specs.Limits.{mostValues};
 ghost use Rattle.bits.specs.Bits.{bitsOf};
 ghost use Rattle.models.specs.Calls.{saysVerdict};
-ghost use Rattle.models.specs.Refusals.{number};
+ghost use Rattle.models.specs.Answers.{faultIn};
+ghost use Rattle.models.specs.Refusals.{faultOf};
 ghost use Rattle.stream.specs.Format.{gathered, gatherFrom};
 ghost use Rattle.stream.specs.Read.{leftover};
 ghost use Rattle.coding.specs.inner.Ahead.{RepeatsAt, stopNumber};
@@ -47,7 +48,7 @@ pub fn next(bytes: &[u8], first: bool, at: Cursor) -> Run
     let set = at.lead != MacaqueV::OPENING_LEADING;
     let ahead = decode::look(bytes, at.place);
     match decode::decode(raw, ahead.word, ahead.left, set, at.lead, at.trail, at.last) {
-        Decoded::Stopped(s) => Run::Refused(refusal_of(s)),
+        Decoded::Stopped(s) => Run::Refused(refusal_of(s, at)),
         Decoded::Got {
             value,
             lead,
@@ -63,14 +64,17 @@ pub fn next(bytes: &[u8], first: bool, at: Cursor) -> Run
     }
 }
 
-// The refusal that a stop is.
-fn refusal_of(stop: Stop) -> Refusal
-    ensures { λ r. ⌜ number r ≡ stopNumber stop ⌝ }
+// The refusal that a stop is: of the value behind those that were read, whose code begins where reading stands.
+fn refusal_of(stop: Stop, at: Cursor) -> Refusal
+    requires { ⌜ at .count ≤ mostValues ⌝ }
+    ensures { λ r. ⌜ faultOf r ≡ faultIn (stopNumber stop) (at .count) (at .place) ⌝ }
 {
+    let value = at.count as u32;
+    let place = at.place;
     match stop {
-        Stop::EndsEarly => Refusal::EndsEarly,
-        Stop::NoWindow => Refusal::NoWindow,
-        Stop::WindowNotAllowed => Refusal::WindowNotAllowed,
+        Stop::EndsEarly => Refusal::EndsEarly { value, place },
+        Stop::NoWindow => Refusal::NoWindow { value, place },
+        Stop::WindowNotAllowed => Refusal::WindowNotAllowed { value, place },
     }
 }
 
@@ -321,7 +325,10 @@ pub fn judge_end(bytes: &[u8], at: Cursor) -> Verdict
 {
     match left_behind(bytes, at.place) {
         Behind::Nothing => Verdict::Passed,
-        Behind::From(_) => Verdict::Refused(Refusal::Leftover),
+        Behind::From(place) => Verdict::Refused(Refusal::Leftover {
+            value: at.count as u32,
+            place,
+        }),
     }
 }
 

@@ -3,13 +3,19 @@ use mathlib.Core.Path.{_≡_, sym, ap, _∙_}
 use mathlib.Core.Bool.{Bool, true, false, cond}
 use mathlib.Core.List.{List, [], _∷_}
 use Prim.Native.Nat.{ℕ}
+pub use Rattle.models.specs.declared.Fault.{Fault}
 
--- what a refusal says: the number of its cause
-pub record Fault : Type 0 where
-  pub number : ℕ
+-- what a refusal says: the number of its cause, and of a stream's own, 5 to 8, the number of the value that was being read, counted from 0, and the bit
+-- place. "Other numbers .. show 0 and 0."
+abbrev pub faultIn : ℕ → ℕ → ℕ → Fault
+faultIn n value place = record { number = n; value = value; place = place }
 
 abbrev pub fault : ℕ → Fault
-fault n = record { number = n }
+fault n = faultIn n 0 0
+
+-- what is said where nothing is refused
+abbrev pub noFault : Fault
+noFault = fault 0
 
 abbrev pub faultNumber : Fault → ℕ
 faultNumber f = f .number

@@ -4,7 +4,7 @@ use mathlib.Core.Bool.{Bool}
 use Prim.Native.Nat.{ℕ}
 use lib.Ieee.{Float, binary32, ofBits}
 use Rattle.models.specs.Answers.{Said, Done, answered, refused, judged, Injective, told-apart}
-use Rattle.models.specs.Refusals.{numbered-number, unsaid, faultOf}
+use Rattle.models.specs.Refusals.{refusal-told, unsaid, faultOf}
 use Rattle.models.specs.Bound.{within, deviation}
 use Rattle.models.specs.Causes.{boundCauses}
 use Rattle.models.specs.declared.ErrorBound.{ErrorBound}
@@ -26,7 +26,7 @@ saysVerdict (OfVerdict.Refused r) = refused (faultOf r)
 
 verdict-told : (r : Verdict) → unsaid (λ (u : Done). OfVerdict.Passed) OfVerdict.Refused (saysVerdict r) ≡ r
 verdict-told OfVerdict.Passed = refl
-verdict-told (OfVerdict.Refused r) = ap OfVerdict.Refused (numbered-number r)
+verdict-told (OfVerdict.Refused r) = ap OfVerdict.Refused (refusal-told r)
 
 pub saysVerdict-injective : Injective saysVerdict
 saysVerdict-injective = told-apart saysVerdict (unsaid (λ (u : Done). OfVerdict.Passed) OfVerdict.Refused) verdict-told
@@ -38,7 +38,7 @@ saysValue (OfValue.Refused r) = refused (faultOf r)
 
 value-told : (r : ValueAnswer) → unsaid OfValue.Answered OfValue.Refused (saysValue r) ≡ r
 value-told (OfValue.Answered bits) = refl
-value-told (OfValue.Refused r) = ap OfValue.Refused (numbered-number r)
+value-told (OfValue.Refused r) = ap OfValue.Refused (refusal-told r)
 
 pub saysValue-injective : Injective saysValue
 saysValue-injective = told-apart saysValue (unsaid OfValue.Answered OfValue.Refused) value-told
@@ -50,7 +50,7 @@ saysGrid (OfGrid.Refused r) = refused (faultOf r)
 
 grid-told : (r : GridAnswer) → unsaid (λ (u : Done). OfGrid.Drawn) OfGrid.Refused (saysGrid r) ≡ r
 grid-told OfGrid.Drawn = refl
-grid-told (OfGrid.Refused r) = ap OfGrid.Refused (numbered-number r)
+grid-told (OfGrid.Refused r) = ap OfGrid.Refused (refusal-told r)
 
 pub saysGrid-injective : Injective saysGrid
 saysGrid-injective = told-apart saysGrid (unsaid (λ (u : Done). OfGrid.Drawn) OfGrid.Refused) grid-told
@@ -66,7 +66,7 @@ withinAnswer b real approximate =
 
 within-told : (r : WithinAnswer) → unsaid OfWithin.Answered OfWithin.Refused (saysWithin r) ≡ r
 within-told (OfWithin.Answered is) = refl
-within-told (OfWithin.Refused r) = ap OfWithin.Refused (numbered-number r)
+within-told (OfWithin.Refused r) = ap OfWithin.Refused (refusal-told r)
 
 pub saysWithin-injective : Injective saysWithin
 saysWithin-injective = told-apart saysWithin (unsaid OfWithin.Answered OfWithin.Refused) within-told
@@ -81,7 +81,7 @@ deviationAnswer b value = judged (boundCauses b) (deviation b value)
 
 deviation-told : (r : DeviationAnswer) → unsaid OfDeviation.Answered OfDeviation.Refused (saysDeviation r) ≡ r
 deviation-told (OfDeviation.Answered d) = refl
-deviation-told (OfDeviation.Refused r) = ap OfDeviation.Refused (numbered-number r)
+deviation-told (OfDeviation.Refused r) = ap OfDeviation.Refused (refusal-told r)
 
 pub saysDeviation-injective : Injective saysDeviation
 saysDeviation-injective = told-apart saysDeviation (unsaid OfDeviation.Answered OfDeviation.Refused) deviation-told

@@ -1,10 +1,11 @@
--- The number that 01, "Refusal numbers", gives to each cause, and the result that is told from what was said of it.
+-- The number that 01, "Refusal numbers", gives to each cause, where in a stream it was met, and the result that is told from what was said of it.
 use mathlib.Core.Path.{_≡_, refl}
 use mathlib.Core.Bool.{cond}
 use mathlib.Core.List.{List, [], _∷_}
 use Prim.Native.Nat.{ℕ, _-_}
 use lib.ListN.{getD}
-use Rattle.models.specs.Answers.{Fault, fault, Said, answered, refused, SaidOn, answeredOn, refusedOn, Stepped, Injective, told-apart}
+use Rattle.models.specs.Answers.{faultIn, Said, answered, refused, SaidOn, answeredOn, refusedOn, Stepped, Injective, told-apart}
+use Rattle.models.specs.declared.Fault.{Fault}
 use Rattle.models.specs.declared.Refusal.{Refusal}
 use Rattle.models.specs.declared.Refusal.the-variants.{BoundNotAllowed, StateNotAllowed, OverLimit, OutputTooShort, EndsEarly, NoWindow, WindowNotAllowed, Leftover, FormNotAllowed, TimesNotAllowed, NoModel, CountsDisagree}
 
@@ -13,67 +14,97 @@ number BoundNotAllowed = 1
 number StateNotAllowed = 2
 number OverLimit = 3
 number OutputTooShort = 4
-number EndsEarly = 5
-number NoWindow = 6
-number WindowNotAllowed = 7
-number Leftover = 8
+number (EndsEarly value place) = 5
+number (NoWindow value place) = 6
+number (WindowNotAllowed value place) = 7
+number (Leftover value place) = 8
 number FormNotAllowed = 9
 number TimesNotAllowed = 10
 number NoModel = 11
 number CountsDisagree = 12
 
+-- the number of the value that was being read, and the bit place: a stream's own refusals have them, and the others show 0 and 0
+abbrev pub valueAt : Refusal → ℕ
+valueAt BoundNotAllowed = 0
+valueAt StateNotAllowed = 0
+valueAt OverLimit = 0
+valueAt OutputTooShort = 0
+valueAt (EndsEarly value place) = value
+valueAt (NoWindow value place) = value
+valueAt (WindowNotAllowed value place) = value
+valueAt (Leftover value place) = value
+valueAt FormNotAllowed = 0
+valueAt TimesNotAllowed = 0
+valueAt NoModel = 0
+valueAt CountsDisagree = 0
+
+abbrev pub placeAt : Refusal → ℕ
+placeAt BoundNotAllowed = 0
+placeAt StateNotAllowed = 0
+placeAt OverLimit = 0
+placeAt OutputTooShort = 0
+placeAt (EndsEarly value place) = place
+placeAt (NoWindow value place) = place
+placeAt (WindowNotAllowed value place) = place
+placeAt (Leftover value place) = place
+placeAt FormNotAllowed = 0
+placeAt TimesNotAllowed = 0
+placeAt NoModel = 0
+placeAt CountsDisagree = 0
+
 -- the fault that a refusal's answer says
 abbrev pub faultOf : Refusal → Fault
-faultOf r = fault (number r)
+faultOf r = faultIn (number r) (valueAt r) (placeAt r)
 
--- the cause that has a number
-abbrev causes : List Refusal
-causes =
+-- the causes in the order of their numbers, those of a stream at a value and a place
+abbrev causes : ℕ → ℕ → List Refusal
+causes value place =
     BoundNotAllowed
     ∷ StateNotAllowed
     ∷ OverLimit
     ∷ OutputTooShort
-    ∷ EndsEarly
-    ∷ NoWindow
-    ∷ WindowNotAllowed
-    ∷ Leftover
+    ∷ EndsEarly value place
+    ∷ NoWindow value place
+    ∷ WindowNotAllowed value place
+    ∷ Leftover value place
     ∷ FormNotAllowed
     ∷ TimesNotAllowed
     ∷ NoModel
     ∷ CountsDisagree
     ∷ []
 
-abbrev pub numbered : ℕ → Refusal
-numbered n = getD causes (n - 1) CountsDisagree
+-- the refusal that says a fault
+abbrev pub refusalOf : Fault → Refusal
+refusalOf f = getD (causes (f .value) (f .place)) (f .number - 1) CountsDisagree
 
-pub numbered-number : (r : Refusal) → numbered (number r) ≡ r
-numbered-number BoundNotAllowed = refl
-numbered-number StateNotAllowed = refl
-numbered-number OverLimit = refl
-numbered-number OutputTooShort = refl
-numbered-number EndsEarly = refl
-numbered-number NoWindow = refl
-numbered-number WindowNotAllowed = refl
-numbered-number Leftover = refl
-numbered-number FormNotAllowed = refl
-numbered-number TimesNotAllowed = refl
-numbered-number NoModel = refl
-numbered-number CountsDisagree = refl
+pub refusal-told : (r : Refusal) → refusalOf (faultOf r) ≡ r
+refusal-told BoundNotAllowed = refl
+refusal-told StateNotAllowed = refl
+refusal-told OverLimit = refl
+refusal-told OutputTooShort = refl
+refusal-told (EndsEarly value place) = refl
+refusal-told (NoWindow value place) = refl
+refusal-told (WindowNotAllowed value place) = refl
+refusal-told (Leftover value place) = refl
+refusal-told FormNotAllowed = refl
+refusal-told TimesNotAllowed = refl
+refusal-told NoModel = refl
+refusal-told CountsDisagree = refl
 
--- no two causes have the same number
-pub number-injective : Injective number
-number-injective = told-apart number numbered numbered-number
+-- no two refusals say the same number, value and place
+pub faultOf-injective : Injective faultOf
+faultOf-injective = told-apart faultOf refusalOf refusal-told
 
--- ---- back from what is said: `answer` and `refuse` make the result of the values, or of the cause that has the number
+-- ---- back from what is said: `answer` and `refuse` make the result of the values, or of the refusal that says the fault
 abbrev pub unsaid : {A R : Type 0} → (A → R) → (Refusal → R) → Said A → R
 unsaid answer refuse (answered a) = answer a
-unsaid answer refuse (refused f) = refuse (numbered (f .number))
+unsaid answer refuse (refused f) = refuse (refusalOf f)
 
 abbrev pub unsaidOn : {S A R : Type 0} → (A → R) → (Refusal → S → R) → SaidOn S A → R
 unsaidOn answer refuse (answeredOn a) = answer a
-unsaidOn answer refuse (refusedOn f s) = refuse (numbered (f .number)) s
+unsaidOn answer refuse (refusedOn f s) = refuse (refusalOf f) s
 
 -- back from what is said of a step
 abbrev pub unsaidStep : {S R : Type 0} → (S → R) → (S → R) → (Refusal → S → R) → SaidOn S (Stepped S) → R
 unsaidStep fits fails refuse (answeredOn t) = cond (t .fits) (fits (t .state)) (fails (t .state))
-unsaidStep fits fails refuse (refusedOn f s) = refuse (numbered (f .number)) s
+unsaidStep fits fails refuse (refusedOn f s) = refuse (refusalOf f) s

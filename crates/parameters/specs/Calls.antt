@@ -5,7 +5,7 @@ use Prim.Native.Nat.{ℕ}
 use lib.Dec.{ltb}
 use lib.ListN.{length, drop}
 use Rattle.models.specs.Answers.{Said, answered, refused, Cause, _when_, judged, judgedMemory, Injective, told-apart}
-use Rattle.models.specs.Refusals.{numbered-number, unsaid, faultOf}
+use Rattle.models.specs.Refusals.{refusal-told, unsaid, faultOf}
 use Rattle.parameters.specs.Forms.{Ends}
 use Rattle.parameters.specs.declared.EndsAnswer.{EndsAnswer}
 use Rattle.parameters.specs.declared.EndsAnswer.the-variants as OfEnds
@@ -29,7 +29,7 @@ saysLength (OfLength.Refused r) = refused (faultOf r)
 
 length-told : (r : LengthAnswer) → unsaid OfLength.Written OfLength.Refused (saysLength r) ≡ r
 length-told (OfLength.Written n) = refl
-length-told (OfLength.Refused r) = ap OfLength.Refused (numbered-number r)
+length-told (OfLength.Refused r) = ap OfLength.Refused (refusal-told r)
 
 pub saysLength-injective : Injective saysLength
 saysLength-injective = told-apart saysLength (unsaid OfLength.Written OfLength.Refused) length-told
@@ -45,7 +45,7 @@ ends-back = unsaid (λ (e : Ends). OfEnds.Read (e .0) (e .1)) OfEnds.Refused
 
 ends-told : (r : EndsAnswer) → ends-back (saysEnds r) ≡ r
 ends-told (OfEnds.Read first last) = refl
-ends-told (OfEnds.Refused r) = ap OfEnds.Refused (numbered-number r)
+ends-told (OfEnds.Refused r) = ap OfEnds.Refused (refusal-told r)
 
 pub saysEnds-injective : Injective saysEnds
 saysEnds-injective = told-apart saysEnds ends-back ends-told

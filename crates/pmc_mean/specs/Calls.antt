@@ -4,7 +4,7 @@ use mathlib.Core.List.{List, []}
 use Prim.Native.Nat.{ℕ}
 use lib.Ieee.{Float, binary32, ofBits, toBits}
 use Rattle.models.specs.Answers.{Said, answered, refused, SaidOn, answeredOn, refusedOn, Stepped, fitting, failing, Cause, judged, judgedOn, Injective, told-apart}
-use Rattle.models.specs.Refusals.{numbered-number, unsaid, unsaidOn, unsaidStep, faultOf}
+use Rattle.models.specs.Refusals.{refusal-told, unsaid, unsaidOn, unsaidStep, faultOf}
 use Rattle.models.specs.Limits.{cost}
 use Rattle.models.specs.Causes as Shared
 use Rattle.models.specs.declared.ErrorBound.{ErrorBound}
@@ -29,7 +29,7 @@ newAnswer b = judged (Shared.boundCauses b) (fresh b)
 
 new-told : (r : NewAnswer) → unsaid OfNew.Answered OfNew.Refused (saysNew r) ≡ r
 new-told (OfNew.Answered s) = refl
-new-told (OfNew.Refused r) = ap OfNew.Refused (numbered-number r)
+new-told (OfNew.Refused r) = ap OfNew.Refused (refusal-told r)
 
 pub saysNew-injective : Injective saysNew
 saysNew-injective = told-apart saysNew (unsaid OfNew.Answered OfNew.Refused) new-told
@@ -49,7 +49,7 @@ fitAnswer s value = judgedOn s (fitCauses s) (tried s (ofBits binary32 value))
 fit-told : (r : FitAnswer) → unsaidStep OfFit.Fits OfFit.NoFit OfFit.Refused (saysFit r) ≡ r
 fit-told (OfFit.Fits s) = refl
 fit-told (OfFit.NoFit s) = refl
-fit-told (OfFit.Refused r s) = rw (numbered-number r)
+fit-told (OfFit.Refused r s) = rw (refusal-told r)
 
 pub saysFit-injective : Injective saysFit
 saysFit-injective = told-apart saysFit (unsaidStep OfFit.Fits OfFit.NoFit OfFit.Refused) fit-told
@@ -67,7 +67,7 @@ costAnswer s m = judgedOn s (costCauses s m) (cost m (s .length))
 
 cost-told : (r : CostAnswer) → unsaidOn OfCost.Answered OfCost.Refused (saysCost r) ≡ r
 cost-told (OfCost.Answered x) = refl
-cost-told (OfCost.Refused r s) = rw (numbered-number r)
+cost-told (OfCost.Refused r s) = rw (refusal-told r)
 
 pub saysCost-injective : Injective saysCost
 saysCost-injective = told-apart saysCost (unsaidOn OfCost.Answered OfCost.Refused) cost-told
@@ -85,7 +85,7 @@ modelAnswer s = judgedOn s (modelCauses s) (toBits binary32 (average s))
 
 model-told : (r : ModelAnswer) → unsaidOn OfModel.Answered OfModel.Refused (saysModel r) ≡ r
 model-told (OfModel.Answered bits) = refl
-model-told (OfModel.Refused r s) = rw (numbered-number r)
+model-told (OfModel.Refused r s) = rw (refusal-told r)
 
 pub saysModel-injective : Injective saysModel
 saysModel-injective = told-apart saysModel (unsaidOn OfModel.Answered OfModel.Refused) model-told

@@ -9,7 +9,7 @@ use lib.Dec.{eqb}
 use lib.ListN.{length}
 use Rattle.models.specs.Answers.{Said, Done, answered, refused, SaidOn, answeredOn, refusedOn, Cause, _when_, judge, Injective, told-apart, refusing}
 use Rattle.models.specs.Limits.{mostValues}
-use Rattle.models.specs.Refusals.{numbered, numbered-number, faultOf}
+use Rattle.models.specs.Refusals.{refusalOf, refusal-told, faultOf}
 use Rattle.models.specs.declared.ValueAnswer.{ValueAnswer}
 use Rattle.models.specs.declared.ValueAnswer.the-variants as OfValue
 use Rattle.stream.specs.Format.{macaque, windowIn, keepsRule}
@@ -68,14 +68,14 @@ saysMoved s = saysNext (s .answer) (s .after)
 
 abbrev moved-back : SaidOn Position Taken → Moved
 moved-back (answeredOn t) = record { answer = OfValue.Answered (t .value); after = t .after }
-moved-back (refusedOn n p) = record { answer = OfValue.Refused (numbered (n .number)); after = p }
+moved-back (refusedOn n p) = record { answer = OfValue.Refused (refusalOf n); after = p }
 
 moved-told : (s : Moved) → moved-back (saysMoved s) ≡ s
 moved-told s = go (s .answer)
   where
     go : (a : ValueAnswer) → moved-back (saysNext a (s .after)) ≡ record { answer = a; after = s .after }
     go (OfValue.Answered v) = refl
-    go (OfValue.Refused r) = rw (numbered-number r)
+    go (OfValue.Refused r) = rw (refusal-told r)
 
 pub saysMoved-injective : Injective saysMoved
 saysMoved-injective = told-apart saysMoved moved-back moved-told

@@ -14,7 +14,8 @@ use lib.IntN.{ℤ, pos}
 use lib.Signed.{ltZ}
 use lib.ListN.{length, take, getD, replicate, length-map, length-replicate}
 use lib.Seq.{length-take-le}
-use Rattle.models.specs.Answers.{Said, answered, judge, verdict, Fault}
+use Rattle.models.specs.Answers.{Said, answered, judge, verdict}
+use Rattle.models.specs.declared.Fault.{Fault}
 use Rattle.models.specs.Limits.{mostValues}
 use Rattle.models.proofs.Judged.{none}
 use Rattle.models.proofs.Tests.{and-left, and-right, and-both, neither}

@@ -6,7 +6,8 @@ use native.Mathlib.Omega.{arith}
 use lib.ListN.{length, take, drop, length-append, length-drop, drop-of-length-le}
 use lib.Seq.{take-all, drop-at, drop-drop, length-take-le}
 use borrow.Rule.Slice.PartMut.{midOf, putMid, put-same}
-use Rattle.models.specs.Answers.{Said, answered, refused, Fault}
+use Rattle.models.specs.Answers.{Said, answered, refused}
+use Rattle.models.specs.declared.Fault.{Fault}
 use Rattle.models.proofs.Judged.{not-answered, not-refused}
 use Rattle.macaque_v.specs.Read.{drawn, drawnIn}
 use Rattle.segment_grid.specs.Calls.{behind}

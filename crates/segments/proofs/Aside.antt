@@ -10,7 +10,8 @@ use borrow.Author.Tests.{not-false}
 use lib.ListN.{length, take}
 use Rattle.bits.specs.Bits.{wholeBytes}
 use Rattle.bits.proofs.InBytes.{length-laidIn}
-use Rattle.models.specs.Answers.{answered, refused, answeredOn, Fault, verdict, NoneHolds}
+use Rattle.models.specs.Answers.{answered, refused, answeredOn, verdict, NoneHolds}
+use Rattle.models.specs.declared.Fault.{Fault}
 use Rattle.models.specs.Bound.{boundAllowed}
 use Rattle.models.specs.declared.ErrorBound.{ErrorBound}
 use Rattle.models.proofs.Judged.{told, turned, same-answer-on}

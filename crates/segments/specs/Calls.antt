@@ -7,7 +7,7 @@ use lib.Dec.{ltb}
 use lib.ListN.{length, drop}
 use Rattle.models.specs.Answers.{Said, answered, refused, Cause, _when_, judge, judged, judgedMemory, Injective, told-apart}
 use Rattle.models.specs.Bound.{boundAllowed}
-use Rattle.models.specs.Refusals.{numbered-number, unsaid, faultOf}
+use Rattle.models.specs.Refusals.{refusal-told, unsaid, faultOf}
 use Rattle.models.specs.declared.ErrorBound.{ErrorBound}
 use Rattle.stream.specs.Format.{State}
 use Rattle.macaque_v.specs.State.{Known}
@@ -76,7 +76,7 @@ saysSegment (OfSegment.Refused r) = refused (faultOf r)
 
 segment-told : (r : SegmentAnswer) → unsaid OfSegment.Written OfSegment.Refused (saysSegment r) ≡ r
 segment-told (OfSegment.Written s) = refl
-segment-told (OfSegment.Refused r) = ap OfSegment.Refused (numbered-number r)
+segment-told (OfSegment.Refused r) = ap OfSegment.Refused (refusal-told r)
 
 pub saysSegment-injective : Injective saysSegment
 saysSegment-injective = told-apart saysSegment (unsaid OfSegment.Written OfSegment.Refused) segment-told

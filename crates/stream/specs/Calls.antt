@@ -6,7 +6,8 @@ use Prim.Native.Nat.{ℕ, _+_, _*_, _^_, min}
 use lib.Dec.{leb, ltb}
 use lib.ListN.{length, take, drop}
 use Rattle.bits.specs.Bits.{bitsOf}
-use Rattle.models.specs.Answers.{Said, Done, answered, refused, SaidOn, Cause, _when_, judge, judged, judgedOn, judgedMemory, Fault, fault}
+use Rattle.models.specs.Answers.{Said, Done, answered, refused, SaidOn, Cause, _when_, judge, judged, judgedOn, judgedMemory, faultIn}
+use Rattle.models.specs.declared.Fault.{Fault}
 use Rattle.stream.specs.Format.{gorilla, Gather, withFirst, Stream, State, fresh, mostValues, usable}
 use Rattle.stream.specs.Write.{lossless, wrote, wroteIn}
 use Rattle.stream.specs.Read.{StreamRefusal, Reading, done, stopped, readAll, Reopened, reopened, unopened, reopen, bufferAfter}
@@ -28,9 +29,9 @@ lentBytes n = min n (2 ^ 60)
 abbrev pub tooMany : ℕ → ℕ → Bool
 tooMany n more = ltb mostValues (n + more)
 
--- what a stream's own refusal says
+-- what a stream's own refusal says: its number, the value and the place
 abbrev pub faultAt : StreamRefusal → Fault
-faultAt f = fault (f .no)
+faultAt f = faultIn (f .no) (f .value) (f .place)
 
 -- ---- the values of a stream, or its refusal
 

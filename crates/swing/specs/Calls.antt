@@ -6,7 +6,7 @@ use Prim.Native.Nat.{ℕ, _+_}
 use lib.IntN.{ℤ}
 use lib.Ieee.{Float}
 use Rattle.models.specs.Answers.{Said, answered, refused, SaidOn, answeredOn, refusedOn, Stepped, fitting, failing, Cause, _when_, judged, judgedOn, Injective, told-apart}
-use Rattle.models.specs.Refusals.{numbered-number, unsaid, unsaidOn, unsaidStep, faultOf}
+use Rattle.models.specs.Refusals.{refusal-told, unsaid, unsaidOn, unsaidStep, faultOf}
 use Rattle.models.specs.Limits.{cost}
 use Rattle.models.specs.Causes as Shared
 use Rattle.models.specs.declared.ErrorBound.{ErrorBound}
@@ -34,7 +34,7 @@ newAnswer b = judged (Shared.boundCauses b) (fresh b)
 
 new-told : (r : NewAnswer) → unsaid OfNew.Answered OfNew.Refused (saysNew r) ≡ r
 new-told (OfNew.Answered s) = refl
-new-told (OfNew.Refused r) = ap OfNew.Refused (numbered-number r)
+new-told (OfNew.Refused r) = ap OfNew.Refused (refusal-told r)
 
 pub saysNew-injective : Injective saysNew
 saysNew-injective = told-apart saysNew (unsaid OfNew.Answered OfNew.Refused) new-told
@@ -54,7 +54,7 @@ fitAnswer s t value = judgedOn s (fitCauses s t) (tried s (pointOf t value))
 fit-told : (r : FitAnswer) → unsaidStep OfFit.Fits OfFit.NoFit OfFit.Refused (saysFit r) ≡ r
 fit-told (OfFit.Fits s) = refl
 fit-told (OfFit.NoFit s) = refl
-fit-told (OfFit.Refused r s) = rw (numbered-number r)
+fit-told (OfFit.Refused r s) = rw (refusal-told r)
 
 pub saysFit-injective : Injective saysFit
 saysFit-injective = told-apart saysFit (unsaidStep OfFit.Fits OfFit.NoFit OfFit.Refused) fit-told
@@ -72,7 +72,7 @@ costAnswer s m = judgedOn s (costCauses s m) (cost (m + 1) (s .length))
 
 cost-told : (r : CostAnswer) → unsaidOn OfCost.Answered OfCost.Refused (saysCost r) ≡ r
 cost-told (OfCost.Answered x) = refl
-cost-told (OfCost.Refused r s) = rw (numbered-number r)
+cost-told (OfCost.Refused r s) = rw (refusal-told r)
 
 pub saysCost-injective : Injective saysCost
 saysCost-injective = told-apart saysCost (unsaidOn OfCost.Answered OfCost.Refused) cost-told
@@ -90,7 +90,7 @@ modelAnswer s = judgedOn s (modelCauses s) (endsOf s)
 
 model-told : (r : ModelAnswer) → unsaidOn (λ (e : LineEnds). OfModel.Answered (e .first) (e .last)) OfModel.Refused (saysModel r) ≡ r
 model-told (OfModel.Answered first last) = refl
-model-told (OfModel.Refused r s) = rw (numbered-number r)
+model-told (OfModel.Refused r s) = rw (refusal-told r)
 
 pub saysModel-injective : Injective saysModel
 saysModel-injective = told-apart saysModel (unsaidOn (λ (e : LineEnds). OfModel.Answered (e .first) (e .last)) OfModel.Refused) model-told

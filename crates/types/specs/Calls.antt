@@ -6,7 +6,7 @@ use Prim.Native.Nat.{ℕ}
 use lib.Dec.{eqb}
 use lib.IntN.{ℤ}
 use Rattle.models.specs.Answers.{Said, answered, refused, SaidOn, answeredOn, refusedOn, Stepped, fitting, failing, Cause, _when_, judged, judgedOn, Injective, told-apart}
-use Rattle.models.specs.Refusals.{numbered-number, unsaid, unsaidOn, unsaidStep, faultOf}
+use Rattle.models.specs.Refusals.{refusal-told, unsaid, unsaidOn, unsaidStep, faultOf}
 use Rattle.models.specs.Bound.{boundAllowed}
 use Rattle.models.specs.Limits.{metadataAllowed}
 use Rattle.models.specs.Causes.{boundCauses}
@@ -35,7 +35,7 @@ newAnswer b = judged (boundCauses b) (fresh b)
 
 new-told : (r : NewAnswer) → unsaid OfNew.Answered OfNew.Refused (saysNew r) ≡ r
 new-told (OfNew.Answered b) = refl
-new-told (OfNew.Refused r) = ap OfNew.Refused (numbered-number r)
+new-told (OfNew.Refused r) = ap OfNew.Refused (refusal-told r)
 
 pub saysNew-injective : Injective saysNew
 saysNew-injective = told-apart saysNew (unsaid OfNew.Answered OfNew.Refused) new-told
@@ -60,7 +60,7 @@ updateAnswer b t value = judgedOn b (updateCauses b t) (answeredBy (updated b (p
 update-told : (r : UpdateAnswer) → unsaidStep OfUpdate.Fits OfUpdate.NoFit OfUpdate.Refused (saysUpdate r) ≡ r
 update-told (OfUpdate.Fits b) = refl
 update-told (OfUpdate.NoFit b) = refl
-update-told (OfUpdate.Refused r b) = rw (numbered-number r)
+update-told (OfUpdate.Refused r b) = rw (refusal-told r)
 
 pub saysUpdate-injective : Injective saysUpdate
 saysUpdate-injective = told-apart saysUpdate (unsaidStep OfUpdate.Fits OfUpdate.NoFit OfUpdate.Refused) update-told
@@ -83,7 +83,7 @@ finishAnswer b m = judgedOn b (finishCauses b m) (choiceOf b m)
 
 finish-told : (r : FinishAnswer) → unsaidOn OfFinish.Answered OfFinish.Refused (saysFinish r) ≡ r
 finish-told (OfFinish.Answered model) = refl
-finish-told (OfFinish.Refused r b) = rw (numbered-number r)
+finish-told (OfFinish.Refused r b) = rw (refusal-told r)
 
 pub saysFinish-injective : Injective saysFinish
 saysFinish-injective = told-apart saysFinish (unsaidOn OfFinish.Answered OfFinish.Refused) finish-told

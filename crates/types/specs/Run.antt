@@ -7,7 +7,7 @@ use lib.Dec.{eqb, ltb}
 use lib.IntN.{ℤ}
 use lib.ListN.{length}
 use Rattle.models.specs.Answers.{Said, answered, refused, stateAfter, Cause, _when_, judged, Injective, told-apart}
-use Rattle.models.specs.Refusals.{numbered-number, unsaid, faultOf}
+use Rattle.models.specs.Refusals.{refusal-told, unsaid, faultOf}
 use Rattle.models.specs.Bound.{boundAllowed}
 use Rattle.models.specs.Limits.{mostValues, metadataAllowed}
 use Rattle.models.specs.declared.ErrorBound.{ErrorBound}
@@ -59,7 +59,7 @@ choiceAnswer ts values b m = judged (choiceCauses ts values b m) (choiceOf (run 
 
 choice-told : (r : ChoiceAnswer) → unsaid OfChoice.Answered OfChoice.Refused (saysChoice r) ≡ r
 choice-told (OfChoice.Answered model) = refl
-choice-told (OfChoice.Refused r) = ap OfChoice.Refused (numbered-number r)
+choice-told (OfChoice.Refused r) = ap OfChoice.Refused (refusal-told r)
 
 pub saysChoice-injective : Injective saysChoice
 saysChoice-injective = told-apart saysChoice (unsaid OfChoice.Answered OfChoice.Refused) choice-told

@@ -5,7 +5,7 @@ use mathlib.Core.List.{List, _++_}
 use Prim.Native.Nat.{ℕ, _+_, _*_, _≤_}
 use lib.ListN.{length, take, drop}
 use Rattle.models.specs.Answers.{Said, answered, refused}
-use Rattle.models.specs.Refusals.{faultOf, numbered}
+use Rattle.models.specs.Refusals.{faultOf}
 use Rattle.models.specs.declared.ErrorBound.{ErrorBound}
 use Rattle.models.specs.declared.Refusal.{Refusal}
 use Rattle.stream.specs.Format.{State, windowIn}
