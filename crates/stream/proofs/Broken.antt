@@ -1,11 +1,11 @@
 -- A stream that breaks off: the values before a refusal 5 to 8 were read, hang on nothing but the bits before the place, and are those that were sent
 -- where these bits are; a break is never told before the damage; a cut is 5; and what follows a whole stream is 8. Assumes nothing.
 use mathlib.Core.Path.{_≡_, refl, sym, ap, _∙_, subst}
-use mathlib.Core.Logic.{_⊎_, inl, inr}
+use mathlib.Core.Logic.{inl, inr}
 use mathlib.Core.Bool.{Bool}
 use mathlib.Core.List.{List, [], _∷_, _++_, append-assoc}
 use mathlib.Core.Option.{Option, none, some}
-use Prim.Native.Nat.{ℕ, zero, suc, _+_, _-_, _*_, _%_, _^_, _≤_, _<_}
+use Prim.Native.Nat.{ℕ, zero, suc, _+_, _-_, _*_, _^_, _≤_, _<_}
 use native.Mathlib.Omega.{arith}
 use lib.ListN.{length, take, drop, length-append, take-append-drop}
 use lib.Seq.{take-at, take-take, take-append-le}
@@ -13,9 +13,9 @@ use Rattle.bits.specs.Bits.{bitsOf}
 use Rattle.bits.proofs.Bytes.{bits-append, length-bitsOf, bits-front}
 use Rattle.models.proofs.Tests.{never}
 use Rattle.stream.specs.Format.{Window, Stream, State, fresh, isRaw, advance}
-use Rattle.stream.specs.Read.{Step, got, halt, StreamRefusal, Reading, done, stopped, push, follow, stepAt, readN, firstSet, paddingOf, orFurther, leftover, endedBy, ended, readAll}
+use Rattle.stream.specs.Read.{Step, got, halt, StreamRefusal, Reading, done, stopped, push, follow, stepAt, readN, leftover, endedBy, ended, readAll}
 use Rattle.stream.specs.Needs.{Good}
-use Rattle.stream.specs.Broken.{InsideAValue, BehindTheLast, BrokenAt, CutShort}
+use Rattle.stream.specs.Broken.{BrokenAt, CutShort}
 use Rattle.stream.proofs.Writing.{fresh-small}
 use Rattle.stream.proofs.Reading.{prepend, thenRead, read-then, Whole, WholeOf, whole}
 use Rattle.stream.proofs.Reopen.{ended-inv, any-opened}
