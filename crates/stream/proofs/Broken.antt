@@ -103,7 +103,7 @@ module _ {A : Type 0} (S : Stream A) where
             halts = e;
           }
 
-  -- ---- 1: a refused stream was read up to the value that the refusal names, and stopped at its place
+  -- ---- a refused stream was read up to the value that the refusal names, and stopped at its place
 
   module _ (l n : ℕ) (bits : List Bool) (r : StreamRefusal) where
     stopped-inside : Halted S n (fresh S l) bits r → BrokenAt S l n bits r
@@ -161,6 +161,10 @@ module _ {A : Type 0} (S : Stream A) where
 
 -- ---- what was read hangs on its own bits only
 
+-- lists that agree before d agree before any earlier place
+agree-before : {A : Type 0} (p d : ℕ) (a b : List A) → p ≤ d → take d a ≡ take d b → take p a ≡ take p b
+agree-before p d a b le same = sym (take-take p d a le) ∙ ap (take p) same ∙ take-take p d b le
+
 module _ {A : Type 0} (S : Stream A) (good : Good (S .format)) (l : ℕ) (hl : l < 2 ^ S .format .width) where
   all-of : (k : ℕ) (bits : List Bool) (vs : List ℕ) (t : State A) (rest : List Bool) → readN S k (fresh S l) bits ≡ done vs t rest
       → Whole S k (fresh S l) bits vs t rest
@@ -190,13 +194,13 @@ module _ {A : Type 0} (S : Stream A) (good : Good (S .format)) (l : ℕ) (hl : l
       omega (arith, W .placed, ap length (W .cut), length-append (W .front) rest)
 
   module _ {n : ℕ} {bits : List Bool} {r : StreamRefusal} (B : BrokenAt S l n bits r) where
-    -- ---- 2: the values before the break hang on nothing but the bits before the place
+    -- ---- the values before the break hang on nothing but the bits before the place
 
     pub before-it-broke : (other : List Bool) → take (B .state .place) other ≡ take (B .state .place) bits
         → readN S (r .value) (fresh S l) other ≡ done (B .values) (B .state) (drop (B .state .place) other)
     before-it-broke = read-alike (r .value) bits (B .values) (B .state) (B .rest) (B .reads)
 
-    -- ---- 3: where the bits before the place are those that were sent, so are the values
+    -- ---- where the bits before the place are those that were sent, so are the values
 
     module _ (n₀ : ℕ) (sent : List Bool) (us : List ℕ) (u : State A) (r₀ : List Bool) (whole₀ : readAll S n₀ (fresh S l) sent ≡ done us u r₀) (le : r .value ≤ n₀) where
       pub as-it-was-sent : take (B .state .place) bits ≡ take (B .state .place) sent → take (r .value) us ≡ B .values
@@ -204,12 +208,11 @@ module _ {A : Type 0} (S : Stream A) (good : Good (S .format)) (l : ℕ) (hl : l
 
       -- the same by the place that the refusal tells
       pub as-it-was-sent-before-the-place : take (r .place) bits ≡ take (r .place) sent → take (r .value) us ≡ B .values
-      as-it-was-sent-before-the-place same =
-          let p : ℕ = B .state .place in
-          as-it-was-sent (sym (take-take p (r .place) bits (B .before)) ∙ ap (take p) same ∙ take-take p (r .place) sent (B .before))
+      as-it-was-sent-before-the-place same = as-it-was-sent (agree-before (B .state .place) (r .place) bits sent (B .before) same)
 
-  -- ---- 4: a break is never told before the damage
+  -- ---- a break is never told before the damage
 
+  -- where the first d bits are those that were sent, k values that lie before d in what was sent are read as they were sent, and the refusal names none of them
   pub never-before-the-damage : (d : ℕ) (sent bits : List Bool) → take d bits ≡ take d sent
       → (k : ℕ) (ws : List ℕ) (w : State A) (x : List Bool) → readN S k (fresh S l) sent ≡ done ws w x → w .place ≤ d
       → (n : ℕ) → k ≤ n → (r : StreamRefusal) → readAll S n (fresh S l) bits ≡ stopped r
@@ -220,9 +223,7 @@ module _ {A : Type 0} (S : Stream A) (good : Good (S .format)) (l : ℕ) (hl : l
       B = read-until-it-broke S l n bits r h
 
       same-values : readN S k (fresh S l) bits ≡ done ws w (drop (w .place) bits)
-      same-values =
-          let p : ℕ = w .place in
-          read-alike k sent ws w x rd bits (sym (take-take p d bits at) ∙ ap (take p) same ∙ take-take p d sent at)
+      same-values = read-alike k sent ws w x rd bits (agree-before (w .place) d bits sent at same)
 
       not-before : ¬ (r .value < k)
       not-before lt =
@@ -230,7 +231,7 @@ module _ {A : Type 0} (S : Stream A) (good : Good (S .format)) (l : ℕ) (hl : l
           let z = stops-there S (r .value) k (fresh S l) bits (B .values) (B .state) (B .rest) (r .no) (B .reads) (I .halts) lt in
           never (cc same-values)
 
-  -- ---- 5: a cut is 5
+  -- ---- a cut is 5
 
   -- in the first bits of bits that read as n values no value is refused but by 5
   only-by-5 : (n : ℕ) (p q : List Bool) (us : List ℕ) (u : State A) (x : List Bool) → readN S n (fresh S l) (p ++ q) ≡ done us u x
@@ -255,6 +256,7 @@ module _ {A : Type 0} (S : Stream A) (good : Good (S .format)) (l : ℕ) (hl : l
     ends-at : u .place + length x ≡ 8 * length bytes
     ends-at = place-within n (bitsOf bytes) us u x values-there ∙ length-bitsOf bytes
 
+    -- of such bytes only the first m arrived: the refusal of so many values is 5, and `CutShort` says what stands before it
     pub a-cut-is-5 : (m : ℕ) → m < length bytes → CutShort S l n bytes us m
     unfolding ended
     a-cut-is-5 m less = go (readN S n (fresh S l) p) refl (counted S n (fresh S l) p)
@@ -293,13 +295,16 @@ module _ {A : Type 0} (S : Stream A) (good : Good (S .format)) (l : ℕ) (hl : l
               allWhole = λ k le ws w y rd in-them. never-before-the-damage (8 * m) (bitsOf bytes) p (front (8 * m) (omega arith)) k ws w y rd in-them n le r ref .0;
             }
 
-    -- ---- 6: what follows a whole stream is 8, at the first bit behind its bytes
+    -- ---- what follows a whole stream is 8, at the first bit behind its bytes
 
     pub two-run-together : (more : List ℕ) → 0 < length more
         → (readAll S n (fresh S l) (bitsOf (bytes ++ more)) ≡ stopped (record { no = 8; value = n; place = 8 * length bytes }))
         × (readN S n (fresh S l) (bitsOf (bytes ++ more)) ≡ done us u (x ++ bitsOf more))
     unfolding ended
-    two-run-together more any = (ap ended reads ∙ ap (endedBy us u (x ++ bitsOf more)) left ∙ ap (λ (c : ℕ). stopped (record { no = 8; value = c; place = 8 * length bytes })) is, reads)
+    two-run-together more any = (
+      ap ended reads ∙ ap (endedBy us u (x ++ bitsOf more)) left ∙ ap (λ (c : ℕ). stopped (record { no = 8; value = c; place = 8 * length bytes })) is,
+      reads,
+    )
       where
         reads : readN S n (fresh S l) (bitsOf (bytes ++ more)) ≡ done us u (x ++ bitsOf more)
         reads = ap (readN S n (fresh S l)) (bits-append bytes more) ∙ more-behind n (bitsOf bytes) us u x values-there (bitsOf more)
