@@ -323,12 +323,10 @@ pub fn judge_end(bytes: &[u8], at: Cursor) -> Verdict
     requires { ⌜ ReadableAt (now bytes) at × (at .count ≤ mostValues) ⌝ }
     ensures { λ r. ⌜ saysVerdict r ≡ endSaid (now (bytes .entry)) at ⌝ }
 {
+    let value = at.count as u32;
     match left_behind(bytes, at.place) {
         Behind::Nothing => Verdict::Passed,
-        Behind::From(place) => Verdict::Refused(Refusal::Leftover {
-            value: at.count as u32,
-            place,
-        }),
+        Behind::From(place) => Verdict::Refused(Refusal::Leftover { value, place }),
     }
 }
 
