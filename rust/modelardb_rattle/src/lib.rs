@@ -42,7 +42,7 @@ pub use models::{
 };
 pub use numbers::{narrow, narrow_bits, widen, widen_bits};
 pub use pmc_mean::PMCMean;
-pub use refusal::Refusal;
+pub use refusal::{Fault, Refusal};
 pub use segments::{Model, Segment};
 pub use swing::{Line, Swing};
 pub use types::{ModelBuilder, SelectedModel, choose_model, choose_model_bits};
