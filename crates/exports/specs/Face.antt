@@ -1,12 +1,13 @@
--- How a call crosses the C face. A bound is its kind and the bits of its f32. The answer is a number: 0, or that of a refusal. The values
--- are words at the front of a lent row, and a row that does not hold them is a lent output that is too short, 4, in its place in 01's order.
+-- How a call crosses the C face. A bound is its kind and the bits of its f32. The answer is a fault: number 0, or that of a refusal, with its value and
+-- place. The values are words at the front of a lent row, and a row that does not hold them is a lent output that is too short, 4, in its place in 01's
+-- order.
 use mathlib.Core.Bool.{Bool, true, false, cond, _||_}
 use mathlib.Core.List.{List, _++_, [], _∷_}
 use Prim.Native.Nat.{ℕ}
 use lib.Dec.{eqb, leb}
 use lib.Ieee.{Float, nan, binary32, binary64, ofBits, toBits}
 use lib.ListN.{length, drop}
-use Rattle.models.specs.Answers.{fault, Said, answered, refused, SaidOn, stateless}
+use Rattle.models.specs.Answers.{fault, noFault, Said, answered, refused, SaidOn, stateless}
 use Rattle.models.specs.declared.Fault.{Fault}
 use Rattle.models.specs.declared.ErrorBound.{ErrorBound}
 use Rattle.models.specs.declared.ErrorBound.the-variants.{Lossless, Absolute, Relative}
@@ -21,13 +22,13 @@ boundOf kind bits =
 abbrev pub beforeShort : ℕ → Bool
 beforeShort n = leb n 3 || eqb n 12
 
--- the number that is answered, where a row of `room` words is lent for `need` of them
-unfoldable pub refusalNumber : ℕ → ℕ → ℕ → ℕ
-refusalNumber need room n = cond (beforeShort n || leb need room) n 4
+-- the fault that is answered, where a row of `room` words is lent for `need` of them
+unfoldable pub refusalFault : ℕ → ℕ → Fault → Fault
+refusalFault need room f = cond (beforeShort (f .number) || leb need room) f (fault 4)
 
-unfoldable pub numberOf : {A : Type 0} → ℕ → ℕ → Said A → ℕ
-numberOf need room (refused f) = refusalNumber need room (f .number)
-numberOf need room (answered x) = cond (leb need room) 0 4
+unfoldable pub faultSaid : {A : Type 0} → ℕ → ℕ → Said A → Fault
+faultSaid need room (refused f) = refusalFault need room f
+faultSaid need room (answered x) = cond (leb need room) noFault (fault 4)
 
 -- a truth as a word
 abbrev pub wordOf : Bool → ℕ
@@ -39,7 +40,7 @@ abbrev pub rowIn : {A : Type 0} → (A → List ℕ) → List ℕ → Said A →
 rowIn words row (refused f) = row
 rowIn words row (answered x) = words x ++ drop (length (words x)) row
 
--- the row afterwards, lent for `need` words: its front is set exactly if the number is 0
+-- the row afterwards, lent for `need` words: its front is set exactly if nothing is refused
 unfoldable pub rowAfter : {A : Type 0} → ℕ → (A → List ℕ) → List ℕ → Said A → List ℕ
 rowAfter need words row said = cond (leb need (length row)) (rowIn words row said) row
 
@@ -56,28 +57,28 @@ wordOf32 x = toBits binary32 x ∷ []
 abbrev pub wordOf64 : Float → List ℕ
 wordOf64 x = toBits binary64 x ∷ []
 
--- ---- a call with no values to hand over, but in memory that it was lent for them: the number alone
-abbrev pub plainNumber : {A : Type 0} → Said A → ℕ
-plainNumber (answered x) = 0
-plainNumber (refused f) = f .number
+-- ---- a call with no values to hand over, but in memory that it was lent for them: the fault alone
+abbrev pub plainFault : {A : Type 0} → Said A → Fault
+plainFault (answered x) = noFault
+plainFault (refused f) = f
 
 -- ---- a call on a state in a row. Every row stands for some state: one that is too short, or whose words are not allowed, for one that the call behind
--- refuses with 2 in its place. So the number is that of the call behind.
+-- refuses with 2 in its place. So the fault is that of the call behind.
 
 -- the fault of a row that stands for no state: 1 where a bound in it is not allowed, else 2
 abbrev pub noState : Bool → Fault
 noState allowed = fault (cond allowed 2 1)
 
 -- a step, whose row becomes that of the state after it
-abbrev pub stepNumber : {S A : Type 0} → SaidOn S A → ℕ
-stepNumber said = plainNumber (stateless said)
+abbrev pub stepFault : {S A : Type 0} → SaidOn S A → Fault
+stepFault said = plainFault (stateless said)
 
 abbrev pub stepRow : {S A : Type 0} → (A → List ℕ) → List ℕ → SaidOn S A → List ℕ
 stepRow words row said = rowIn words row (stateless said)
 
 -- a question, answered in `k` words of another row, `out`
-abbrev pub askNumber : {S A : Type 0} → ℕ → ℕ → SaidOn S A → ℕ
-askNumber k room said = numberOf k room (stateless said)
+abbrev pub askFault : {S A : Type 0} → ℕ → ℕ → SaidOn S A → Fault
+askFault k room said = faultSaid k room (stateless said)
 
 abbrev pub askRow : {S A : Type 0} → ℕ → (A → List ℕ) → List ℕ → SaidOn S A → List ℕ
 askRow k words out said = rowAfter k words out (stateless said)

@@ -1,6 +1,6 @@
 // The C face of the public calls, for the static library. Numbers cross as their bits, a NaN as the
-// one that 01 names. A call answers 0 or the number of its refusal; its values go into a lent row,
-// of which a refusal changes nothing.
+// one that 01 names. A call answers a fault, of number 0 where nothing is refused; its values go into
+// a lent row, of which a refusal changes nothing.
 
 pub mod words;
 
@@ -10,12 +10,13 @@ ghost use Prim.Native.Nat.{_≤_};
 ghost use lib.ListN.{length, drop};
 ghost use lib.Ieee.{binary32, binary64, ofBits, toBits};
 ghost use Rattle.numbers.specs.Narrowed.{narrowed};
-ghost use Rattle.models.specs.Refusals.{number};
+ghost use Rattle.models.specs.Refusals.{faultOf};
 ghost use Rattle.models.specs.Calls.{withinAnswer, deviationAnswer, saysValue};
-ghost use Rattle.exports.specs.Face.{boundOf, refusalNumber, numberOf, rowAfter, wordOf, oneWord, wordOfTruth, wordOf32, wordOf64};
+ghost use Rattle.exports.specs.Face.{boundOf, refusalFault, faultSaid, rowAfter, wordOf, oneWord, wordOfTruth, wordOf32, wordOf64};
 ghost use Rattle.exports.specs.inner.Put.{wholeRow, pairRow, worded, wordsSaid, saysPair, saysFloat};
 use models::DeviationAnswer;
 use models::ErrorBound;
+use models::Fault;
 use models::Refusal;
 use models::ValueAnswer;
 use models::Verdict;
@@ -65,24 +66,36 @@ pub fn word_of(is: bool) -> u32
     if is { 1 } else { 0 }
 }
 
-// ---- what a call says, as its number and the front of a lent row
+// ---- what a call says, as its fault and the front of a lent row
+
+// What is answered where nothing is refused.
+pub const ACCEPTED: Fault = Fault {
+    number: 0,
+    value: 0,
+    place: 0,
+};
 
 // What is answered where a row does not hold its words.
-pub const TOO_SHORT: u32 = 4;
+pub const TOO_SHORT: Fault = Fault {
+    number: 4,
+    value: 0,
+    place: 0,
+};
 
 // What a refused call answers, where a row of `room` words is lent for `need` of them: 4 comes
 // before a cause that 01 judges after it.
-pub fn number_with(r: Refusal, need: usize, room: usize) -> u32
-    ensures { λ n. ⌜ n ≡ refusalNumber need room (number r) ⌝ }
+pub fn fault_with(r: Refusal, need: usize, room: usize) -> Fault
+    ensures { λ f. ⌜ f ≡ refusalFault need room (faultOf r) ⌝ }
 {
-    let n = models::number_of(r);
+    let fault = models::fault_of(r);
+    let n = fault.number;
     if n <= 3 {
-        return n;
+        return fault;
     }
     if n == 12 {
-        return n;
+        return fault;
     }
-    if room < need { TOO_SHORT } else { n }
+    if room < need { TOO_SHORT } else { fault }
 }
 
 // Words to the front of a row that holds them.
@@ -98,35 +111,35 @@ fn put_words(words: &[u64], row: &mut [u64])
 }
 
 // The words of an answer, where the verdict on the call let it be given.
-pub fn put_said(verdict: Verdict, words: &[u64], row: &mut [u64]) -> u32
-    ensures number { λ r. ⌜ r ≡ numberOf (length (now (words .entry))) (length (now (row .entry))) (wordsSaid verdict (now (words .entry))) ⌝ }
+pub fn put_said(verdict: Verdict, words: &[u64], row: &mut [u64]) -> Fault
+    ensures fault { λ r. ⌜ r ≡ faultSaid (length (now (words .entry))) (length (now (row .entry))) (wordsSaid verdict (now (words .entry))) ⌝ }
     ensures row { λ r. ⌜ now (row .exit) ≡ rowAfter (length (now (words .entry))) wholeRow (now (row .entry)) (wordsSaid verdict (now (words .entry))) ⌝ }
 {
     match verdict {
-        Verdict::Refused(r) => number_with(r, words.len(), row.len()),
+        Verdict::Refused(r) => fault_with(r, words.len(), row.len()),
         Verdict::Passed => {
             if row.len() < words.len() {
                 return TOO_SHORT;
             }
             put_words(words, row);
-            0
+            ACCEPTED
         }
     }
 }
 
 // One value.
-pub fn put_value(answer: ValueAnswer, out: &mut [u32]) -> u32
-    ensures number { λ r. ⌜ r ≡ numberOf 1 (length (now (out .entry))) (saysValue answer) ⌝ }
+pub fn put_value(answer: ValueAnswer, out: &mut [u32]) -> Fault
+    ensures fault { λ r. ⌜ r ≡ faultSaid 1 (length (now (out .entry))) (saysValue answer) ⌝ }
     ensures row { λ r. ⌜ now (out .exit) ≡ rowAfter 1 oneWord (now (out .entry)) (saysValue answer) ⌝ }
 {
     match answer {
-        ValueAnswer::Refused(r) => number_with(r, 1, out.len()),
+        ValueAnswer::Refused(r) => fault_with(r, 1, out.len()),
         ValueAnswer::Answered(bits) => {
             if out.len() < 1 {
                 return TOO_SHORT;
             }
             out[0] = bits;
-            0
+            ACCEPTED
         }
     }
 }
@@ -137,19 +150,19 @@ pub enum PairAnswer {
     Answered(u32, u32),
 }
 
-pub fn put_ends(answer: PairAnswer, out: &mut [u32]) -> u32
-    ensures number { λ r. ⌜ r ≡ numberOf 2 (length (now (out .entry))) (saysPair answer) ⌝ }
+pub fn put_ends(answer: PairAnswer, out: &mut [u32]) -> Fault
+    ensures fault { λ r. ⌜ r ≡ faultSaid 2 (length (now (out .entry))) (saysPair answer) ⌝ }
     ensures row { λ r. ⌜ now (out .exit) ≡ rowAfter 2 pairRow (now (out .entry)) (saysPair answer) ⌝ }
 {
     match answer {
-        PairAnswer::Refused(r) => number_with(r, 2, out.len()),
+        PairAnswer::Refused(r) => fault_with(r, 2, out.len()),
         PairAnswer::Answered(first, last) => {
             if out.len() < 2 {
                 return TOO_SHORT;
             }
             out[0] = first;
             out[1] = last;
-            0
+            ACCEPTED
         }
     }
 }
@@ -177,13 +190,13 @@ pub extern "C" fn modelardb_is_value_within_error_bound(
     real_value: u32,
     approximate_value: u32,
     out: &mut [u32],
-) -> u32
-    ensures number { λ r. ⌜ r ≡ numberOf 1 (length (now (out .entry))) (withinAnswer (boundOf kind bound) «real_value» «approximate_value») ⌝ }
+) -> Fault
+    ensures fault { λ r. ⌜ r ≡ faultSaid 1 (length (now (out .entry))) (withinAnswer (boundOf kind bound) «real_value» «approximate_value») ⌝ }
     ensures row { λ r. ⌜ now (out .exit) ≡ rowAfter 1 wordOfTruth (now (out .entry)) (withinAnswer (boundOf kind bound) «real_value» «approximate_value») ⌝ }
 {
     let b = bound_of(kind, bound);
     match models::is_value_within_error_bound(b, real_value, approximate_value) {
-        WithinAnswer::Refused(r) => number_with(r, 1, out.len()),
+        WithinAnswer::Refused(r) => fault_with(r, 1, out.len()),
         WithinAnswer::Answered(is) => put_value(ValueAnswer::Answered(word_of(is)), out),
     }
 }
@@ -195,13 +208,13 @@ pub extern "C" fn modelardb_maximum_allowed_deviation(
     bound: u32,
     value: u64,
     out: &mut [u64],
-) -> u32
-    ensures number { λ r. ⌜ r ≡ numberOf 1 (length (now (out .entry))) (deviationAnswer (boundOf kind bound) (ofBits binary64 value)) ⌝ }
+) -> Fault
+    ensures fault { λ r. ⌜ r ≡ faultSaid 1 (length (now (out .entry))) (deviationAnswer (boundOf kind bound) (ofBits binary64 value)) ⌝ }
     ensures row { λ r. ⌜ now (out .exit) ≡ rowAfter 1 wordOf64 (now (out .entry)) (deviationAnswer (boundOf kind bound) (ofBits binary64 value)) ⌝ }
 {
     let b = bound_of(kind, bound);
     match models::maximum_allowed_deviation(b, numbers::value_of_f64(value)) {
-        DeviationAnswer::Refused(r) => number_with(r, 1, out.len()),
+        DeviationAnswer::Refused(r) => fault_with(r, 1, out.len()),
         DeviationAnswer::Answered(d) => {
             let words = [numbers::bits_of_f64(d)];
             put_said(Verdict::Passed, &words, out)

@@ -19,7 +19,7 @@ ghost use lib.ListN.{length};
 ghost use Rattle.models.specs.Answers.{answered};
 ghost use Rattle.types.specs.Calls.{newAnswer, updateAnswer, finishAnswer};
 ghost use Rattle.types.specs.Run.{choiceAnswer};
-ghost use Rattle.exports.specs.Face.{boundOf, numberOf, rowAfter, stepNumber, stepRow, askNumber, askRow};
+ghost use Rattle.exports.specs.Face.{boundOf, faultSaid, rowAfter, stepFault, stepRow, askFault, askRow};
 ghost use Rattle.exports_choice.specs.Row.{builderLength, builderRow, unusable, laterBound, noBuilder, builderIn, builderStep, modelLength, modelWords};
 ghost use Rattle.exports_choice.specs.inner.Answers.{builderStepOf};
 
@@ -145,7 +145,7 @@ fn builder_step(answer: UpdateAnswer) -> BuilderStep
 const MODEL_WORDS: usize = 5;
 
 fn put_model(out: &mut [u64], m: SelectedModel) -> u32
-    ensures number { λ r. ⌜ r ≡ numberOf modelLength (length (now (out .entry))) (answered m) ⌝ }
+    ensures fault { λ r. ⌜ r ≡ faultSaid modelLength (length (now (out .entry))) (answered m) ⌝ }
     ensures row { λ r. ⌜ now (out .exit) ≡ rowAfter modelLength modelWords (now (out .entry)) (answered m) ⌝ }
 {
     let words = [
@@ -163,11 +163,11 @@ fn put_model(out: &mut [u64], m: SelectedModel) -> u32
 // The builder before any value into the row.
 #[no_mangle]
 pub extern "C" fn modelardb_model_builder_new(kind: u32, bound: u32, state: &mut [u64]) -> u32
-    ensures number { λ r. ⌜ r ≡ numberOf builderLength (length (now (state .entry))) (newAnswer (boundOf kind bound)) ⌝ }
+    ensures fault { λ r. ⌜ r ≡ faultSaid builderLength (length (now (state .entry))) (newAnswer (boundOf kind bound)) ⌝ }
     ensures row { λ r. ⌜ now (state .exit) ≡ rowAfter builderLength builderRow (now (state .entry)) (newAnswer (boundOf kind bound)) ⌝ }
 {
     match ModelBuilder::new(exports::bound_of(kind, bound)) {
-        NewAnswer::Refused(r) => exports::number_with(r, BUILDER_WORDS, state.len()),
+        NewAnswer::Refused(r) => exports::fault_with(r, BUILDER_WORDS, state.len()),
         NewAnswer::Answered(b) => { exports::put_said(Verdict::Passed, &builder_words(b), state) }
     }
 }
@@ -180,7 +180,7 @@ pub extern "C" fn modelardb_model_builder_try_to_update_models(
     timestamp: i64,
     value: u32,
 ) -> u32
-    ensures number { λ r. ⌜ r ≡ stepNumber (updateAnswer (builderIn (now (state .entry))) timestamp value) ⌝ }
+    ensures fault { λ r. ⌜ r ≡ stepFault (updateAnswer (builderIn (now (state .entry))) timestamp value) ⌝ }
     ensures row { λ r. ⌜ now (state .exit) ≡ stepRow builderStep (now (state .entry)) (updateAnswer (builderIn (now (state .entry))) timestamp value) ⌝ }
 {
     let after = builder_step(builder_in(state).try_to_update_models(timestamp, value));
@@ -192,12 +192,12 @@ pub extern "C" fn modelardb_model_builder_try_to_update_models(
 // The model that needs fewer bytes for each value, with metadata of m bytes, into `out`.
 #[no_mangle]
 pub extern "C" fn modelardb_model_builder_finish(state: &[u64], m: usize, out: &mut [u64]) -> u32
-    ensures number { λ r. ⌜ r ≡ askNumber modelLength (length (now (out .entry))) (finishAnswer (builderIn (now (state .entry))) m) ⌝ }
+    ensures fault { λ r. ⌜ r ≡ askFault modelLength (length (now (out .entry))) (finishAnswer (builderIn (now (state .entry))) m) ⌝ }
     ensures row { λ r. ⌜ now (out .exit) ≡ askRow modelLength modelWords (now (out .entry)) (finishAnswer (builderIn (now (state .entry))) m) ⌝ }
 {
     let b = builder_in(state);
     match b.finish(m) {
-        FinishAnswer::Refused(r, _) => exports::number_with(r, MODEL_WORDS, out.len()),
+        FinishAnswer::Refused(r, _) => exports::fault_with(r, MODEL_WORDS, out.len()),
         FinishAnswer::Answered(model) => put_model(out, model),
     }
 }
@@ -213,12 +213,12 @@ pub extern "C" fn modelardb_choose_model(
     m: usize,
     out: &mut [u64],
 ) -> u32
-    ensures number { λ r. ⌜ r ≡ numberOf modelLength (length (now (out .entry))) (choiceAnswer (now (timestamps .entry)) (now (values .entry)) (boundOf kind bound) m) ⌝ }
+    ensures fault { λ r. ⌜ r ≡ faultSaid modelLength (length (now (out .entry))) (choiceAnswer (now (timestamps .entry)) (now (values .entry)) (boundOf kind bound) m) ⌝ }
     ensures row { λ r. ⌜ now (out .exit) ≡ rowAfter modelLength modelWords (now (out .entry)) (choiceAnswer (now (timestamps .entry)) (now (values .entry)) (boundOf kind bound) m) ⌝ }
 {
     let b = exports::bound_of(kind, bound);
     match choice::choose_model(timestamps, values, b, m) {
-        ChoiceAnswer::Refused(r) => exports::number_with(r, MODEL_WORDS, out.len()),
+        ChoiceAnswer::Refused(r) => exports::fault_with(r, MODEL_WORDS, out.len()),
         ChoiceAnswer::Answered(model) => put_model(out, model),
     }
 }

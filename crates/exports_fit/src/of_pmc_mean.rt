@@ -10,17 +10,17 @@ ghost use lib.ListN.{length};
 ghost use Rattle.models.specs.Answers.{verdict};
 ghost use Rattle.pmc_mean.specs.Calls.{newAnswer, fitAnswer, costAnswer, modelAnswer};
 ghost use Rattle.pmc_mean.specs.Grid.{sumAnswer, gridCauses, gridMemory};
-ghost use Rattle.exports.specs.Face.{boundOf, numberOf, rowAfter, plainNumber, stepNumber, stepRow, askNumber, askRow, oneWord, wordOf32};
+ghost use Rattle.exports.specs.Face.{boundOf, faultSaid, rowAfter, plainFault, stepFault, stepRow, askFault, askRow, oneWord, wordOf32};
 ghost use Rattle.exports_fit.specs.Row.{pmcLength, pmcIn, pmcFresh, pmcStepRow};
 
 // The state before any value into the row.
 #[no_mangle]
 pub extern "C" fn modelardb_pmc_mean_new(kind: u32, bound: u32, state: &mut [u64]) -> u32
-    ensures number { λ r. ⌜ r ≡ numberOf pmcLength (length (now (state .entry))) (newAnswer (boundOf kind bound)) ⌝ }
+    ensures fault { λ r. ⌜ r ≡ faultSaid pmcLength (length (now (state .entry))) (newAnswer (boundOf kind bound)) ⌝ }
     ensures row { λ r. ⌜ now (state .exit) ≡ rowAfter pmcLength pmcFresh (now (state .entry)) (newAnswer (boundOf kind bound)) ⌝ }
 {
     match PMCMean::new(exports::bound_of(kind, bound)) {
-        NewAnswer::Refused(r) => exports::number_with(r, rows::PMC_WORDS, state.len()),
+        NewAnswer::Refused(r) => exports::fault_with(r, rows::PMC_WORDS, state.len()),
         NewAnswer::Answered(s) => {
             exports::put_said(Verdict::Passed, &rows::pmc_words(s, false), state)
         }
@@ -30,7 +30,7 @@ pub extern "C" fn modelardb_pmc_mean_new(kind: u32, bound: u32, state: &mut [u64
 // Tries one more value; the row becomes the state after it, its last word 1 where the value fitted.
 #[no_mangle]
 pub extern "C" fn modelardb_pmc_mean_fit_value(state: &mut [u64], value: u32) -> u32
-    ensures number { λ r. ⌜ r ≡ stepNumber (fitAnswer (pmcIn (now (state .entry))) value) ⌝ }
+    ensures fault { λ r. ⌜ r ≡ stepFault (fitAnswer (pmcIn (now (state .entry))) value) ⌝ }
     ensures row { λ r. ⌜ now (state .exit) ≡ stepRow pmcStepRow (now (state .entry)) (fitAnswer (pmcIn (now (state .entry))) value) ⌝ }
 {
     let after = rows::pmc_step(rows::pmc_in(state).fit_value(value));
@@ -46,7 +46,7 @@ pub extern "C" fn modelardb_pmc_mean_bytes_per_value(
     m: usize,
     out: &mut [u32],
 ) -> u32
-    ensures number { λ r. ⌜ r ≡ askNumber 1 (length (now (out .entry))) (costAnswer (pmcIn (now (state .entry))) m) ⌝ }
+    ensures fault { λ r. ⌜ r ≡ askFault 1 (length (now (out .entry))) (costAnswer (pmcIn (now (state .entry))) m) ⌝ }
     ensures row { λ r. ⌜ now (out .exit) ≡ askRow 1 wordOf32 (now (out .entry)) (costAnswer (pmcIn (now (state .entry))) m) ⌝ }
 {
     let answer = rows::pmc_in(state).bytes_per_value(m);
@@ -56,7 +56,7 @@ pub extern "C" fn modelardb_pmc_mean_bytes_per_value(
 // The average's pattern into out[0].
 #[no_mangle]
 pub extern "C" fn modelardb_pmc_mean_model(state: &[u64], out: &mut [u32]) -> u32
-    ensures number { λ r. ⌜ r ≡ askNumber 1 (length (now (out .entry))) (modelAnswer (pmcIn (now (state .entry)))) ⌝ }
+    ensures fault { λ r. ⌜ r ≡ askFault 1 (length (now (out .entry))) (modelAnswer (pmcIn (now (state .entry)))) ⌝ }
     ensures row { λ r. ⌜ now (out .exit) ≡ askRow 1 oneWord (now (out .entry)) (modelAnswer (pmcIn (now (state .entry)))) ⌝ }
 {
     let answer = rows::pmc_in(state).model();
@@ -66,7 +66,7 @@ pub extern "C" fn modelardb_pmc_mean_model(state: &[u64], out: &mut [u32]) -> u3
 // The pattern of the sum of `count` values into out[0].
 #[no_mangle]
 pub extern "C" fn modelardb_pmc_mean_sum(count: usize, value: u32, out: &mut [u32]) -> u32
-    ensures number { λ r. ⌜ r ≡ numberOf 1 (length (now (out .entry))) (sumAnswer count value) ⌝ }
+    ensures fault { λ r. ⌜ r ≡ faultSaid 1 (length (now (out .entry))) (sumAnswer count value) ⌝ }
     ensures row { λ r. ⌜ now (out .exit) ≡ rowAfter 1 oneWord (now (out .entry)) (sumAnswer count value) ⌝ }
 {
     exports::put_value(pmc_mean::sum(count, value), out)
@@ -75,11 +75,11 @@ pub extern "C" fn modelardb_pmc_mean_sum(count: usize, value: u32, out: &mut [u3
 // The value `count` times to the front of `out`.
 #[no_mangle]
 pub extern "C" fn modelardb_pmc_mean_grid(value: u32, count: usize, out: &mut [u32]) -> u32
-    ensures number { λ r. ⌜ r ≡ plainNumber (verdict (gridCauses count (length (now (out .entry))))) ⌝ }
+    ensures fault { λ r. ⌜ r ≡ plainFault (verdict (gridCauses count (length (now (out .entry))))) ⌝ }
     ensures row { λ r. ⌜ now (out .exit) ≡ gridMemory value count (now (out .entry)) ⌝ }
 {
     match pmc_mean::grid(value, count, out) {
-        GridAnswer::Refused(r) => models::number_of(r),
+        GridAnswer::Refused(r) => models::fault_of(r),
         GridAnswer::Drawn => 0,
     }
 }

@@ -11,17 +11,17 @@ ghost use Rattle.models.specs.Answers.{verdict};
 ghost use Rattle.lines.specs.Line.{pointOf};
 ghost use Rattle.swing.specs.Calls.{newAnswer, fitAnswer, costAnswer, modelAnswer};
 ghost use Rattle.swing.specs.Grid.{averageAnswer, sumAnswer, gridCauses, gridMemory};
-ghost use Rattle.exports.specs.Face.{boundOf, numberOf, rowAfter, plainNumber, stepNumber, stepRow, askNumber, askRow, oneWord, wordOf32};
+ghost use Rattle.exports.specs.Face.{boundOf, faultSaid, rowAfter, plainFault, stepFault, stepRow, askFault, askRow, oneWord, wordOf32};
 ghost use Rattle.exports_fit.specs.Row.{swingLength, swingIn, swingFresh, swingStepRow, endsRow};
 
 // The state before any point into the row.
 #[no_mangle]
 pub extern "C" fn modelardb_swing_new(kind: u32, bound: u32, state: &mut [u64]) -> u32
-    ensures number { λ r. ⌜ r ≡ numberOf swingLength (length (now (state .entry))) (newAnswer (boundOf kind bound)) ⌝ }
+    ensures fault { λ r. ⌜ r ≡ faultSaid swingLength (length (now (state .entry))) (newAnswer (boundOf kind bound)) ⌝ }
     ensures row { λ r. ⌜ now (state .exit) ≡ rowAfter swingLength swingFresh (now (state .entry)) (newAnswer (boundOf kind bound)) ⌝ }
 {
     match Swing::new(exports::bound_of(kind, bound)) {
-        NewAnswer::Refused(r) => exports::number_with(r, rows::SWING_WORDS, state.len()),
+        NewAnswer::Refused(r) => exports::fault_with(r, rows::SWING_WORDS, state.len()),
         NewAnswer::Answered(s) => {
             exports::put_said(Verdict::Passed, &rows::swing_words(s, false), state)
         }
@@ -35,7 +35,7 @@ pub extern "C" fn modelardb_swing_fit_data_point(
     timestamp: i64,
     value: u32,
 ) -> u32
-    ensures number { λ r. ⌜ r ≡ stepNumber (fitAnswer (swingIn (now (state .entry))) timestamp value) ⌝ }
+    ensures fault { λ r. ⌜ r ≡ stepFault (fitAnswer (swingIn (now (state .entry))) timestamp value) ⌝ }
     ensures row { λ r. ⌜ now (state .exit) ≡ stepRow swingStepRow (now (state .entry)) (fitAnswer (swingIn (now (state .entry))) timestamp value) ⌝ }
 {
     let after = rows::swing_step(rows::swing_in(state).fit_data_point(timestamp, value));
@@ -47,7 +47,7 @@ pub extern "C" fn modelardb_swing_fit_data_point(
 // The f32 pattern of the bytes for each value into out[0].
 #[no_mangle]
 pub extern "C" fn modelardb_swing_bytes_per_value(state: &[u64], m: usize, out: &mut [u32]) -> u32
-    ensures number { λ r. ⌜ r ≡ askNumber 1 (length (now (out .entry))) (costAnswer (swingIn (now (state .entry))) m) ⌝ }
+    ensures fault { λ r. ⌜ r ≡ askFault 1 (length (now (out .entry))) (costAnswer (swingIn (now (state .entry))) m) ⌝ }
     ensures row { λ r. ⌜ now (out .exit) ≡ askRow 1 wordOf32 (now (out .entry)) (costAnswer (swingIn (now (state .entry))) m) ⌝ }
 {
     let answer = rows::swing_in(state).bytes_per_value(m);
@@ -57,7 +57,7 @@ pub extern "C" fn modelardb_swing_bytes_per_value(state: &[u64], m: usize, out: 
 // The patterns of the line's first and last value into out[0] and out[1].
 #[no_mangle]
 pub extern "C" fn modelardb_swing_model(state: &[u64], out: &mut [u32]) -> u32
-    ensures number { λ r. ⌜ r ≡ askNumber 2 (length (now (out .entry))) (modelAnswer (swingIn (now (state .entry)))) ⌝ }
+    ensures fault { λ r. ⌜ r ≡ askFault 2 (length (now (out .entry))) (modelAnswer (swingIn (now (state .entry)))) ⌝ }
     ensures row { λ r. ⌜ now (out .exit) ≡ askRow 2 endsRow (now (out .entry)) (modelAnswer (swingIn (now (state .entry)))) ⌝ }
 {
     let answer = rows::swing_in(state).model();
@@ -74,7 +74,7 @@ pub extern "C" fn modelardb_swing_sum_by_average(
     count: usize,
     out: &mut [u32],
 ) -> u32
-    ensures number { λ r. ⌜ r ≡ numberOf 1 (length (now (out .entry))) (averageAnswer (pointOf «start_time» «first_value») (pointOf «end_time» «last_value») count) ⌝ }
+    ensures fault { λ r. ⌜ r ≡ faultSaid 1 (length (now (out .entry))) (averageAnswer (pointOf «start_time» «first_value») (pointOf «end_time» «last_value») count) ⌝ }
     ensures row { λ r. ⌜ now (out .exit) ≡ rowAfter 1 oneWord (now (out .entry)) (averageAnswer (pointOf «start_time» «first_value») (pointOf «end_time» «last_value») count) ⌝ }
 {
     exports::put_value(
@@ -93,7 +93,7 @@ pub extern "C" fn modelardb_swing_sum_over(
     timestamps: &[i64],
     out: &mut [u32],
 ) -> u32
-    ensures number { λ r. ⌜ r ≡ numberOf 1 (length (now (out .entry))) (sumAnswer (pointOf «start_time» «first_value») (pointOf «end_time» «last_value») (now (timestamps .entry))) ⌝ }
+    ensures fault { λ r. ⌜ r ≡ faultSaid 1 (length (now (out .entry))) (sumAnswer (pointOf «start_time» «first_value») (pointOf «end_time» «last_value») (now (timestamps .entry))) ⌝ }
     ensures row { λ r. ⌜ now (out .exit) ≡ rowAfter 1 oneWord (now (out .entry)) (sumAnswer (pointOf «start_time» «first_value») (pointOf «end_time» «last_value») (now (timestamps .entry))) ⌝ }
 {
     exports::put_value(
@@ -112,7 +112,7 @@ pub extern "C" fn modelardb_swing_grid(
     timestamps: &[i64],
     out: &mut [u32],
 ) -> u32
-    ensures number { λ r. ⌜ r ≡ plainNumber (verdict (gridCauses (pointOf «start_time» «first_value») (pointOf «end_time» «last_value») (now (timestamps .entry)) (length (now (out .entry))))) ⌝ }
+    ensures fault { λ r. ⌜ r ≡ plainFault (verdict (gridCauses (pointOf «start_time» «first_value») (pointOf «end_time» «last_value») (now (timestamps .entry)) (length (now (out .entry))))) ⌝ }
     ensures row { λ r. ⌜ now (out .exit) ≡ gridMemory (pointOf «start_time» «first_value») (pointOf «end_time» «last_value») (now (timestamps .entry)) (now (out .entry)) ⌝ }
 {
     match swing::grid(
@@ -123,7 +123,7 @@ pub extern "C" fn modelardb_swing_grid(
         timestamps,
         out,
     ) {
-        GridAnswer::Refused(r) => models::number_of(r),
+        GridAnswer::Refused(r) => models::fault_of(r),
         GridAnswer::Drawn => 0,
     }
 }

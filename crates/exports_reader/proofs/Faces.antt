@@ -13,7 +13,7 @@ use Rattle.models.proofs.Judged.{not-answered-on}
 use Rattle.models.proofs.Tests.{and-left, and-right, and-parts, and-false}
 use Rattle.stream.specs.Format.{keepsRule}
 use Rattle.macaque_v.specs.Calls.{lentBytes}
-use Rattle.exports.specs.Face.{refusalNumber, numberOf, rowAfter, askNumber, askRow, rowIn, stepRow}
+use Rattle.exports.specs.Face.{refusalFault, faultSaid, rowAfter, askFault, askRow, rowIn, stepRow}
 use Rattle.exports.specs.Words.{small}
 use Rattle.exports.proofs.Back.{flag-small, flag-back}
 use Rattle.exports.proofs.Small.{low-is}
@@ -22,12 +22,12 @@ use Rattle.exports_stream.specs.Calls.{openingOf}
 use Rattle.reader.specs.Calls.{openedAt, mayUse, Taken, nextAnswer, endAnswer}
 use Rattle.reader.specs.declared.position.Position.{Position}
 use Rattle.exports_reader.specs.Row.{readerLength, readerRow, standsForReader, spoiledPosition, readPosition, positionIn}
-use Rattle.exports_reader.specs.Calls.{openNumber, openRow, oneValue, movedRow, nextRow}
+use Rattle.exports_reader.specs.Calls.{openFault, openRow, oneValue, movedRow, nextRow}
 
 -- ---- open
 pub open-said : (mode opening : ℕ) (row : List ℕ) → mode ≤ 1 → {number : ℕ} {after : List ℕ} → Faced readerRow readerLength row (answered (openedAt (openingOf mode opening))) number after
-    → (number ≡ openNumber mode row) × (after ≡ openRow mode opening row)
-unfolding openNumber openRow judge numberOf rowAfter
+    → (number ≡ openFault mode row) × (after ≡ openRow mode opening row)
+unfolding openFault openRow judge faultSaid rowAfter
 open-said mode opening row one f =
     let e : ltb 1 mode ≡ false = le-ltb 1 mode one in
     let g = held (leb readerLength (length row)) refl in
@@ -47,9 +47,9 @@ open-said mode opening row one f =
 module _ (row out : List ℕ) (said : SaidOn Position Taken) where
   -- the number, the reader's row and the output
   abbrev Nexted : ℕ → List ℕ → List ℕ → Type 0
-  Nexted number row′ out′ = (number ≡ askNumber 1 (length out) said) × (row′ ≡ nextRow row out said) × (out′ ≡ askRow 1 oneValue out said)
+  Nexted number row′ out′ = (number ≡ askFault 1 (length out) said) × (row′ ≡ nextRow row out said) × (out′ ≡ askRow 1 oneValue out said)
 
-  pub next-refused : (f : Fault) (p : Position) → said ≡ refusedOn f p → Nexted (refusalNumber 1 (length out) (f .number)) row out
+  pub next-refused : (f : Fault) (p : Position) → said ≡ refusedOn f p → Nexted (refusalFault 1 (length out) (f .number)) row out
   unfolding nextRow
   next-refused f p e =
       let a = refused-row oneValue 1 out (stateless said) f (ap stateless e) refl in

@@ -30,18 +30,18 @@ use Rattle.macaque_v.specs.Made.{keptOf}
 use Rattle.macaque_v.specs.declared.Opening.{Opening}
 use Rattle.macaque_v.specs.declared.Opening.the-variants.{First, On}
 use Rattle.macaque_v.proofs.Promises.{values-read-back, lossless-keeps-the-inputs}
-use Rattle.exports.specs.Face.{beforeShort, refusalNumber, numberOf, rowAfter, plainNumber}
+use Rattle.exports.specs.Face.{beforeShort, refusalFault, faultSaid, rowAfter, plainFault}
 use Rattle.exports_stream.proofs.Numbers.{judged-so}
 use Rattle.exports_stream.proofs.Promises.{place-word, length-word}
 use Rattle.exports_stream.specs.Row.{writerIn, bytesInUse, lengthWord}
-use Rattle.exports_stream.specs.Calls.{openingOf, gridNumber, gridOut, RowMade}
+use Rattle.exports_stream.specs.Calls.{openingOf, gridFault, gridOut, RowMade}
 use Rattle.reader.specs.Calls.{openedAt, Taken, nextCauses, handed, nextRead, nextAnswer, endAnswer}
 use Rattle.reader.specs.Run.{also, andThen, nexts, ifEnded, andEnd}
 use Rattle.reader.specs.declared.position.Position.{Position}
 use Rattle.reader.proofs.Promises.{cons, also-cons, n-nexts-and-the-end, as-the-grid}
 use Rattle.exports_reader.specs.Row.{readerLength, standsForReader, positionIn}
-use Rattle.exports_reader.specs.Calls.{openNumber, openRow, nextRow, endNumber}
-use Rattle.exports_reader.specs.Run.{nextNumber, nextMoved, nextOut, ifZero, andLater, readThrough, EachAnswersZero}
+use Rattle.exports_reader.specs.Calls.{openFault, openRow, nextRow, endFault}
+use Rattle.exports_reader.specs.Run.{nextFault, nextMoved, nextOut, ifZero, andLater, readThrough, EachAnswersZero}
 use Rattle.exports_reader.proofs.Faces.{short-stands-for-none, no-reader, small-words, a-reader, no-reader-next, no-reader-end, position-back}
 
 -- ---- a reader whose words are of 32 bits is read back from its row, and its next leads to such a one
@@ -85,16 +85,16 @@ module _ (bytes : List ℕ) (p : Position) (small : Small p) where
 -- ---- the row that a call left stands for the reader that it made
 
 pub an-opened-row : (mode opening : ℕ) (row : List ℕ) → mode ≤ 1 → readerLength ≤ length row → openingValue (openingOf mode opening) < 2 ^ 32
-    → (openNumber mode row ≡ 0) × (positionIn (openRow mode opening row) ≡ openedAt (openingOf mode opening))
-unfolding openNumber openRow judge
+    → (openFault mode row ≡ 0) × (positionIn (openRow mode opening row) ≡ openedAt (openingOf mode opening))
+unfolding openFault openRow judge
 an-opened-row mode opening row one words h =
     let s = open-small (openingOf mode opening) h in
     rw (le-ltb 1 mode one, le-ltb (length row) readerLength words) (refl, position-back (openedAt (openingOf mode opening)) _ (s .last) (s .lead) (s .trail))
 
 module _ (bytes row out : List ℕ) (room : 1 ≤ length out) (t : Taken) (h : nextAnswer bytes (positionIn row) ≡ answeredOn t) where
   -- a next that the reader answers is 0, puts the value into out[0], and the row stands for the reader behind it
-  pub a-row-moves : (nextNumber bytes row out ≡ 0) × (nextOut bytes row out ≡ t .value ∷ drop 1 out) × (positionIn (nextMoved bytes row out) ≡ t .after)
-  unfolding numberOf rowAfter nextRow
+  pub a-row-moves : (nextFault bytes row out ≡ 0) × (nextOut bytes row out ≡ t .value ∷ drop 1 out) × (positionIn (nextMoved bytes row out) ≡ t .after)
+  unfolding faultSaid rowAfter nextRow
   a-row-moves =
       let s = next-small bytes (positionIn row) (row-small row) t h in
       rw (h, le-leb 1 (length out) room) (refl, refl, position-back (t .after) _ (s .last) (s .lead) (s .trail))
@@ -132,7 +132,7 @@ told (suc n) later h = refl
 -- ---- reading through a row
 
 module _ (bytes : List ℕ) where
-  ends : (a : Said Done) → Numbered a → ifZero (plainNumber a) (answered []) ≡ ifEnded [] a
+  ends : (a : Said Done) → Numbered a → ifZero (plainFault a) (answered []) ≡ ifEnded [] a
   ends (answered u) h = refl
   ends (refused f) h = told (f .number) (answered []) h
 
@@ -141,8 +141,8 @@ module _ (bytes : List ℕ) where
   same-later v (refused f) = refl
 
   -- a refused next, with an output of one place or more
-  next-refused-with : (row out : List ℕ) → 1 ≤ length out → (f : Fault) (p : Position) → nextAnswer bytes (positionIn row) ≡ refusedOn f p → nextNumber bytes row out ≡ f .number
-  unfolding numberOf refusalNumber
+  next-refused-with : (row out : List ℕ) → 1 ≤ length out → (f : Fault) (p : Position) → nextAnswer bytes (positionIn row) ≡ refusedOn f p → nextFault bytes row out ≡ f .number
+  unfolding faultSaid refusalFault
   next-refused-with row out room f p e = rw (e, le-leb 1 (length out) room, or-right (beforeShort (f .number)) true refl)
 
   -- through whatever row, with an output of one place or more: n nexts and the end hand over what the reader reads that the row stands for, or answer
@@ -154,7 +154,7 @@ module _ (bytes : List ℕ) where
     where
       go : (q : SaidOn Position Taken) → nextAnswer bytes (positionIn row) ≡ q
           → ((row′ out′ : List ℕ) → 1 ≤ length out′ → readThrough bytes n row′ out′ ≡ andEnd bytes (nexts bytes n (positionIn row′)))
-          → ifZero (nextNumber bytes row out) (andLater (getD (nextOut bytes row out) 0 0) (readThrough bytes n (nextMoved bytes row out) (nextOut bytes row out)))
+          → ifZero (nextFault bytes row out) (andLater (getD (nextOut bytes row out) 0 0) (readThrough bytes n (nextMoved bytes row out) (nextOut bytes row out)))
           ≡ andEnd bytes (andThen q (λ t. also (t .value) (nexts bytes n (t .after))))
       go (answeredOn t) e ih =
           let m = a-row-moves bytes row out room t e in
@@ -171,14 +171,14 @@ module _ (bytes : List ℕ) where
   -- the same, call by call
   each : (n : ℕ) (row out : List ℕ) (vs : List ℕ) → readThrough bytes n row out ≡ answered vs → EachAnswersZero bytes row out vs
   unfolding readThrough
-  each zero row out vs e = ended-so (endNumber bytes row) refl e
+  each zero row out vs e = ended-so (endFault bytes row) refl e
     where
-      ended-so : (k : ℕ) → endNumber bytes row ≡ k → ifZero k (answered []) ≡ answered vs → EachAnswersZero bytes row out vs
+      ended-so : (k : ℕ) → endFault bytes row ≡ k → ifZero k (answered []) ≡ answered vs → EachAnswersZero bytes row out vs
       ended-so zero z e = subst (EachAnswersZero bytes row out) (same-answer e) z
       ended-so (suc k) z e = absurd (not-answered e)
-  each (suc n) row out vs e = go (nextNumber bytes row out) refl (readThrough bytes n (nextMoved bytes row out) (nextOut bytes row out)) refl e (λ us r. each n (nextMoved bytes row out) (nextOut bytes row out) us r)
+  each (suc n) row out vs e = go (nextFault bytes row out) refl (readThrough bytes n (nextMoved bytes row out) (nextOut bytes row out)) refl e (λ us r. each n (nextMoved bytes row out) (nextOut bytes row out) us r)
     where
-      go : (k : ℕ) → nextNumber bytes row out ≡ k → (q : Said (List ℕ)) → readThrough bytes n (nextMoved bytes row out) (nextOut bytes row out) ≡ q
+      go : (k : ℕ) → nextFault bytes row out ≡ k → (q : Said (List ℕ)) → readThrough bytes n (nextMoved bytes row out) (nextOut bytes row out) ≡ q
           → ifZero k (andLater (getD (nextOut bytes row out) 0 0) q) ≡ answered vs
           → ((us : List ℕ) → readThrough bytes n (nextMoved bytes row out) (nextOut bytes row out) ≡ answered us → EachAnswersZero bytes (nextMoved bytes row out) (nextOut bytes row out) us)
           → EachAnswersZero bytes row out vs
@@ -191,20 +191,20 @@ module _ (bytes : List ℕ) where
   module _ (mode opening : ℕ) (row out : List ℕ) (one : mode ≤ 1) (words : readerLength ≤ length row) (room : 1 ≤ length out) (h : openingValue (openingOf mode opening) < 2 ^ 32)
       (n : ℕ) (few : n ≤ mostValues) where
     -- the open is 0, and the nexts and the end hand over the values that reading takes of a count of n, or answer its refusal, 5 to 8
-    pub n-nexts-and-the-end-through-a-row : (openNumber mode row ≡ 0) × (readThrough bytes n (openRow mode opening row) out ≡ valuesIn bytes n (openingOf mode opening))
+    pub n-nexts-and-the-end-through-a-row : (openFault mode row ≡ 0) × (readThrough bytes n (openRow mode opening row) out ≡ valuesIn bytes n (openingOf mode opening))
     n-nexts-and-the-end-through-a-row =
         let o = an-opened-row mode opening row one words h in
         (o .0, through-a-row n (openRow mode opening row) out room ∙ ap (λ (p : Position). andEnd bytes (nexts bytes n p)) (o .1) ∙ n-nexts-and-the-end bytes (openingOf mode opening) h n few)
 
     -- as the grid of the C face answers and draws them, where it has room
     pub as-the-grid-through-a-row : (grid : List ℕ) → n ≤ length grid
-        → (gridNumber bytes n mode opening grid ≡ plainNumber (drawn (readThrough bytes n (openRow mode opening row) out)))
+        → (gridFault bytes n mode opening grid ≡ plainFault (drawn (readThrough bytes n (openRow mode opening row) out)))
         × (gridOut bytes n mode opening grid ≡ drawnIn grid (readThrough bytes n (openRow mode opening row) out))
-    unfolding gridNumber gridOut
+    unfolding gridFault gridOut
     as-the-grid-through-a-row grid fits =
         let g = as-the-grid bytes (openingOf mode opening) h n few grid fits in
         let same = n-nexts-and-the-end bytes (openingOf mode opening) h n few ∙ sym (n-nexts-and-the-end-through-a-row .1) in
-        rw (le-leb mode 1 one) (ap plainNumber (g .0) ∙ ap (λ (q : Said (List ℕ)). plainNumber (drawn q)) same, g .1 ∙ ap (drawnIn grid) same)
+        rw (le-leb mode 1 one) (ap plainFault (g .0) ∙ ap (λ (q : Said (List ℕ)). plainFault (drawn q)) same, g .1 ∙ ap (drawnIn grid) same)
 
     -- so of a stream that reads as n values each next answers 0 and the next of them, and the end answers 0
     pub each-answers-0 : (vs : List ℕ) → valuesIn bytes n (openingOf mode opening) ≡ answered vs → EachAnswersZero bytes (openRow mode opening row) out vs
@@ -233,9 +233,9 @@ module _ (mode opening : ℕ) {xs buf writer : List ℕ} (R : RowMade Lossless (
 
 -- a row that stands for no reader, one that is too short among them, is refused with 2 by next and by end
 module _ (bytes row : List ℕ) where
-  pub no-reader-is-2 : standsForReader row ≡ false → ((out : List ℕ) → nextNumber bytes row out ≡ 2) × (endNumber bytes row ≡ 2)
-  unfolding numberOf refusalNumber
-  no-reader-is-2 h = (λ out. rw (no-reader-next bytes row h), ap plainNumber (no-reader-end bytes row h))
+  pub no-reader-is-2 : standsForReader row ≡ false → ((out : List ℕ) → nextFault bytes row out ≡ 2) × (endFault bytes row ≡ 2)
+  unfolding faultSaid refusalFault
+  no-reader-is-2 h = (λ out. rw (no-reader-next bytes row h), ap plainFault (no-reader-end bytes row h))
 
-  pub a-short-row-is-2 : length row < readerLength → ((out : List ℕ) → nextNumber bytes row out ≡ 2) × (endNumber bytes row ≡ 2)
+  pub a-short-row-is-2 : length row < readerLength → ((out : List ℕ) → nextFault bytes row out ≡ 2) × (endFault bytes row ≡ 2)
   a-short-row-is-2 h = no-reader-is-2 (short-stands-for-none row h)

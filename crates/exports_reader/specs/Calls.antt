@@ -4,8 +4,8 @@ use mathlib.Core.List.{List, [], _∷_}
 use Prim.Native.Nat.{ℕ}
 use lib.Dec.{leb, ltb}
 use lib.ListN.{length}
-use Rattle.models.specs.Answers.{SaidOn, answered, Cause, _when_, judge, judgedMemory, faultNumber}
-use Rattle.exports.specs.Face.{plainNumber, rowIn, stepRow}
+use Rattle.models.specs.Answers.{SaidOn, answered, Cause, _when_, judge, judgedMemory, itself}
+use Rattle.exports.specs.Face.{plainFault, rowIn, stepRow}
 use Rattle.exports_stream.specs.Calls.{openingOf}
 use Rattle.reader.specs.Calls.{openedAt, Taken, endAnswer}
 use Rattle.reader.specs.declared.position.Position.{Position}
@@ -16,8 +16,8 @@ use Rattle.exports_reader.specs.Row.{readerLength, readerRow, positionIn
 abbrev pub openCauses : ℕ → ℕ → List Cause
 openCauses mode words = 3 when ltb 1 mode ∷ 4 when ltb words readerLength ∷ []
 
-unfoldable pub openNumber : ℕ → List ℕ → ℕ
-openNumber mode row = judge faultNumber (openCauses mode (length row)) 0
+unfoldable pub openFault : ℕ → List ℕ → ℕ
+openFault mode row = judge itself (openCauses mode (length row)) 0
 
 unfoldable pub openRow : ℕ → ℕ → List ℕ → List ℕ
 openRow mode opening row = judgedMemory row (openCauses mode (length row)) (rowIn readerRow row (answered (openedAt (openingOf mode opening))))
@@ -35,5 +35,5 @@ nextRow row out said = cond (leb 1 (length out)) (stepRow movedRow row said) row
 
 -- ---- end
 
-abbrev pub endNumber : List ℕ → List ℕ → ℕ
-endNumber bytes row = plainNumber (endAnswer bytes (positionIn row))
+abbrev pub endFault : List ℕ → List ℕ → ℕ
+endFault bytes row = plainFault (endAnswer bytes (positionIn row))

@@ -4,15 +4,15 @@ use mathlib.Core.List.{List, [], _∷_}
 use Prim.Native.Nat.{ℕ, zero, suc}
 use lib.ListN.{length, getD}
 use Rattle.models.specs.Answers.{Said, answered, refused, fault}
-use Rattle.exports.specs.Face.{askNumber, askRow}
+use Rattle.exports.specs.Face.{askFault, askRow}
 use Rattle.reader.specs.Calls.{nextAnswer}
 use Rattle.exports_reader.specs.Row.{positionIn}
-use Rattle.exports_reader.specs.Calls.{oneValue, nextRow, endNumber}
+use Rattle.exports_reader.specs.Calls.{oneValue, nextRow, endFault}
 
 -- ---- one next: the number, the row and the output
 
-abbrev pub nextNumber : List ℕ → List ℕ → List ℕ → ℕ
-nextNumber bytes row out = askNumber 1 (length out) (nextAnswer bytes (positionIn row))
+abbrev pub nextFault : List ℕ → List ℕ → List ℕ → ℕ
+nextFault bytes row out = askFault 1 (length out) (nextAnswer bytes (positionIn row))
 
 abbrev pub nextMoved : List ℕ → List ℕ → List ℕ → List ℕ
 nextMoved bytes row out = nextRow row out (nextAnswer bytes (positionIn row))
@@ -32,15 +32,15 @@ andLater v (answered vs) = answered (v ∷ vs)
 andLater v (refused f) = refused f
 
 unfoldable pub readThrough : List ℕ → ℕ → List ℕ → List ℕ → Said (List ℕ)
-readThrough bytes zero row out = ifZero (endNumber bytes row) (answered [])
+readThrough bytes zero row out = ifZero (endFault bytes row) (answered [])
 readThrough bytes (suc n) row out =
-    ifZero (nextNumber bytes row out)
+    ifZero (nextFault bytes row out)
     (andLater (getD (nextOut bytes row out) 0 0) (readThrough bytes n (nextMoved bytes row out) (nextOut bytes row out)))
 
 -- the same, call by call: each next answers 0 and puts its value into out[0], and behind them the end answers 0
 abbrev pub EachAnswersZero : List ℕ → List ℕ → List ℕ → List ℕ → Type 0
-EachAnswersZero bytes row out [] = endNumber bytes row ≡ 0
+EachAnswersZero bytes row out [] = endFault bytes row ≡ 0
 EachAnswersZero bytes row out (v ∷ vs) =
-    (nextNumber bytes row out ≡ 0)
+    (nextFault bytes row out ≡ 0)
     × (getD (nextOut bytes row out) 0 0 ≡ v)
     × EachAnswersZero bytes (nextMoved bytes row out) (nextOut bytes row out) vs

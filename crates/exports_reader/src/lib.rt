@@ -3,12 +3,12 @@
 // changes nothing that was lent.
 ghost use mathlib.Core.Path.{_≡_};
 ghost use lib.ListN.{length};
-ghost use Rattle.exports.specs.Face.{askNumber, askRow, numberOf, rowAfter, oneWord};
+ghost use Rattle.exports.specs.Face.{askFault, askRow, faultSaid, rowAfter, oneWord};
 ghost use Rattle.exports_stream.specs.Calls.{openingOf, countIn};
 ghost use Rattle.reader.specs.Calls.{nextAnswer};
 ghost use Rattle.reader.specs.Run.{lastAnswer};
 ghost use Rattle.exports_reader.specs.Row.{positionIn};
-ghost use Rattle.exports_reader.specs.Calls.{openNumber, openRow, oneValue, nextRow, endNumber};
+ghost use Rattle.exports_reader.specs.Calls.{openFault, openRow, oneValue, nextRow, endFault};
 use models::ValueAnswer;
 use models::Verdict;
 use reader::position;
@@ -19,7 +19,7 @@ mod row;
 // value in full, mode 1 for one that opens on the value `opening`.
 #[no_mangle]
 pub extern "C" fn modelardb_reader_open(mode: u32, opening: u32, reader: &mut [u64]) -> u32
-    ensures number { λ r. ⌜ r ≡ openNumber mode (now (reader .entry)) ⌝ }
+    ensures fault { λ r. ⌜ r ≡ openFault mode (now (reader .entry)) ⌝ }
     ensures row { λ r. ⌜ now (reader .exit) ≡ openRow mode opening (now (reader .entry)) ⌝ }
 {
     if 1 < mode {
@@ -33,14 +33,14 @@ pub extern "C" fn modelardb_reader_open(mode: u32, opening: u32, reader: &mut [u
 // reader, as one with wrong words does: it is refused with 2.
 #[no_mangle]
 pub extern "C" fn modelardb_reader_next(bytes: &[u8], reader: &mut [u64], out: &mut [u32]) -> u32
-    ensures number { λ r. ⌜ r ≡ askNumber 1 (length (now (out .entry))) (nextAnswer (now (bytes .entry)) (positionIn (now (reader .entry)))) ⌝ }
+    ensures fault { λ r. ⌜ r ≡ askFault 1 (length (now (out .entry))) (nextAnswer (now (bytes .entry)) (positionIn (now (reader .entry)))) ⌝ }
     ensures row { λ r. ⌜ now (reader .exit) ≡ nextRow (now (reader .entry)) (now (out .entry)) (nextAnswer (now (bytes .entry)) (positionIn (now (reader .entry)))) ⌝ }
     ensures value { λ r. ⌜ now (out .exit) ≡ askRow 1 oneValue (now (out .entry)) (nextAnswer (now (bytes .entry)) (positionIn (now (reader .entry)))) ⌝ }
 {
     let step = position::step_from(bytes, row::position_in(reader));
     let answer = step.answer;
     match answer {
-        ValueAnswer::Refused(r) => exports::number_with(r, 1, out.len()),
+        ValueAnswer::Refused(r) => exports::fault_with(r, 1, out.len()),
         ValueAnswer::Answered(value) => {
             if out.len() < 1 {
                 return exports::TOO_SHORT;
@@ -54,10 +54,10 @@ pub extern "C" fn modelardb_reader_next(bytes: &[u8], reader: &mut [u64], out: &
 // Whether the stream ends behind the values read; of a row that stands for no reader 2.
 #[no_mangle]
 pub extern "C" fn modelardb_reader_end(bytes: &[u8], reader: &[u64]) -> u32
-    ensures { λ r. ⌜ r ≡ endNumber (now (bytes .entry)) (now (reader .entry)) ⌝ }
+    ensures { λ r. ⌜ r ≡ endFault (now (bytes .entry)) (now (reader .entry)) ⌝ }
 {
     match position::end_from(bytes, row::position_in(reader)) {
-        Verdict::Refused(r) => models::number_of(r),
+        Verdict::Refused(r) => models::fault_of(r),
         Verdict::Passed => 0,
     }
 }
@@ -72,7 +72,7 @@ pub extern "C" fn modelardb_reader_last_value(
     opening: u32,
     out: &mut [u32],
 ) -> u32
-    ensures number { λ r. ⌜ r ≡ numberOf 1 (length (now (out .entry))) (lastAnswer (now (bytes .entry)) (countIn mode count) (openingOf mode opening)) ⌝ }
+    ensures fault { λ r. ⌜ r ≡ faultSaid 1 (length (now (out .entry))) (lastAnswer (now (bytes .entry)) (countIn mode count) (openingOf mode opening)) ⌝ }
     ensures value { λ r. ⌜ now (out .exit) ≡ rowAfter 1 oneWord (now (out .entry)) (lastAnswer (now (bytes .entry)) (countIn mode count) (openingOf mode opening)) ⌝ }
 {
     let n = exports_stream::count_in(mode, count);

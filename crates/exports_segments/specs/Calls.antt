@@ -6,7 +6,7 @@ use Prim.Native.Nat.{ℕ}
 use lib.Dec.{ltb}
 use lib.IntN.{ℤ}
 use lib.ListN.{length}
-use Rattle.models.specs.Answers.{Cause, _when_, judge, judgedMemory, faultNumber}
+use Rattle.models.specs.Answers.{Cause, _when_, judge, judgedMemory, itself}
 use Rattle.models.specs.declared.ErrorBound.{ErrorBound}
 use Rattle.parameters.specs.Forms.{Ends, formBytes}
 use Rattle.parameters.specs.Calls.{lengthAnswer, bytesAfter}
@@ -15,7 +15,7 @@ use Rattle.segments.specs.Calls.{writeCauses, writeAnswer, valuesAfter, residua
 use Rattle.segments.specs.declared.Segment.{Segment}
 use Rattle.segment_grid.specs.Segment.{endsIn}
 use Rattle.segment_grid.specs.Calls.{gridAnswer, gridMemory, sumAnswer}
-use Rattle.exports.specs.Face.{numberOf, rowIn, rowAfter, plainNumber, oneWord}
+use Rattle.exports.specs.Face.{faultSaid, rowIn, rowAfter, plainFault, oneWord}
 
 -- ---- the words of an answer
 
@@ -36,8 +36,8 @@ rowShort need room = 4 when ltb room need
 
 -- ---- encode: the bytes of a form, and the row that takes their number
 
-unfoldable pub encodeNumber : Form → List ℕ → List ℕ → ℕ
-encodeNumber form out row = judge faultNumber (rowShort 1 (length row) ∷ []) (plainNumber (lengthAnswer (formBytes form) out))
+unfoldable pub encodeFault : Form → List ℕ → List ℕ → ℕ
+encodeFault form out row = judge itself (rowShort 1 (length row) ∷ []) (plainFault (lengthAnswer (formBytes form) out))
 
 unfoldable pub encodeOut : Form → List ℕ → List ℕ → List ℕ
 encodeOut form out row = judgedMemory out (rowShort 1 (length row) ∷ []) (bytesAfter (formBytes form) out)
@@ -50,9 +50,9 @@ encodeRow form out row = judgedMemory row (rowShort 1 (length row) ∷ []) (rowI
 abbrev pub segmentCauses : ℕ → ErrorBound → List ℕ → ℕ → List Cause
 segmentCauses model b xs room = writeCauses model b xs ++ (rowShort segmentLength room ∷ [])
 
-unfoldable pub segmentNumber : ℕ → ℕ → ℕ → ErrorBound → List ℕ → List ℕ → List ℕ → List ℕ → ℕ
-segmentNumber model first last b xs valuesOut residualsOut row =
-    judge faultNumber (segmentCauses model b xs (length row)) (plainNumber (writeAnswer model first last b xs valuesOut residualsOut))
+unfoldable pub segmentFault : ℕ → ℕ → ℕ → ErrorBound → List ℕ → List ℕ → List ℕ → List ℕ → ℕ
+segmentFault model first last b xs valuesOut residualsOut row =
+    judge itself (segmentCauses model b xs (length row)) (plainFault (writeAnswer model first last b xs valuesOut residualsOut))
 
 unfoldable pub segmentValuesOut : ℕ → ℕ → ℕ → ErrorBound → List ℕ → List ℕ → List ℕ → List ℕ → List ℕ
 segmentValuesOut model first last b xs valuesOut residualsOut row =
@@ -68,15 +68,15 @@ segmentRow model first last b xs valuesOut residualsOut row =
 
 -- ---- a segment's grid and sum, of its parameter bytes as they read against its least and greatest value
 
-unfoldable pub gridNumber : ℕ → List ℤ → ℕ → ℕ → List ℕ → List ℕ → List ℕ → ℕ
-gridNumber model ts min max values residuals out = plainNumber (gridAnswer model ts (endsIn model min max values) residuals (length out))
+unfoldable pub gridFault : ℕ → List ℤ → ℕ → ℕ → List ℕ → List ℕ → List ℕ → ℕ
+gridFault model ts min max values residuals out = plainFault (gridAnswer model ts (endsIn model min max values) residuals (length out))
 
 unfoldable pub gridOut : ℕ → List ℤ → ℕ → ℕ → List ℕ → List ℕ → List ℕ → List ℕ
 gridOut model ts min max values residuals out = gridMemory model ts (endsIn model min max values) residuals out
 
 -- the output is judged in its place in 01's order: after 3 and 12, before 10, 9, 11 and the residual stream's own
-unfoldable pub sumNumber : Bool → ℕ → List ℤ → ℕ → ℕ → List ℕ → List ℕ → List ℕ → ℕ
-sumNumber way model ts min max values residuals out = numberOf 1 (length out) (sumAnswer way model ts (endsIn model min max values) residuals)
+unfoldable pub sumFault : Bool → ℕ → List ℤ → ℕ → ℕ → List ℕ → List ℕ → List ℕ → ℕ
+sumFault way model ts min max values residuals out = faultSaid 1 (length out) (sumAnswer way model ts (endsIn model min max values) residuals)
 
 unfoldable pub sumOut : Bool → ℕ → List ℤ → ℕ → ℕ → List ℕ → List ℕ → List ℕ → List ℕ
 sumOut way model ts min max values residuals out = rowAfter 1 oneWord out (sumAnswer way model ts (endsIn model min max values) residuals)

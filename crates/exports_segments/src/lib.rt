@@ -6,10 +6,10 @@ ghost use Rattle.models.specs.Answers.{verdict};
 ghost use Rattle.models.specs.Calls.{saysVerdict};
 ghost use Rattle.parameters.specs.Forms.{pmcMeanForm, swingForm, swingFrom, pmcMeanFrom};
 ghost use Rattle.segment_grid.specs.Segment.{byAverage, overTimes};
-ghost use Rattle.exports.specs.Face.{boundOf, numberOf, rowAfter, oneWord};
-ghost use Rattle.exports_segments.specs.Calls.{endsWords, encodeNumber, encodeOut, encodeRow};
-ghost use Rattle.exports_segments.specs.Calls.{segmentCauses, segmentNumber, segmentValuesOut, segmentResidualsOut, segmentRow};
-ghost use Rattle.exports_segments.specs.Calls.{gridNumber, gridOut, sumNumber, sumOut};
+ghost use Rattle.exports.specs.Face.{boundOf, faultSaid, rowAfter, oneWord};
+ghost use Rattle.exports_segments.specs.Calls.{endsWords, encodeFault, encodeOut, encodeRow};
+ghost use Rattle.exports_segments.specs.Calls.{segmentCauses, segmentFault, segmentValuesOut, segmentResidualsOut, segmentRow};
+ghost use Rattle.exports_segments.specs.Calls.{gridFault, gridOut, sumFault, sumOut};
 use macaque_v::MacaqueV;
 use models::ErrorBound;
 use models::GridAnswer;
@@ -30,7 +30,7 @@ pub extern "C" fn modelardb_encode_values_for_pmc_mean(
     out: &mut [u8],
     row: &mut [u64],
 ) -> u32
-    ensures number { λ r. ⌜ r ≡ encodeNumber (pmcMeanForm value «residuals_min_value» «residuals_max_value») (now (out .entry)) (now (row .entry)) ⌝ }
+    ensures fault { λ r. ⌜ r ≡ encodeFault (pmcMeanForm value «residuals_min_value» «residuals_max_value») (now (out .entry)) (now (row .entry)) ⌝ }
     ensures bytes { λ r. ⌜ now (out .exit) ≡ encodeOut (pmcMeanForm value «residuals_min_value» «residuals_max_value») (now (out .entry)) (now (row .entry)) ⌝ }
     ensures row { λ r. ⌜ now (row .exit) ≡ encodeRow (pmcMeanForm value «residuals_min_value» «residuals_max_value») (now (out .entry)) (now (row .entry)) ⌝ }
 {
@@ -56,7 +56,7 @@ pub extern "C" fn modelardb_encode_values_for_swing(
     out: &mut [u8],
     row: &mut [u64],
 ) -> u32
-    ensures number { λ r. ⌜ r ≡ encodeNumber (swingForm «first_value» «last_value» «residuals_min_value» «residuals_max_value») (now (out .entry)) (now (row .entry)) ⌝ }
+    ensures fault { λ r. ⌜ r ≡ encodeFault (swingForm «first_value» «last_value» «residuals_min_value» «residuals_max_value») (now (out .entry)) (now (row .entry)) ⌝ }
     ensures bytes { λ r. ⌜ now (out .exit) ≡ encodeOut (swingForm «first_value» «last_value» «residuals_min_value» «residuals_max_value») (now (out .entry)) (now (row .entry)) ⌝ }
     ensures row { λ r. ⌜ now (row .exit) ≡ encodeRow (swingForm «first_value» «last_value» «residuals_min_value» «residuals_max_value») (now (out .entry)) (now (row .entry)) ⌝ }
 {
@@ -82,7 +82,7 @@ pub extern "C" fn modelardb_decode_values_for_pmc_mean(
     values: &[u8],
     out: &mut [u32],
 ) -> u32
-    ensures number { λ r. ⌜ r ≡ numberOf 1 (length (now (out .entry))) (pmcMeanFrom «min_value» «max_value» (now (values .entry))) ⌝ }
+    ensures fault { λ r. ⌜ r ≡ faultSaid 1 (length (now (out .entry))) (pmcMeanFrom «min_value» «max_value» (now (values .entry))) ⌝ }
     ensures row { λ r. ⌜ now (out .exit) ≡ rowAfter 1 oneWord (now (out .entry)) (pmcMeanFrom «min_value» «max_value» (now (values .entry))) ⌝ }
 {
     let answer = parameters::decode_values_for_pmc_mean(min_value, max_value, values);
@@ -97,7 +97,7 @@ pub extern "C" fn modelardb_decode_values_for_swing(
     values: &[u8],
     out: &mut [u32],
 ) -> u32
-    ensures number { λ r. ⌜ r ≡ numberOf 2 (length (now (out .entry))) (swingFrom «min_value» «max_value» (now (values .entry))) ⌝ }
+    ensures fault { λ r. ⌜ r ≡ faultSaid 2 (length (now (out .entry))) (swingFrom «min_value» «max_value» (now (values .entry))) ⌝ }
     ensures row { λ r. ⌜ now (out .exit) ≡ rowAfter 2 endsWords (now (out .entry)) (swingFrom «min_value» «max_value» (now (values .entry))) ⌝ }
 {
     let answer = parameters::decode_values_for_swing(min_value, max_value, values);
@@ -121,14 +121,14 @@ pub extern "C" fn modelardb_segment_write(
     residuals_out: &mut [u8],
     segment: &mut [u64],
 ) -> u32
-    ensures number { λ r. ⌜ r ≡ segmentNumber model «first_value» «last_value» (boundOf kind bound) (now (residuals .entry)) (now («values_out» .entry)) (now («residuals_out» .entry)) (now (segment .entry)) ⌝ }
+    ensures fault { λ r. ⌜ r ≡ segmentFault model «first_value» «last_value» (boundOf kind bound) (now (residuals .entry)) (now («values_out» .entry)) (now («residuals_out» .entry)) (now (segment .entry)) ⌝ }
     ensures values { λ r. ⌜ now («values_out» .exit) ≡ segmentValuesOut model «first_value» «last_value» (boundOf kind bound) (now (residuals .entry)) (now («values_out» .entry)) (now («residuals_out» .entry)) (now (segment .entry)) ⌝ }
     ensures bytes { λ r. ⌜ now («residuals_out» .exit) ≡ segmentResidualsOut model «first_value» «last_value» (boundOf kind bound) (now (residuals .entry)) (now («values_out» .entry)) (now («residuals_out» .entry)) (now (segment .entry)) ⌝ }
     ensures row { λ r. ⌜ now (segment .exit) ≡ segmentRow model «first_value» «last_value» (boundOf kind bound) (now (residuals .entry)) (now («values_out» .entry)) (now («residuals_out» .entry)) (now (segment .entry)) ⌝ }
 {
     let b = exports::bound_of(kind, bound);
     match judge_write(model, b, residuals, segment.len()) {
-        Verdict::Refused(r) => models::number_of(r),
+        Verdict::Refused(r) => models::fault_of(r),
         Verdict::Passed => {
             let answer = segments::write(
                 model,
@@ -176,7 +176,7 @@ pub extern "C" fn modelardb_segment_grid(
     residuals: &[u8],
     out: &mut [u32],
 ) -> u32
-    ensures number { λ r. ⌜ r ≡ gridNumber model (now (timestamps .entry)) «min_value» «max_value» (now (values .entry)) (now (residuals .entry)) (now (out .entry)) ⌝ }
+    ensures fault { λ r. ⌜ r ≡ gridFault model (now (timestamps .entry)) «min_value» «max_value» (now (values .entry)) (now (residuals .entry)) (now (out .entry)) ⌝ }
     ensures values { λ r. ⌜ now (out .exit) ≡ gridOut model (now (timestamps .entry)) «min_value» «max_value» (now (values .entry)) (now (residuals .entry)) (now (out .entry)) ⌝ }
 {
     match segment_grid::grid(
@@ -188,7 +188,7 @@ pub extern "C" fn modelardb_segment_grid(
         residuals,
         out,
     ) {
-        GridAnswer::Refused(r) => models::number_of(r),
+        GridAnswer::Refused(r) => models::fault_of(r),
         GridAnswer::Drawn => 0,
     }
 }
@@ -204,7 +204,7 @@ pub extern "C" fn modelardb_segment_sum_by_average(
     residuals: &[u8],
     out: &mut [u32],
 ) -> u32
-    ensures number { λ r. ⌜ r ≡ sumNumber byAverage model (now (timestamps .entry)) «min_value» «max_value» (now (values .entry)) (now (residuals .entry)) (now (out .entry)) ⌝ }
+    ensures fault { λ r. ⌜ r ≡ sumFault byAverage model (now (timestamps .entry)) «min_value» «max_value» (now (values .entry)) (now (residuals .entry)) (now (out .entry)) ⌝ }
     ensures row { λ r. ⌜ now (out .exit) ≡ sumOut byAverage model (now (timestamps .entry)) «min_value» «max_value» (now (values .entry)) (now (residuals .entry)) (now (out .entry)) ⌝ }
 {
     let answer = segment_grid::sum_by_average(
@@ -229,7 +229,7 @@ pub extern "C" fn modelardb_segment_sum_over(
     residuals: &[u8],
     out: &mut [u32],
 ) -> u32
-    ensures number { λ r. ⌜ r ≡ sumNumber overTimes model (now (timestamps .entry)) «min_value» «max_value» (now (values .entry)) (now (residuals .entry)) (now (out .entry)) ⌝ }
+    ensures fault { λ r. ⌜ r ≡ sumFault overTimes model (now (timestamps .entry)) «min_value» «max_value» (now (values .entry)) (now (residuals .entry)) (now (out .entry)) ⌝ }
     ensures row { λ r. ⌜ now (out .exit) ≡ sumOut overTimes model (now (timestamps .entry)) «min_value» «max_value» (now (values .entry)) (now (residuals .entry)) (now (out .entry)) ⌝ }
 {
     let answer = segment_grid::sum_over(model, timestamps, min_value, max_value, values, residuals);

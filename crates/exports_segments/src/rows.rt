@@ -4,7 +4,7 @@ ghost use Prim.Native.Nat.{_≤_};
 ghost use lib.ListN.{length};
 ghost use Rattle.parameters.specs.Calls.{saysLength};
 ghost use Rattle.segments.specs.Calls.{saysSegment};
-ghost use Rattle.exports.specs.Face.{plainNumber, rowIn, oneWord};
+ghost use Rattle.exports.specs.Face.{plainFault, rowIn, oneWord};
 ghost use Rattle.exports_segments.specs.Calls.{segmentLength, segmentWords};
 ghost use Rattle.exports_segments.specs.inner.Answers.{pairOf};
 use exports::PairAnswer;
@@ -28,11 +28,11 @@ pub const SEGMENT_WORDS: usize = 4;
 
 pub fn put_length(answer: LengthAnswer, row: &mut [u64]) -> u32
     requires { ⌜ 1 ≤ length (now row) ⌝ }
-    ensures number { λ r. ⌜ r ≡ plainNumber (saysLength answer) ⌝ }
+    ensures fault { λ r. ⌜ r ≡ plainFault (saysLength answer) ⌝ }
     ensures row { λ r. ⌜ now (row .exit) ≡ rowIn oneWord (now (row .entry)) (saysLength answer) ⌝ }
 {
     match answer {
-        LengthAnswer::Refused(r) => models::number_of(r),
+        LengthAnswer::Refused(r) => models::fault_of(r),
         LengthAnswer::Written(n) => {
             let words = [n as u64];
             exports::put_said(Verdict::Passed, &words, row)
@@ -42,11 +42,11 @@ pub fn put_length(answer: LengthAnswer, row: &mut [u64]) -> u32
 
 pub fn put_segment(answer: SegmentAnswer, row: &mut [u64]) -> u32
     requires { ⌜ segmentLength ≤ length (now row) ⌝ }
-    ensures number { λ r. ⌜ r ≡ plainNumber (saysSegment answer) ⌝ }
+    ensures fault { λ r. ⌜ r ≡ plainFault (saysSegment answer) ⌝ }
     ensures row { λ r. ⌜ now (row .exit) ≡ rowIn segmentWords (now (row .entry)) (saysSegment answer) ⌝ }
 {
     match answer {
-        SegmentAnswer::Refused(r) => models::number_of(r),
+        SegmentAnswer::Refused(r) => models::fault_of(r),
         SegmentAnswer::Written(s) => {
             let words = [
                 s.min_value as u64,

@@ -6,7 +6,7 @@ use mathlib.Core.Logic.{inl}
 use Prim.Native.Nat.{ℕ, _*_, _≤_}
 use lib.Dec.{leb}
 use lib.ListN.{length}
-use Rattle.models.specs.Answers.{Said, Done, answered, refused, answeredOn, refusedOn, stateless, verdict, keeping, faultNumber}
+use Rattle.models.specs.Answers.{Said, Done, answered, refused, answeredOn, refusedOn, stateless, verdict, keeping, itself}
 use Rattle.models.specs.Bound.{boundAllowed}
 use Rattle.models.specs.Refusals.{number}
 use Rattle.models.specs.Calls.{saysVerdict}
@@ -20,52 +20,52 @@ use Rattle.stream.specs.Format.{macaque, keepsRule, usable}
 use Rattle.macaque_v.specs.State.{stateOf}
 use Rattle.macaque_v.specs.Calls.{newAnswer, lentBytes, writeAnswer}
 use Rattle.macaque_v.specs.declared.MacaqueV.{MacaqueV}
-use Rattle.exports.specs.Face.{boundOf, plainNumber, rowIn, noState}
+use Rattle.exports.specs.Face.{boundOf, plainFault, rowIn, noState}
 use Rattle.exports.specs.Words.{boundFront}
 use Rattle.exports.specs.inner.Put.{worded, wordsSaid, wholeRow}
 use Rattle.exports.proofs.Rows.{Faced, put, step-said}
 use Rattle.exports.proofs.Rows as rows
 use Rattle.exports_stream.specs.Row.{writerLength, writerRow, standsForState, spoiledWriter, writerIn}
 use Rattle.exports_stream.proofs.Words.{no-state}
-use Rattle.exports_stream.specs.Calls.{openingOf, newCauses, newNumber, newRow}
-use Rattle.exports_stream.specs.Calls.{reopenFaceCauses, reopenSaid, reopenLeft, reopenNumber, reopenRow, reopenBuffer}
+use Rattle.exports_stream.specs.Calls.{openingOf, newCauses, newFault, newRow}
+use Rattle.exports_stream.specs.Calls.{reopenFaceCauses, reopenSaid, reopenLeft, reopenFault, reopenRow, reopenBuffer}
 
 -- ---- new, by the verdict on its causes
 
 module _ (kind bound mode opening : ℕ) (row : List ℕ) (v : Verdict) (says : saysVerdict v ≡ verdict (newCauses (boundOf kind bound) mode (length row))) where
-  pub new-refused : (r : Refusal) → v ≡ Refused r → (number r ≡ newNumber kind bound mode opening row) × (row ≡ newRow kind bound mode opening row)
-  unfolding newNumber newRow
+  pub new-refused : (r : Refusal) → v ≡ Refused r → (number r ≡ newFault kind bound mode opening row) × (row ≡ newRow kind bound mode opening row)
+  unfolding newFault newRow
   new-refused r e =
       let causes = newCauses (boundOf kind bound) mode (length row) in
-      (when-refused causes v says faultNumber _ r e, when-refused causes v says (keeping row) _ r e)
+      (when-refused causes v says itself _ r e, when-refused causes v says (keeping row) _ r e)
 
   pub new-passed : (said : Said MacaqueV) → said ≡ newAnswer (boundOf kind bound) (openingOf mode opening) → v ≡ Passed
-      → (plainNumber said ≡ newNumber kind bound mode opening row) × (rowIn writerRow row said ≡ newRow kind bound mode opening row)
-  unfolding newNumber newRow
+      → (plainFault said ≡ newFault kind bound mode opening row) × (rowIn writerRow row said ≡ newRow kind bound mode opening row)
+  unfolding newFault newRow
   new-passed said q e =
       let causes = newCauses (boundOf kind bound) mode (length row) in
-      (ap plainNumber q ∙ when-passed causes v says faultNumber _ e, ap (rowIn writerRow row) q ∙ when-passed causes v says (keeping row) _ e)
+      (ap plainFault q ∙ when-passed causes v says itself _ e, ap (rowIn writerRow row) q ∙ when-passed causes v says (keeping row) _ e)
 
 -- ---- reopen, by the verdict on its causes
 
 module _ (buf : List ℕ) (used count k mode opening kind bound : ℕ) (row : List ℕ) (v : Verdict) (says : saysVerdict v ≡ verdict (reopenFaceCauses buf used count k mode kind bound row)) where
   pub reopen-refused : (r : Refusal) → v ≡ Refused r
-      → (number r ≡ reopenNumber buf used count k mode opening kind bound row)
+      → (number r ≡ reopenFault buf used count k mode opening kind bound row)
       × (row ≡ reopenRow buf used count k mode opening kind bound row)
       × (buf ≡ reopenBuffer buf used count k mode opening kind bound row)
-  unfolding reopenNumber reopenRow reopenBuffer
+  unfolding reopenFault reopenRow reopenBuffer
   reopen-refused r e =
       let causes = reopenFaceCauses buf used count k mode kind bound row in
-      (when-refused causes v says faultNumber _ r e, when-refused causes v says (keeping row) _ r e, when-refused causes v says (keeping buf) _ r e)
+      (when-refused causes v says itself _ r e, when-refused causes v says (keeping row) _ r e, when-refused causes v says (keeping buf) _ r e)
 
   pub reopen-passed : (said : Said MacaqueV) → said ≡ reopenSaid buf used count k mode opening kind bound → v ≡ Passed
-      → (plainNumber said ≡ reopenNumber buf used count k mode opening kind bound row)
+      → (plainFault said ≡ reopenFault buf used count k mode opening kind bound row)
       × (rowIn writerRow row said ≡ reopenRow buf used count k mode opening kind bound row)
       × (reopenLeft buf used count k mode opening kind bound ≡ reopenBuffer buf used count k mode opening kind bound row)
-  unfolding reopenNumber reopenRow reopenBuffer
+  unfolding reopenFault reopenRow reopenBuffer
   reopen-passed said q e =
       let causes = reopenFaceCauses buf used count k mode kind bound row in (
-        ap plainNumber q ∙ when-passed causes v says faultNumber _ e,
+        ap plainFault q ∙ when-passed causes v says itself _ e,
         ap (rowIn writerRow row) q ∙ when-passed causes v says (keeping row) _ e,
         when-passed causes v says (keeping buf) _ e,
       )
@@ -73,7 +73,7 @@ module _ (buf : List ℕ) (used count k mode opening kind bound : ℕ) (row : Li
 -- ---- a state that is handed out, in a row that holds its words
 
 pub put-plain : (row : List ℕ) (said : Said MacaqueV) (v : Verdict) (ws : List ℕ) → writerLength ≤ length row → length ws ≡ writerLength → wordsSaid v ws ≡ worded writerRow said
-    → {number : ℕ} {after : List ℕ} → Faced wholeRow (length ws) row (wordsSaid v ws) number after → (number ≡ plainNumber said) × (after ≡ rowIn writerRow row said)
+    → {number : ℕ} {after : List ℕ} → Faced wholeRow (length ws) row (wordsSaid v ws) number after → (number ≡ plainFault said) × (after ≡ rowIn writerRow row said)
 put-plain row (answered m) v ws room size e f =
     step-said {S = Done} writerLength writerRow row (answeredOn m) (inl room) (put writerRow writerLength row (answered m) v ws size e f)
 put-plain row (refused n) v ws room size e f =

@@ -5,7 +5,7 @@ use mathlib.Core.List.{List, [], _∷_, _++_}
 use Prim.Native.Nat.{ℕ}
 use lib.Dec.{eqb, leb, ltb}
 use lib.ListN.{length, take, drop}
-use Rattle.models.specs.Answers.{Said, Cause, _when_, judge, judgedMemory, faultNumber}
+use Rattle.models.specs.Answers.{Said, Cause, _when_, judge, judgedMemory, itself}
 use Rattle.models.specs.Bound.{boundAllowed}
 use Rattle.models.specs.declared.ErrorBound.{ErrorBound}
 use Rattle.macaque_v.specs.Calls.{newAnswer, writeAnswer, writeMemory}
@@ -14,7 +14,7 @@ use Rattle.macaque_v.specs.Made.{Made}
 use Rattle.macaque_v.specs.declared.MacaqueV.{MacaqueV}
 use Rattle.macaque_v.specs.declared.Opening.{Opening}
 use Rattle.macaque_v.specs.declared.Opening.the-variants.{First, On}
-use Rattle.exports.specs.Face.{boundOf, numberOf, rowIn, rowAfter, stepNumber, stepRow, plainNumber, oneWord}
+use Rattle.exports.specs.Face.{boundOf, faultSaid, rowIn, rowAfter, stepFault, stepRow, plainFault, oneWord}
 use Rattle.exports.specs.Words.{noCount}
 use Rattle.exports_stream.specs.Row.{writerLength, writerRow, writtenRow, writerIn}
 
@@ -32,9 +32,9 @@ countIn mode count = cond (leb mode 1) count noCount
 abbrev pub newCauses : ErrorBound → ℕ → ℕ → List Cause
 newCauses b mode words = 1 when not (boundAllowed b) ∷ 3 when ltb 1 mode ∷ 4 when ltb words writerLength ∷ []
 
-unfoldable pub newNumber : ℕ → ℕ → ℕ → ℕ → List ℕ → ℕ
-newNumber kind bound mode opening row =
-    judge faultNumber (newCauses (boundOf kind bound) mode (length row)) (plainNumber (newAnswer (boundOf kind bound) (openingOf mode opening)))
+unfoldable pub newFault : ℕ → ℕ → ℕ → ℕ → List ℕ → ℕ
+newFault kind bound mode opening row =
+    judge itself (newCauses (boundOf kind bound) mode (length row)) (plainFault (newAnswer (boundOf kind bound) (openingOf mode opening)))
 
 unfoldable pub newRow : ℕ → ℕ → ℕ → ℕ → List ℕ → List ℕ
 newRow kind bound mode opening row =
@@ -42,8 +42,8 @@ newRow kind bound mode opening row =
 
 -- ---- compress_values: the number and the row of a step, and the buffer
 
-abbrev pub writeNumber : List ℕ → List ℕ → List ℕ → ℕ
-writeNumber row xs buf = stepNumber (writeAnswer (writerIn row) xs buf)
+abbrev pub writeFault : List ℕ → List ℕ → List ℕ → ℕ
+writeFault row xs buf = stepFault (writeAnswer (writerIn row) xs buf)
 
 abbrev pub writeRow : List ℕ → List ℕ → List ℕ → List ℕ
 writeRow row xs buf = stepRow (writtenRow row) row (writeAnswer (writerIn row) xs buf)
@@ -65,9 +65,9 @@ reopenSaid buf used count k mode opening kind bound = reopenAnswer buf used (cou
 abbrev pub reopenLeft : List ℕ → ℕ → ℕ → ℕ → ℕ → ℕ → ℕ → ℕ → List ℕ
 reopenLeft buf used count k mode opening kind bound = reopenMemory buf used (countIn mode count) k (openingOf mode opening) (boundOf kind bound)
 
-unfoldable pub reopenNumber : List ℕ → ℕ → ℕ → ℕ → ℕ → ℕ → ℕ → ℕ → List ℕ → ℕ
-reopenNumber buf used count k mode opening kind bound row =
-    judge faultNumber (reopenFaceCauses buf used count k mode kind bound row) (plainNumber (reopenSaid buf used count k mode opening kind bound))
+unfoldable pub reopenFault : List ℕ → ℕ → ℕ → ℕ → ℕ → ℕ → ℕ → ℕ → List ℕ → ℕ
+reopenFault buf used count k mode opening kind bound row =
+    judge itself (reopenFaceCauses buf used count k mode kind bound row) (plainFault (reopenSaid buf used count k mode opening kind bound))
 
 unfoldable pub reopenRow : List ℕ → ℕ → ℕ → ℕ → ℕ → ℕ → ℕ → ℕ → List ℕ → List ℕ
 reopenRow buf used count k mode opening kind bound row =
@@ -79,16 +79,16 @@ reopenBuffer buf used count k mode opening kind bound row =
 
 -- ---- grid: the number and the output
 
-unfoldable pub gridNumber : List ℕ → ℕ → ℕ → ℕ → List ℕ → ℕ
-gridNumber bytes count mode opening out = plainNumber (gridAnswer bytes (countIn mode count) (openingOf mode opening) (length out))
+unfoldable pub gridFault : List ℕ → ℕ → ℕ → ℕ → List ℕ → ℕ
+gridFault bytes count mode opening out = plainFault (gridAnswer bytes (countIn mode count) (openingOf mode opening) (length out))
 
 unfoldable pub gridOut : List ℕ → ℕ → ℕ → ℕ → List ℕ → List ℕ
 gridOut bytes count mode opening out = gridMemory bytes (countIn mode count) (openingOf mode opening) out
 
 -- ---- sum: its pattern is the output's first place
 
-unfoldable pub sumNumber : List ℕ → ℕ → ℕ → ℕ → List ℕ → ℕ
-sumNumber bytes count mode opening out = numberOf 1 (length out) (sumAnswer bytes (countIn mode count) (openingOf mode opening))
+unfoldable pub sumFault : List ℕ → ℕ → ℕ → ℕ → List ℕ → ℕ
+sumFault bytes count mode opening out = faultSaid 1 (length out) (sumAnswer bytes (countIn mode count) (openingOf mode opening))
 
 unfoldable pub sumOut : List ℕ → ℕ → ℕ → ℕ → List ℕ → List ℕ
 sumOut bytes count mode opening out = rowAfter 1 oneWord out (sumAnswer bytes (countIn mode count) (openingOf mode opening))
@@ -102,8 +102,8 @@ pub record RowMade (b : ErrorBound) (o : Opening) (xs buf row : List ℕ) : Type
 
 -- a buffer whose first `used` bytes hold xs is reopened at k into a row, which then is `after`, and the buffer `cut`; and ys are written through it
 pub record RowResumes (xs buf : List ℕ) (used k mode opening kind bound : ℕ) (row ys after cut : List ℕ) : Type 0 where
-  pub opens : reopenNumber buf used (length xs) k mode opening kind bound row ≡ 0
-  pub accepts : writeNumber after ys cut ≡ 0
+  pub opens : reopenFault buf used (length xs) k mode opening kind bound row ≡ 0
+  pub accepts : writeFault after ys cut ≡ 0
   pub made : RowMade (boundOf kind bound) (openingOf mode opening) (take k xs ++ ys) (writeBuffer after ys cut) (writeRow after ys cut)
 
 abbrev pub RowResumesAsOne : List ℕ → List ℕ → ℕ → ℕ → ℕ → ℕ → ℕ → ℕ → List ℕ → List ℕ → Type 0

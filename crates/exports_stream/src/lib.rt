@@ -8,11 +8,11 @@ ghost use Rattle.models.specs.Answers.{verdict};
 ghost use Rattle.models.specs.Calls.{saysVerdict};
 ghost use Rattle.macaque_v.specs.Calls.{writeAnswer, writeMemory};
 ghost use Rattle.macaque_v.specs.Read.{saysOpen};
-ghost use Rattle.exports.specs.Face.{plainNumber, rowIn, stepNumber, stepRow};
+ghost use Rattle.exports.specs.Face.{plainFault, rowIn, stepFault, stepRow};
 ghost use Rattle.exports_stream.specs.Row.{writerLength, writerRow, writtenRow, writerIn};
 ghost use Rattle.exports_stream.specs.Calls.{openingOf, countIn, newCauses, reopenCausesWith};
-ghost use Rattle.exports_stream.specs.Calls.{newNumber, newRow};
-ghost use Rattle.exports_stream.specs.Calls.{reopenNumber, reopenRow, reopenBuffer, gridNumber, gridOut, sumNumber, sumOut};
+ghost use Rattle.exports_stream.specs.Calls.{newFault, newRow};
+ghost use Rattle.exports_stream.specs.Calls.{reopenFault, reopenRow, reopenBuffer, gridFault, gridOut, sumFault, sumOut};
 use exports::words;
 use macaque_v::MacaqueV;
 use macaque_v::Opening;
@@ -38,12 +38,12 @@ pub extern "C" fn modelardb_macaque_v_new(
     opening: u32,
     state: &mut [u64],
 ) -> u32
-    ensures number { λ r. ⌜ r ≡ newNumber kind bound mode opening (now (state .entry)) ⌝ }
+    ensures fault { λ r. ⌜ r ≡ newFault kind bound mode opening (now (state .entry)) ⌝ }
     ensures row { λ r. ⌜ now (state .exit) ≡ newRow kind bound mode opening (now (state .entry)) ⌝ }
 {
     let b = exports::bound_of(kind, bound);
     match judge_new(b, mode, state.len()) {
-        Verdict::Refused(r) => models::number_of(r),
+        Verdict::Refused(r) => models::fault_of(r),
         Verdict::Passed => put_opened(MacaqueV::new(b, opening_of(mode, opening)), state),
     }
 }
@@ -57,12 +57,12 @@ pub extern "C" fn modelardb_macaque_v_compress_values(
     values: &[u32],
     buffer: &mut [u8],
 ) -> u32
-    ensures number { λ r. ⌜ r ≡ stepNumber (writeAnswer (writerIn (now (state .entry))) (now (values .entry)) (now (buffer .entry))) ⌝ }
+    ensures fault { λ r. ⌜ r ≡ stepFault (writeAnswer (writerIn (now (state .entry))) (now (values .entry)) (now (buffer .entry))) ⌝ }
     ensures row { λ r. ⌜ now (state .exit) ≡ stepRow (writtenRow (now (state .entry))) (now (state .entry)) (writeAnswer (writerIn (now (state .entry))) (now (values .entry)) (now (buffer .entry))) ⌝ }
     ensures bytes { λ r. ⌜ now (buffer .exit) ≡ writeMemory (writerIn (now (state .entry))) (now (values .entry)) (now (buffer .entry)) ⌝ }
 {
     match row::writer_of(state).compress_values(values, buffer) {
-        WriteAnswer::Refused(r, _) => models::number_of(r),
+        WriteAnswer::Refused(r, _) => models::fault_of(r),
         WriteAnswer::Written(after) => {
             exports::put_said(Verdict::Passed, &row::written_words(state, after), state)
         }
@@ -83,14 +83,14 @@ pub extern "C" fn modelardb_macaque_v_reopen(
     bound: u32,
     state: &mut [u64],
 ) -> u32
-    ensures number { λ r. ⌜ r ≡ reopenNumber (now (buffer .entry)) used count k mode opening kind bound (now (state .entry)) ⌝ }
+    ensures fault { λ r. ⌜ r ≡ reopenFault (now (buffer .entry)) used count k mode opening kind bound (now (state .entry)) ⌝ }
     ensures row { λ r. ⌜ now (state .exit) ≡ reopenRow (now (buffer .entry)) used count k mode opening kind bound (now (state .entry)) ⌝ }
     ensures bytes { λ r. ⌜ now (buffer .exit) ≡ reopenBuffer (now (buffer .entry)) used count k mode opening kind bound (now (state .entry)) ⌝ }
 {
     let b = exports::bound_of(kind, bound);
     let n = count_in(mode, count);
     match judge_reopen(b, buffer.len(), used, n, k, state.len()) {
-        Verdict::Refused(r) => models::number_of(r),
+        Verdict::Refused(r) => models::fault_of(r),
         Verdict::Passed => {
             let writer = MacaqueV::reopen(buffer, used, n, k, opening_of(mode, opening), b);
             put_opened(writer, state)
@@ -109,11 +109,11 @@ pub extern "C" fn modelardb_macaque_v_grid(
     opening: u32,
     out: &mut [u32],
 ) -> u32
-    ensures number { λ r. ⌜ r ≡ gridNumber (now (bytes .entry)) count mode opening (now (out .entry)) ⌝ }
+    ensures fault { λ r. ⌜ r ≡ gridFault (now (bytes .entry)) count mode opening (now (out .entry)) ⌝ }
     ensures values { λ r. ⌜ now (out .exit) ≡ gridOut (now (bytes .entry)) count mode opening (now (out .entry)) ⌝ }
 {
     match read::grid(bytes, count_in(mode, count), opening_of(mode, opening), out) {
-        GridAnswer::Refused(r) => models::number_of(r),
+        GridAnswer::Refused(r) => models::fault_of(r),
         GridAnswer::Drawn => 0,
     }
 }
@@ -127,7 +127,7 @@ pub extern "C" fn modelardb_macaque_v_sum(
     opening: u32,
     out: &mut [u32],
 ) -> u32
-    ensures number { λ r. ⌜ r ≡ sumNumber (now (bytes .entry)) count mode opening (now (out .entry)) ⌝ }
+    ensures fault { λ r. ⌜ r ≡ sumFault (now (bytes .entry)) count mode opening (now (out .entry)) ⌝ }
     ensures values { λ r. ⌜ now (out .exit) ≡ sumOut (now (bytes .entry)) count mode opening (now (out .entry)) ⌝ }
 {
     let answer = read::sum(bytes, count_in(mode, count), opening_of(mode, opening));
@@ -191,11 +191,11 @@ fn judge_reopen(
 // The state's words to the front of the row, where there is one.
 fn put_opened(writer: OpenAnswer, state: &mut [u64]) -> u32
     requires { ⌜ writerLength ≤ length (now state) ⌝ }
-    ensures number { λ r. ⌜ r ≡ plainNumber (saysOpen writer) ⌝ }
+    ensures fault { λ r. ⌜ r ≡ plainFault (saysOpen writer) ⌝ }
     ensures row { λ r. ⌜ now (state .exit) ≡ rowIn writerRow (now (state .entry)) (saysOpen writer) ⌝ }
 {
     match writer {
-        OpenAnswer::Refused(r) => models::number_of(r),
+        OpenAnswer::Refused(r) => models::fault_of(r),
         OpenAnswer::Opened(m) => {
             exports::put_said(Verdict::Passed, &row::writer_words(m), state)
         }

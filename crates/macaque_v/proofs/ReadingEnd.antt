@@ -78,7 +78,7 @@ module _ (bytes : List ℕ) (at : Cursor) where
   unfolding endSaid ended
   ended-right e = sym (rw (end-by none (sym e)))
 
-  pub ended-wrong : (p : ℕ) → some p ≡ leftover (at .place) (ahead bytes at) → refused (faultOf Leftover) ≡ endSaid bytes at
+  pub ended-wrong : (p : ℕ) → some p ≡ leftover (at .place) (ahead bytes at) → refused (faultOf (Leftover (at .count) p)) ≡ endSaid bytes at
   unfolding endSaid ended
   ended-wrong p e = sym (rw (end-by (some p) (sym e)))
 

@@ -17,8 +17,8 @@ fault n = faultIn n 0 0
 abbrev pub noFault : Fault
 noFault = fault 0
 
-abbrev pub faultNumber : Fault → ℕ
-faultNumber f = f .number
+abbrev pub itself : Fault → Fault
+itself f = f
 
 pub data Said (A : Type 0) : Type 0 where
   answered : A → Said A
@@ -104,4 +104,4 @@ pub told-apart : {R S : Type 0} (says : R → S) (back : S → R) → ((r : R) �
 told-apart says back undone r t e = sym (undone r) ∙ ap back e ∙ undone t
 
 pub fault-injective : Injective fault
-fault-injective n k e = ap faultNumber e
+fault-injective n k e = ap (λ (f : Fault). f .number) e

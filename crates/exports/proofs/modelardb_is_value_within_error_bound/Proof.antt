@@ -18,7 +18,7 @@ said : (c : tie.After-is-value-within-error-bound) → withinAnswer (boundOf (c 
 said c = ap (λ (b : ErrorBound). withinAnswer b (c .before .before .before .args .real-value) (c .before .before .before .args .approximate-value)) (sym (c .before .bound-of .ensures)) ∙ sym (c .is-value-within-error-bound .ensures)
 
 returns : tie.Need-returns
-returns c = refused-row wordOfTruth 1 (c .before .before .before .before .before .before .before .args .out .now) _ (faultOf (c .before .before .r .given .0 .0)) (said (c .before .before .before .before) ∙ ap saysWithin (c .before .before .r .given .1)) (c .number-with .ensures)
+returns c = refused-row wordOfTruth 1 (c .before .before .before .before .before .before .before .args .out .now) _ (faultOf (c .before .before .r .given .0 .0)) (said (c .before .before .before .before) ∙ ap saysWithin (c .before .before .r .given .1)) (c .fault-with .ensures)
 
 returns-2 : tie.Need-returns-2
 returns-2 c =

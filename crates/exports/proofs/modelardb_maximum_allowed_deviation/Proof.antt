@@ -18,7 +18,7 @@ said : (c : tie.After-maximum-allowed-deviation) → deviationAnswer (boundOf (c
 said c = ap₂ deviationAnswer (sym (c .before .before .bound-of .ensures)) (sym (c .before .value-of-f64 .ensures)) ∙ sym (c .maximum-allowed-deviation .ensures)
 
 returns : tie.Need-returns
-returns c = refused-row wordOf64 1 (c .before .before .before .before .before .before .before .before .args .out .now) _ (faultOf (c .before .before .r .given .0 .0)) (said (c .before .before .before .before) ∙ ap saysDeviation (c .before .before .r .given .1)) (c .number-with .ensures)
+returns c = refused-row wordOf64 1 (c .before .before .before .before .before .before .before .before .args .out .now) _ (faultOf (c .before .before .r .given .0 .0)) (said (c .before .before .before .before) ∙ ap saysDeviation (c .before .before .r .given .1)) (c .fault-with .ensures)
 
 returns-2 : tie.Need-returns-2
 returns-2 c =

@@ -16,7 +16,7 @@ returns c =
 returns-2 : tie.Need-returns-2
 returns-2 c =
     let a = c .before .before .before .before .before .before .args in
-    refused-row wholeRow _ (a .row .now) _ (faultOf (c .before .before .verdict .given .0 .0)) (ap (λ (v : Verdict). wordsSaid v (a .words .now)) (c .before .before .verdict .given .1)) (c .number-with .ensures)
+    refused-row wholeRow _ (a .row .now) _ (faultOf (c .before .before .verdict .given .0 .0)) (ap (λ (v : Verdict). wordsSaid v (a .words .now)) (c .before .before .verdict .given .1)) (c .fault-with .ensures)
 
 returns-3 : tie.Need-returns-3
 returns-3 c =

@@ -15,7 +15,7 @@ said : (c : tie.After-choose-model) → choiceAnswer (c .before .before .before 
 said c = ap (λ (b : ErrorBound). choiceAnswer (c .before .before .before .before .args .timestamps .now) (c .before .before .before .before .args .values .now) b (c .before .before .before .before .args .m)) (sym (c .before .bound-of .ensures)) ∙ sym (c .choose-model .ensures)
 
 returns : tie.Need-returns
-returns c = refused-row modelWords modelLength (c .before .before .before .before .before .before .before .before .args .out .now) _ (faultOf (c .before .before .r .given .0 .0)) (said (c .before .before .before .before) ∙ ap saysChoice (c .before .before .r .given .1)) (c .number-with .ensures)
+returns c = refused-row modelWords modelLength (c .before .before .before .before .before .before .before .before .args .out .now) _ (faultOf (c .before .before .r .given .0 .0)) (said (c .before .before .before .before) ∙ ap saysChoice (c .before .before .r .given .1)) (c .fault-with .ensures)
 
 returns-2 : tie.Need-returns-2
 returns-2 c = rw (sym (said (c .before .before .before .before .before .before .before) ∙ ap saysChoice (c .before .before .before .before .before .model .given .1))) at (c .before .before .put-model .ensures)

@@ -16,7 +16,7 @@ said c = sym (c .finish .ensures ∙ ap (λ (b : ModelBuilder). finishAnswer b (
 
 returns : tie.Need-returns
 returns c =
-    refused-row modelWords modelLength (c .before .before .before .before .before .before .before .before .args .out .now) _ (faultOf (c .before .before .r .given .0 .0)) (ap stateless (said (c .before .before .before .before) ∙ ap saysFinish (c .before .before .r .given .1))) (c .number-with .ensures)
+    refused-row modelWords modelLength (c .before .before .before .before .before .before .before .before .args .out .now) _ (faultOf (c .before .before .r .given .0 .0)) (ap stateless (said (c .before .before .before .before) ∙ ap saysFinish (c .before .before .r .given .1))) (c .fault-with .ensures)
 
 returns-2 : tie.Need-returns-2
 returns-2 c = rw (sym (ap stateless (said (c .before .before .before .before .before .before .before) ∙ ap saysFinish (c .before .before .before .before .before .model .given .1)))) at (c .before .before .put-model .ensures)

@@ -44,7 +44,7 @@ returns-2 : tie.Need-returns-2
 returns-2 c =
     let k = c .before .before .before .before in
     let f = next-refused (row k) (out k) _ (faultOf (c .before .before .answer .given .0 .0)) (k .step-from .result .after) (said k _ (c .before .before .answer .given .1)) in
-    (c .number-with .ensures ∙ f .0, (f .1, f .2))
+    (c .fault-with .ensures ∙ f .0, (f .1, f .2))
 
 returns-3 : tie.Need-returns-3
 returns-3 c =

@@ -9,14 +9,14 @@ use Rattle.reader.specs.Calls.{openedAt}
 use Rattle.reader.specs.declared.position.Position.{Position}
 use Rattle.exports.proofs.Rows.{put}
 use Rattle.exports_reader.specs.Row.{readerLength, readerRow}
-use Rattle.exports_reader.specs.Calls.{openNumber, openRow}
+use Rattle.exports_reader.specs.Calls.{openFault, openRow}
 use Rattle.exports_reader.proofs.Faces.{open-said, reader-long}
 use borrow.Author.Needs.{needs}
 use Rattle.exports_reader.proofs.modelardb_reader_open.Statement.{statement}
 use Rattle.exports_reader.proofs.modelardb_reader_open.Tie as tie
 
 returns : tie.Need-returns
-unfolding openNumber openRow judge
+unfolding openFault openRow judge
 returns c = let e = lt-ltb 1 (c .before .before .args .mode) (omega arith) in (sym (rw e), sym (rw e))
 
 returns-2 : tie.Need-returns-2

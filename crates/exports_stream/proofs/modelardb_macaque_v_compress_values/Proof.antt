@@ -8,7 +8,7 @@ use Rattle.models.specs.Answers.{answered, answeredOn, SaidOn, stateless}
 use Rattle.models.specs.declared.Verdict.the-variants.{Passed}
 use Rattle.macaque_v.specs.Calls.{saysWrite, writeAnswer, writeMemory}
 use Rattle.macaque_v.specs.declared.MacaqueV.{MacaqueV}
-use Rattle.exports.specs.Face.{stepNumber, stepRow}
+use Rattle.exports.specs.Face.{stepFault, stepRow}
 use Rattle.exports.specs.inner.Put.{worded}
 use Rattle.exports.proofs.Rows.{step-said, put}
 use Rattle.exports_stream.specs.Row.{writerLength, writtenRow, writerIn}
@@ -49,7 +49,7 @@ returns : tie.Need-returns
 returns c =
     let k = c .before .before .before .before .before .before in
     let e = said k ∙ ap saysWrite (c .before .before .r .given .1) in
-    (c .number-of .ensures ∙ sym (ap stepNumber e), (sym (ap (stepRow (writtenRow (row k)) (row k)) e), left k))
+    (c .number-of .ensures ∙ sym (ap stepFault e), (sym (ap (stepRow (writtenRow (row k)) (row k)) e), left k))
 
 returns-2 : tie.Need-returns-2
 returns-2 c =

@@ -6,20 +6,20 @@ use lib.ListN.{length}
 use Rattle.models.specs.Calls.{saysGrid}
 use Rattle.macaque_v.specs.Read.{gridAnswer, gridMemory}
 use Rattle.macaque_v.specs.declared.Opening.{Opening}
-use Rattle.exports.specs.Face.{plainNumber}
-use Rattle.exports_stream.specs.Calls.{gridNumber, gridOut}
+use Rattle.exports.specs.Face.{plainFault}
+use Rattle.exports_stream.specs.Calls.{gridFault, gridOut}
 use Rattle.exports_stream.proofs.modelardb_macaque_v_grid.Statement.{statement}
 use Rattle.exports_stream.proofs.modelardb_macaque_v_grid.Tie as tie
 
 -- what the call behind says and leaves, of the count and the opening that the mode allows
 said : (c : tie.After-grid)
-    → plainNumber (saysGrid (c .grid .result))
-    ≡ gridNumber (c .before .before .before .before .before .before .args .bytes .now) (c .before .before .before .before .before .before .args .count) (c .before .before .before .before .before .before .args .mode)
+    → plainFault (saysGrid (c .grid .result))
+    ≡ gridFault (c .before .before .before .before .before .before .args .bytes .now) (c .before .before .before .before .before .before .args .count) (c .before .before .before .before .before .before .args .mode)
     (c .before .before .before .before .before .before .args .opening) (c .before .before .before .before .before .before .args .out .now)
-unfolding gridNumber
+unfolding gridFault
 said c =
     let a = c .before .before .before .before .before .before .args in
-    ap plainNumber
+    ap plainFault
     (c .grid .ensures .0 ∙ ap₂ (λ (n : ℕ) (o : Opening). gridAnswer (a .bytes .now) n o (length (a .out .now))) (c .before .before .before .count-in .ensures) (c .before .before .opening-of .ensures))
 
 left : (c : tie.After-grid)
@@ -34,12 +34,12 @@ left c =
 returns : tie.Need-returns
 returns c =
     let k = c .before .before .before .before .before .before in
-    (c .number-of .ensures ∙ sym (ap (λ r. plainNumber (saysGrid r)) (c .before .before .r .given .1)) ∙ said k, left k)
+    (c .number-of .ensures ∙ sym (ap (λ r. plainFault (saysGrid r)) (c .before .before .r .given .1)) ∙ said k, left k)
 
 returns-2 : tie.Need-returns-2
 returns-2 c =
     let k = c .before .before .before .before in
-    (sym (ap (λ r. plainNumber (saysGrid r)) (c .enum-told .given .1)) ∙ said k, left k)
+    (sym (ap (λ r. plainFault (saysGrid r)) (c .enum-told .given .1)) ∙ said k, left k)
 
 pub modelardb-macaque-v-grid-spec : {M : Type 1} → statement M
 modelardb-macaque-v-grid-spec =

@@ -19,7 +19,7 @@ said : (c : tie.After-new) → newAnswer (boundOf (c .before .before .before .ar
 said c = ap newAnswer (sym (c .before .bound-of .ensures)) ∙ sym (c .new .ensures)
 
 returns : tie.Need-returns
-returns c = refused-row pmcFresh pmcLength (c .before .before .before .before .before .before .before .args .state .now) _ (faultOf (c .before .before .r .given .0 .0)) (said (c .before .before .before .before) ∙ ap saysNew (c .before .before .r .given .1)) (c .number-with .ensures)
+returns c = refused-row pmcFresh pmcLength (c .before .before .before .before .before .before .before .args .state .now) _ (faultOf (c .before .before .r .given .0 .0)) (said (c .before .before .before .before) ∙ ap saysNew (c .before .before .r .given .1)) (c .fault-with .ensures)
 
 returns-2 : tie.Need-returns-2
 returns-2 c =

@@ -18,9 +18,10 @@ returns c =
 
 returns-2 : tie.Need-returns-2
 returns-2 c =
-    let l = c .before .before in
+    let p = c .before .before in
+    let l = p .before .before in
     let a = l .before .before .args in
-    ended-wrong (a .bytes .now) (a .at) _ (sym (ap saysBehind (c .enum-told2 .given .1)) ∙ l .left-behind .ensures)
+    ended-wrong (a .bytes .now) (a .at) _ (sym (ap saysBehind (p .place .given .1)) ∙ l .left-behind .ensures)
 
 pub judge-end-spec : {M : Type 1} → statement M
-judge-end-spec = tie.close (tie.spec left-behind-requires (λ c. search needs) (λ c. search needs) returns returns-2)
+judge-end-spec = tie.close (tie.spec left-behind-requires (λ c. search needs) (λ c. search needs) (λ c. search needs) returns returns-2)

@@ -7,7 +7,7 @@ use native.Mathlib.Omega.{arith}
 use lib.Dec.{eqb}
 use lib.ListN.{take, drop}
 use Rattle.bits.specs.Bits.{bitsOf}
-use Rattle.models.specs.Answers.{fault, refused}
+use Rattle.models.specs.Answers.{refused}
 use Rattle.stream.specs.Format.{opening, macaque, windowIn}
 use Rattle.stream.specs.Read.{readOne}
 use Rattle.coding.specs.inner.Ahead.{saysDecoded}
@@ -54,7 +54,7 @@ returns c =
     let d = r .before .before in
     let s = d .before .before .before .before .before in
     let a = s .args in
-    ap (λ (n : ℕ). refused (fault n)) (c .refusal-of .ensures)
+    ap refused (c .refusal-of .ensures)
     ∙ sym (next-is (a .first) (a .bytes .now) (a .at) (s .pre .0) (a .first && eqb (a .at .count) 0) (raw-is (a .first) (a .at .count)) _ (step d ∙ ap saysDecoded (r .s .given .1)))
 
 returns-2 : tie.Need-returns-2
