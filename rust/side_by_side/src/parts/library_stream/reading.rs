@@ -87,7 +87,7 @@ fn most_values(context: &mut Context) {
     last(context, &stream, MOST_VALUES, (1, ONE), &[STALE_VALUE]);
 }
 
-fn opened(context: &mut Context, opening: Words, row: &[u64]) -> Left<u64> {
+pub fn opened(context: &mut Context, opening: Words, row: &[u64]) -> Left<u64> {
     compared(
         context,
         (row, WORD_GUARD),
@@ -98,7 +98,7 @@ fn opened(context: &mut Context, opening: Words, row: &[u64]) -> Left<u64> {
 }
 
 /// What is answered, and what the row and the output hold afterwards.
-fn next(
+pub fn next(
     context: &mut Context,
     bytes: &[u8],
     row: &[u64],
@@ -118,7 +118,7 @@ fn next(
     (fault, after, value)
 }
 
-fn ended(context: &mut Context, bytes: &[u8], row: &[u64]) -> Fault {
+pub fn ended(context: &mut Context, bytes: &[u8], row: &[u64]) -> Fault {
     let (mut row_is_kept, mut bytes_are_kept) = (false, false);
     let ours = to_read((row, WORD_GUARD), &mut row_is_kept, |row| {
         to_read((bytes, BYTE_GUARD), &mut bytes_are_kept, |bytes| {
@@ -132,14 +132,21 @@ fn ended(context: &mut Context, bytes: &[u8], row: &[u64]) -> Fault {
     fault
 }
 
-fn last(context: &mut Context, bytes: &[u8], count: usize, opening: Words, out: &[u32]) {
+pub fn last(
+    context: &mut Context,
+    bytes: &[u8],
+    count: usize,
+    opening: Words,
+    out: &[u32],
+) -> Fault {
     compared(
         context,
         (out, VALUE_GUARD),
         |out| face::reader::last_value(bytes, count, opening, out),
         |out| ffi::reader_last_value(bytes, count, opening, out),
         || format!("last of {count} in {bytes:02X?} {opening:X?}"),
-    );
+    )
+    .0
 }
 
 /// Some bytes, and a reader in them, with none to two of its words changed.
