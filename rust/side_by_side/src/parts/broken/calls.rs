@@ -55,10 +55,10 @@ impl Broken {
             answer = end;
         }
         context.same("the bits", told, answer, || self.to_string());
-        // An end that is refused says how many were read.
-        let numbers = (end.number == LEFTOVER).then_some(end.value as usize);
-        let expected = numbers.map(|_| read);
-        context.same("the reader", expected, numbers, || self.to_string());
+        if end.number == LEFTOVER {
+            let value = end.value as usize;
+            context.same("how many were read", read, value, || self.to_string());
+        }
     }
 
     /// As the residuals of a segment of each model, which is 1.0 all along.
