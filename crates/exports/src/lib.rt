@@ -75,6 +75,13 @@ pub const ACCEPTED: Fault = Fault {
     place: 0,
 };
 
+// What is answered for a mode that is none.
+pub const OVER_LIMIT: Fault = Fault {
+    number: 3,
+    value: 0,
+    place: 0,
+};
+
 // What is answered where a row does not hold its words.
 pub const TOO_SHORT: Fault = Fault {
     number: 4,

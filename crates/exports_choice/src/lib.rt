@@ -4,6 +4,7 @@
 use exports::words;
 use exports_fit::rows;
 use models::ErrorBound;
+use models::Fault;
 use models::Verdict;
 use pmc_mean::PMCMean;
 use types::ChoiceAnswer;
@@ -140,11 +141,11 @@ fn builder_step(answer: UpdateAnswer) -> BuilderStep
     }
 }
 
-// ---- the words of the chosen model, and the number of the answer
+// ---- the words of the chosen model, and the fault of the answer
 
 const MODEL_WORDS: usize = 5;
 
-fn put_model(out: &mut [u64], m: SelectedModel) -> u32
+fn put_model(out: &mut [u64], m: SelectedModel) -> Fault
     ensures fault { λ r. ⌜ r ≡ faultSaid modelLength (length (now (out .entry))) (answered m) ⌝ }
     ensures row { λ r. ⌜ now (out .exit) ≡ rowAfter modelLength modelWords (now (out .entry)) (answered m) ⌝ }
 {
@@ -162,7 +163,7 @@ fn put_model(out: &mut [u64], m: SelectedModel) -> u32
 
 // The builder before any value into the row.
 #[no_mangle]
-pub extern "C" fn modelardb_model_builder_new(kind: u32, bound: u32, state: &mut [u64]) -> u32
+pub extern "C" fn modelardb_model_builder_new(kind: u32, bound: u32, state: &mut [u64]) -> Fault
     ensures fault { λ r. ⌜ r ≡ faultSaid builderLength (length (now (state .entry))) (newAnswer (boundOf kind bound)) ⌝ }
     ensures row { λ r. ⌜ now (state .exit) ≡ rowAfter builderLength builderRow (now (state .entry)) (newAnswer (boundOf kind bound)) ⌝ }
 {
@@ -179,7 +180,7 @@ pub extern "C" fn modelardb_model_builder_try_to_update_models(
     state: &mut [u64],
     timestamp: i64,
     value: u32,
-) -> u32
+) -> Fault
     ensures fault { λ r. ⌜ r ≡ stepFault (updateAnswer (builderIn (now (state .entry))) timestamp value) ⌝ }
     ensures row { λ r. ⌜ now (state .exit) ≡ stepRow builderStep (now (state .entry)) (updateAnswer (builderIn (now (state .entry))) timestamp value) ⌝ }
 {
@@ -191,7 +192,7 @@ pub extern "C" fn modelardb_model_builder_try_to_update_models(
 
 // The model that needs fewer bytes for each value, with metadata of m bytes, into `out`.
 #[no_mangle]
-pub extern "C" fn modelardb_model_builder_finish(state: &[u64], m: usize, out: &mut [u64]) -> u32
+pub extern "C" fn modelardb_model_builder_finish(state: &[u64], m: usize, out: &mut [u64]) -> Fault
     ensures fault { λ r. ⌜ r ≡ askFault modelLength (length (now (out .entry))) (finishAnswer (builderIn (now (state .entry))) m) ⌝ }
     ensures row { λ r. ⌜ now (out .exit) ≡ askRow modelLength modelWords (now (out .entry)) (finishAnswer (builderIn (now (state .entry))) m) ⌝ }
 {
@@ -212,7 +213,7 @@ pub extern "C" fn modelardb_choose_model(
     bound: u32,
     m: usize,
     out: &mut [u64],
-) -> u32
+) -> Fault
     ensures fault { λ r. ⌜ r ≡ faultSaid modelLength (length (now (out .entry))) (choiceAnswer (now (timestamps .entry)) (now (values .entry)) (boundOf kind bound) m) ⌝ }
     ensures row { λ r. ⌜ now (out .exit) ≡ rowAfter modelLength modelWords (now (out .entry)) (choiceAnswer (now (timestamps .entry)) (now (values .entry)) (boundOf kind bound) m) ⌝ }
 {

@@ -1,6 +1,7 @@
 // PMC-Mean's calls.
 
 use crate::rows;
+use models::Fault;
 use models::GridAnswer;
 use models::Verdict;
 use pmc_mean::NewAnswer;
@@ -15,7 +16,7 @@ ghost use Rattle.exports_fit.specs.Row.{pmcLength, pmcIn, pmcFresh, pmcS
 
 // The state before any value into the row.
 #[no_mangle]
-pub extern "C" fn modelardb_pmc_mean_new(kind: u32, bound: u32, state: &mut [u64]) -> u32
+pub extern "C" fn modelardb_pmc_mean_new(kind: u32, bound: u32, state: &mut [u64]) -> Fault
     ensures fault { λ r. ⌜ r ≡ faultSaid pmcLength (length (now (state .entry))) (newAnswer (boundOf kind bound)) ⌝ }
     ensures row { λ r. ⌜ now (state .exit) ≡ rowAfter pmcLength pmcFresh (now (state .entry)) (newAnswer (boundOf kind bound)) ⌝ }
 {
@@ -29,7 +30,7 @@ pub extern "C" fn modelardb_pmc_mean_new(kind: u32, bound: u32, state: &mut [u64
 
 // Tries one more value; the row becomes the state after it, its last word 1 where the value fitted.
 #[no_mangle]
-pub extern "C" fn modelardb_pmc_mean_fit_value(state: &mut [u64], value: u32) -> u32
+pub extern "C" fn modelardb_pmc_mean_fit_value(state: &mut [u64], value: u32) -> Fault
     ensures fault { λ r. ⌜ r ≡ stepFault (fitAnswer (pmcIn (now (state .entry))) value) ⌝ }
     ensures row { λ r. ⌜ now (state .exit) ≡ stepRow pmcStepRow (now (state .entry)) (fitAnswer (pmcIn (now (state .entry))) value) ⌝ }
 {
@@ -45,7 +46,7 @@ pub extern "C" fn modelardb_pmc_mean_bytes_per_value(
     state: &[u64],
     m: usize,
     out: &mut [u32],
-) -> u32
+) -> Fault
     ensures fault { λ r. ⌜ r ≡ askFault 1 (length (now (out .entry))) (costAnswer (pmcIn (now (state .entry))) m) ⌝ }
     ensures row { λ r. ⌜ now (out .exit) ≡ askRow 1 wordOf32 (now (out .entry)) (costAnswer (pmcIn (now (state .entry))) m) ⌝ }
 {
@@ -55,7 +56,7 @@ pub extern "C" fn modelardb_pmc_mean_bytes_per_value(
 
 // The average's pattern into out[0].
 #[no_mangle]
-pub extern "C" fn modelardb_pmc_mean_model(state: &[u64], out: &mut [u32]) -> u32
+pub extern "C" fn modelardb_pmc_mean_model(state: &[u64], out: &mut [u32]) -> Fault
     ensures fault { λ r. ⌜ r ≡ askFault 1 (length (now (out .entry))) (modelAnswer (pmcIn (now (state .entry)))) ⌝ }
     ensures row { λ r. ⌜ now (out .exit) ≡ askRow 1 oneWord (now (out .entry)) (modelAnswer (pmcIn (now (state .entry)))) ⌝ }
 {
@@ -65,7 +66,7 @@ pub extern "C" fn modelardb_pmc_mean_model(state: &[u64], out: &mut [u32]) -> u3
 
 // The pattern of the sum of `count` values into out[0].
 #[no_mangle]
-pub extern "C" fn modelardb_pmc_mean_sum(count: usize, value: u32, out: &mut [u32]) -> u32
+pub extern "C" fn modelardb_pmc_mean_sum(count: usize, value: u32, out: &mut [u32]) -> Fault
     ensures fault { λ r. ⌜ r ≡ faultSaid 1 (length (now (out .entry))) (sumAnswer count value) ⌝ }
     ensures row { λ r. ⌜ now (out .exit) ≡ rowAfter 1 oneWord (now (out .entry)) (sumAnswer count value) ⌝ }
 {
@@ -74,12 +75,12 @@ pub extern "C" fn modelardb_pmc_mean_sum(count: usize, value: u32, out: &mut [u3
 
 // The value `count` times to the front of `out`.
 #[no_mangle]
-pub extern "C" fn modelardb_pmc_mean_grid(value: u32, count: usize, out: &mut [u32]) -> u32
+pub extern "C" fn modelardb_pmc_mean_grid(value: u32, count: usize, out: &mut [u32]) -> Fault
     ensures fault { λ r. ⌜ r ≡ plainFault (verdict (gridCauses count (length (now (out .entry))))) ⌝ }
     ensures row { λ r. ⌜ now (out .exit) ≡ gridMemory value count (now (out .entry)) ⌝ }
 {
     match pmc_mean::grid(value, count, out) {
         GridAnswer::Refused(r) => models::fault_of(r),
-        GridAnswer::Drawn => 0,
+        GridAnswer::Drawn => exports::ACCEPTED,
     }
 }

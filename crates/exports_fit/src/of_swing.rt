@@ -1,6 +1,7 @@
 // Swing's calls.
 
 use crate::rows;
+use models::Fault;
 use models::GridAnswer;
 use models::Verdict;
 use swing::NewAnswer;
@@ -16,7 +17,7 @@ ghost use Rattle.exports_fit.specs.Row.{swingLength, swingIn, swingFresh
 
 // The state before any point into the row.
 #[no_mangle]
-pub extern "C" fn modelardb_swing_new(kind: u32, bound: u32, state: &mut [u64]) -> u32
+pub extern "C" fn modelardb_swing_new(kind: u32, bound: u32, state: &mut [u64]) -> Fault
     ensures fault { λ r. ⌜ r ≡ faultSaid swingLength (length (now (state .entry))) (newAnswer (boundOf kind bound)) ⌝ }
     ensures row { λ r. ⌜ now (state .exit) ≡ rowAfter swingLength swingFresh (now (state .entry)) (newAnswer (boundOf kind bound)) ⌝ }
 {
@@ -34,7 +35,7 @@ pub extern "C" fn modelardb_swing_fit_data_point(
     state: &mut [u64],
     timestamp: i64,
     value: u32,
-) -> u32
+) -> Fault
     ensures fault { λ r. ⌜ r ≡ stepFault (fitAnswer (swingIn (now (state .entry))) timestamp value) ⌝ }
     ensures row { λ r. ⌜ now (state .exit) ≡ stepRow swingStepRow (now (state .entry)) (fitAnswer (swingIn (now (state .entry))) timestamp value) ⌝ }
 {
@@ -46,7 +47,7 @@ pub extern "C" fn modelardb_swing_fit_data_point(
 
 // The f32 pattern of the bytes for each value into out[0].
 #[no_mangle]
-pub extern "C" fn modelardb_swing_bytes_per_value(state: &[u64], m: usize, out: &mut [u32]) -> u32
+pub extern "C" fn modelardb_swing_bytes_per_value(state: &[u64], m: usize, out: &mut [u32]) -> Fault
     ensures fault { λ r. ⌜ r ≡ askFault 1 (length (now (out .entry))) (costAnswer (swingIn (now (state .entry))) m) ⌝ }
     ensures row { λ r. ⌜ now (out .exit) ≡ askRow 1 wordOf32 (now (out .entry)) (costAnswer (swingIn (now (state .entry))) m) ⌝ }
 {
@@ -56,7 +57,7 @@ pub extern "C" fn modelardb_swing_bytes_per_value(state: &[u64], m: usize, out: 
 
 // The patterns of the line's first and last value into out[0] and out[1].
 #[no_mangle]
-pub extern "C" fn modelardb_swing_model(state: &[u64], out: &mut [u32]) -> u32
+pub extern "C" fn modelardb_swing_model(state: &[u64], out: &mut [u32]) -> Fault
     ensures fault { λ r. ⌜ r ≡ askFault 2 (length (now (out .entry))) (modelAnswer (swingIn (now (state .entry)))) ⌝ }
     ensures row { λ r. ⌜ now (out .exit) ≡ askRow 2 endsRow (now (out .entry)) (modelAnswer (swingIn (now (state .entry)))) ⌝ }
 {
@@ -73,7 +74,7 @@ pub extern "C" fn modelardb_swing_sum_by_average(
     last_value: u32,
     count: usize,
     out: &mut [u32],
-) -> u32
+) -> Fault
     ensures fault { λ r. ⌜ r ≡ faultSaid 1 (length (now (out .entry))) (averageAnswer (pointOf «start_time» «first_value») (pointOf «end_time» «last_value») count) ⌝ }
     ensures row { λ r. ⌜ now (out .exit) ≡ rowAfter 1 oneWord (now (out .entry)) (averageAnswer (pointOf «start_time» «first_value») (pointOf «end_time» «last_value») count) ⌝ }
 {
@@ -92,7 +93,7 @@ pub extern "C" fn modelardb_swing_sum_over(
     last_value: u32,
     timestamps: &[i64],
     out: &mut [u32],
-) -> u32
+) -> Fault
     ensures fault { λ r. ⌜ r ≡ faultSaid 1 (length (now (out .entry))) (sumAnswer (pointOf «start_time» «first_value») (pointOf «end_time» «last_value») (now (timestamps .entry))) ⌝ }
     ensures row { λ r. ⌜ now (out .exit) ≡ rowAfter 1 oneWord (now (out .entry)) (sumAnswer (pointOf «start_time» «first_value») (pointOf «end_time» «last_value») (now (timestamps .entry))) ⌝ }
 {
@@ -111,7 +112,7 @@ pub extern "C" fn modelardb_swing_grid(
     last_value: u32,
     timestamps: &[i64],
     out: &mut [u32],
-) -> u32
+) -> Fault
     ensures fault { λ r. ⌜ r ≡ plainFault (verdict (gridCauses (pointOf «start_time» «first_value») (pointOf «end_time» «last_value») (now (timestamps .entry)) (length (now (out .entry))))) ⌝ }
     ensures row { λ r. ⌜ now (out .exit) ≡ gridMemory (pointOf «start_time» «first_value») (pointOf «end_time» «last_value») (now (timestamps .entry)) (now (out .entry)) ⌝ }
 {
@@ -124,6 +125,6 @@ pub extern "C" fn modelardb_swing_grid(
         out,
     ) {
         GridAnswer::Refused(r) => models::fault_of(r),
-        GridAnswer::Drawn => 0,
+        GridAnswer::Drawn => exports::ACCEPTED,
     }
 }

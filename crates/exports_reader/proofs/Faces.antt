@@ -7,7 +7,7 @@ use native.Mathlib.Omega.{arith}
 use borrow.Author.Tests.{le-leb, lt-leb, leb-true, leb-false, lt-ltb, le-ltb}
 use lib.Dec.{eqb, leb, ltb}
 use lib.ListN.{length, drop, getD}
-use Rattle.models.specs.Answers.{fault, answered, refused, SaidOn, answeredOn, refusedOn, stateless, judge}
+use Rattle.models.specs.Answers.{fault, noFault, answered, refused, SaidOn, answeredOn, refusedOn, stateless, judge}
 use Rattle.models.specs.declared.Fault.{Fault}
 use Rattle.models.proofs.Judged.{not-answered-on}
 use Rattle.models.proofs.Tests.{and-left, and-right, and-parts, and-false}
@@ -25,13 +25,13 @@ use Rattle.exports_reader.specs.Row.{readerLength, readerRow, standsForR
 use Rattle.exports_reader.specs.Calls.{openFault, openRow, oneValue, movedRow, nextRow}
 
 -- ---- open
-pub open-said : (mode opening : ℕ) (row : List ℕ) → mode ≤ 1 → {number : ℕ} {after : List ℕ} → Faced readerRow readerLength row (answered (openedAt (openingOf mode opening))) number after
-    → (number ≡ openFault mode row) × (after ≡ openRow mode opening row)
+pub open-said : (mode opening : ℕ) (row : List ℕ) → mode ≤ 1 → {told : Fault} {after : List ℕ} → Faced readerRow readerLength row (answered (openedAt (openingOf mode opening))) told after
+    → (told ≡ openFault mode row) × (after ≡ openRow mode opening row)
 unfolding openFault openRow judge faultSaid rowAfter
 open-said mode opening row one f =
     let e : ltb 1 mode ≡ false = le-ltb 1 mode one in
     let g = held (leb readerLength (length row)) refl in
-    (f .0 ∙ turned 0 4 (leb readerLength (length row)) ∙ sym (rw (e, g)), f .1 ∙ turned (rowIn readerRow row (answered (openedAt (openingOf mode opening)))) row (leb readerLength (length row)) ∙ sym (rw (e, g)))
+    (f .0 ∙ turned noFault (fault 4) (leb readerLength (length row)) ∙ sym (rw (e, g)), f .1 ∙ turned (rowIn readerRow row (answered (openedAt (openingOf mode opening)))) row (leb readerLength (length row)) ∙ sym (rw (e, g)))
   where
     turned : {A : Type 0} (x y : A) (b : Bool) → cond b x y ≡ cond (not b) y x
     turned x y true = refl
@@ -45,23 +45,23 @@ open-said mode opening row one f =
 -- ---- next
 
 module _ (row out : List ℕ) (said : SaidOn Position Taken) where
-  -- the number, the reader's row and the output
-  abbrev Nexted : ℕ → List ℕ → List ℕ → Type 0
-  Nexted number row′ out′ = (number ≡ askFault 1 (length out) said) × (row′ ≡ nextRow row out said) × (out′ ≡ askRow 1 oneValue out said)
+  -- the fault, the reader's row and the output
+  abbrev Nexted : Fault → List ℕ → List ℕ → Type 0
+  Nexted told row′ out′ = (told ≡ askFault 1 (length out) said) × (row′ ≡ nextRow row out said) × (out′ ≡ askRow 1 oneValue out said)
 
-  pub next-refused : (f : Fault) (p : Position) → said ≡ refusedOn f p → Nexted (refusalFault 1 (length out) (f .number)) row out
+  pub next-refused : (f : Fault) (p : Position) → said ≡ refusedOn f p → Nexted (refusalFault 1 (length out) f) row out
   unfolding nextRow
   next-refused f p e =
       let a = refused-row oneValue 1 out (stateless said) f (ap stateless e) refl in
       (a .0, sym (ap (λ (q : SaidOn Position Taken). cond (leb 1 (length out)) (stepRow movedRow row q) row) e ∙ same (leb 1 (length out)) row), a .1)
 
-  pub next-no-room : (t : Taken) → said ≡ answeredOn t → length out < 1 → Nexted 4 row out
+  pub next-no-room : (t : Taken) → said ≡ answeredOn t → length out < 1 → Nexted (fault 4) row out
   unfolding nextRow
   next-no-room t e g =
       let a = short-row oneValue 1 out (stateless said) t (ap stateless e) g in
       (a .0, sym (rw (lt-leb 1 (length out) g)), a .1)
 
-  pub next-answered : (t : Taken) → said ≡ answeredOn t → 1 ≤ length out → Nexted 0 (rowIn readerRow row (answered (t .after))) (t .value ∷ drop 1 out)
+  pub next-answered : (t : Taken) → said ≡ answeredOn t → 1 ≤ length out → Nexted noFault (rowIn readerRow row (answered (t .after))) (t .value ∷ drop 1 out)
   unfolding nextRow
   next-answered t e g =
       let a = full-row oneValue 1 out (stateless said) t (ap stateless e) g in

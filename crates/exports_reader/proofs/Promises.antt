@@ -10,7 +10,7 @@ use native.Mathlib.Omega.{arith}
 use borrow.Author.Tests.{le-leb, le-ltb, ltb-true}
 use lib.ListN.{length, take, drop, getD}
 use Rattle.bits.specs.Bits.{Below, wholeBytes}
-use Rattle.models.specs.Answers.{Said, Done, answered, refused, SaidOn, answeredOn, refusedOn, refusing, stateless, fault, judge}
+use Rattle.models.specs.Answers.{Said, Done, answered, refused, SaidOn, answeredOn, refusedOn, refusing, stateless, fault, noFault, judge}
 use Rattle.models.specs.declared.Fault.{Fault}
 use Rattle.models.specs.Limits.{mostValues}
 use Rattle.models.specs.declared.ErrorBound.{ErrorBound}
@@ -41,7 +41,7 @@ use Rattle.reader.specs.declared.position.Position.{Position}
 use Rattle.reader.proofs.Promises.{cons, also-cons, n-nexts-and-the-end, as-the-grid}
 use Rattle.exports_reader.specs.Row.{readerLength, standsForReader, positionIn}
 use Rattle.exports_reader.specs.Calls.{openFault, openRow, nextRow, endFault}
-use Rattle.exports_reader.specs.Run.{nextFault, nextMoved, nextOut, ifZero, andLater, readThrough, EachAnswersZero}
+use Rattle.exports_reader.specs.Run.{nextFault, nextMoved, nextOut, unless, ifZero, andLater, readThrough, EachAnswersZero}
 use Rattle.exports_reader.proofs.Faces.{short-stands-for-none, no-reader, small-words, a-reader, no-reader-next, no-reader-end, position-back}
 
 -- ---- a reader whose words are of 32 bits is read back from its row, and its next leads to such a one
@@ -85,7 +85,7 @@ module _ (bytes : List ℕ) (p : Position) (small : Small p) where
 -- ---- the row that a call left stands for the reader that it made
 
 pub an-opened-row : (mode opening : ℕ) (row : List ℕ) → mode ≤ 1 → readerLength ≤ length row → openingValue (openingOf mode opening) < 2 ^ 32
-    → (openFault mode row ≡ 0) × (positionIn (openRow mode opening row) ≡ openedAt (openingOf mode opening))
+    → (openFault mode row ≡ noFault) × (positionIn (openRow mode opening row) ≡ openedAt (openingOf mode opening))
 unfolding openFault openRow judge
 an-opened-row mode opening row one words h =
     let s = open-small (openingOf mode opening) h in
@@ -93,13 +93,13 @@ an-opened-row mode opening row one words h =
 
 module _ (bytes row out : List ℕ) (room : 1 ≤ length out) (t : Taken) (h : nextAnswer bytes (positionIn row) ≡ answeredOn t) where
   -- a next that the reader answers is 0, puts the value into out[0], and the row stands for the reader behind it
-  pub a-row-moves : (nextFault bytes row out ≡ 0) × (nextOut bytes row out ≡ t .value ∷ drop 1 out) × (positionIn (nextMoved bytes row out) ≡ t .after)
+  pub a-row-moves : (nextFault bytes row out ≡ noFault) × (nextOut bytes row out ≡ t .value ∷ drop 1 out) × (positionIn (nextMoved bytes row out) ≡ t .after)
   unfolding faultSaid rowAfter nextRow
   a-row-moves =
       let s = next-small bytes (positionIn row) (row-small row) t h in
       rw (h, le-leb 1 (length out) room) (refl, refl, position-back (t .after) _ (s .last) (s .lead) (s .trail))
 
--- ---- no refusal has the number 0, so a call's number tells what the call behind said
+-- ---- no refusal has the number 0, so a call's fault tells what the call behind said
 
 abbrev Numbered : {A : Type 0} → Said A → Type 0
 Numbered (answered x) = Unit {0}
@@ -125,23 +125,26 @@ module _ (bytes : List ℕ) (p : Position) where
       go none = tt
       go (some q) = omega arith
 
-told : (n : ℕ) (later : Said (List ℕ)) → 0 < n → ifZero n later ≡ refused (fault n)
-told zero later h = absurd (omega arith)
-told (suc n) later h = refl
+told : (f : Fault) (later : Said (List ℕ)) → 0 < f .number → ifZero f later ≡ refused f
+told f later h = go (f .number) h
+  where
+    go : (n : ℕ) → 0 < n → unless n f later ≡ refused f
+    go zero h = absurd (omega arith)
+    go (suc n) h = refl
 
 -- ---- reading through a row
 
 module _ (bytes : List ℕ) where
   ends : (a : Said Done) → Numbered a → ifZero (plainFault a) (answered []) ≡ ifEnded [] a
   ends (answered u) h = refl
-  ends (refused f) h = told (f .number) (answered []) h
+  ends (refused f) h = told f (answered []) h
 
   same-later : (v : ℕ) (a : Said (List ℕ)) → andLater v a ≡ cons v a
   same-later v (answered vs) = refl
   same-later v (refused f) = refl
 
   -- a refused next, with an output of one place or more
-  next-refused-with : (row out : List ℕ) → 1 ≤ length out → (f : Fault) (p : Position) → nextAnswer bytes (positionIn row) ≡ refusedOn f p → nextFault bytes row out ≡ f .number
+  next-refused-with : (row out : List ℕ) → 1 ≤ length out → (f : Fault) (p : Position) → nextAnswer bytes (positionIn row) ≡ refusedOn f p → nextFault bytes row out ≡ f
   unfolding faultSaid refusalFault
   next-refused-with row out room f p e = rw (e, le-leb 1 (length out) room, or-right (beforeShort (f .number)) true refl)
 
@@ -160,26 +163,26 @@ module _ (bytes : List ℕ) where
           let m = a-row-moves bytes row out room t e in
           let long : 1 ≤ length (nextOut bytes row out) = subst (λ (l : List ℕ). 1 ≤ length l) (sym (m .1)) (omega arith) in
           let later = ih (nextMoved bytes row out) (nextOut bytes row out) long ∙ ap (λ (p : Position). andEnd bytes (nexts bytes n p)) (m .2) in
-          ap (λ (k : ℕ). ifZero k (andLater (getD (nextOut bytes row out) 0 0) (readThrough bytes n (nextMoved bytes row out) (nextOut bytes row out)))) (m .0)
+          ap (λ (k : Fault). ifZero k (andLater (getD (nextOut bytes row out) 0 0) (readThrough bytes n (nextMoved bytes row out) (nextOut bytes row out)))) (m .0)
           ∙ ap₂ andLater (ap (λ (l : List ℕ). getD l 0 0) (m .1)) later
           ∙ same-later (t .value) (andEnd bytes (nexts bytes n (t .after)))
           ∙ sym (also-cons bytes (t .value) (nexts bytes n (t .after)))
       go (refusedOn f p) e ih =
-          ap (λ (k : ℕ). ifZero k (andLater (getD (nextOut bytes row out) 0 0) (readThrough bytes n (nextMoved bytes row out) (nextOut bytes row out)))) (next-refused-with row out room f p e)
-          ∙ told (f .number) _ (subst (λ (q : SaidOn Position Taken). Numbered (stateless q)) e (next-numbered bytes (positionIn row)))
+          ap (λ (k : Fault). ifZero k (andLater (getD (nextOut bytes row out) 0 0) (readThrough bytes n (nextMoved bytes row out) (nextOut bytes row out)))) (next-refused-with row out room f p e)
+          ∙ told f _ (subst (λ (q : SaidOn Position Taken). Numbered (stateless q)) e (next-numbered bytes (positionIn row)))
 
   -- the same, call by call
   each : (n : ℕ) (row out : List ℕ) (vs : List ℕ) → readThrough bytes n row out ≡ answered vs → EachAnswersZero bytes row out vs
   unfolding readThrough
-  each zero row out vs e = ended-so (endFault bytes row) refl e
+  each zero row out vs e = ended-so ((endFault bytes row) .number) refl e
     where
-      ended-so : (k : ℕ) → endFault bytes row ≡ k → ifZero k (answered []) ≡ answered vs → EachAnswersZero bytes row out vs
+      ended-so : (k : ℕ) → (endFault bytes row) .number ≡ k → unless k (endFault bytes row) (answered []) ≡ answered vs → EachAnswersZero bytes row out vs
       ended-so zero z e = subst (EachAnswersZero bytes row out) (same-answer e) z
       ended-so (suc k) z e = absurd (not-answered e)
-  each (suc n) row out vs e = go (nextFault bytes row out) refl (readThrough bytes n (nextMoved bytes row out) (nextOut bytes row out)) refl e (λ us r. each n (nextMoved bytes row out) (nextOut bytes row out) us r)
+  each (suc n) row out vs e = go ((nextFault bytes row out) .number) refl (readThrough bytes n (nextMoved bytes row out) (nextOut bytes row out)) refl e (λ us r. each n (nextMoved bytes row out) (nextOut bytes row out) us r)
     where
-      go : (k : ℕ) → nextFault bytes row out ≡ k → (q : Said (List ℕ)) → readThrough bytes n (nextMoved bytes row out) (nextOut bytes row out) ≡ q
-          → ifZero k (andLater (getD (nextOut bytes row out) 0 0) q) ≡ answered vs
+      go : (k : ℕ) → (nextFault bytes row out) .number ≡ k → (q : Said (List ℕ)) → readThrough bytes n (nextMoved bytes row out) (nextOut bytes row out) ≡ q
+          → unless k (nextFault bytes row out) (andLater (getD (nextOut bytes row out) 0 0) q) ≡ answered vs
           → ((us : List ℕ) → readThrough bytes n (nextMoved bytes row out) (nextOut bytes row out) ≡ answered us → EachAnswersZero bytes (nextMoved bytes row out) (nextOut bytes row out) us)
           → EachAnswersZero bytes row out vs
       go zero z (answered us) r e ih = subst (EachAnswersZero bytes row out) (same-answer e) (z, refl, ih us r)
@@ -191,7 +194,7 @@ module _ (bytes : List ℕ) where
   module _ (mode opening : ℕ) (row out : List ℕ) (one : mode ≤ 1) (words : readerLength ≤ length row) (room : 1 ≤ length out) (h : openingValue (openingOf mode opening) < 2 ^ 32)
       (n : ℕ) (few : n ≤ mostValues) where
     -- the open is 0, and the nexts and the end hand over the values that reading takes of a count of n, or answer its refusal, 5 to 8
-    pub n-nexts-and-the-end-through-a-row : (openFault mode row ≡ 0) × (readThrough bytes n (openRow mode opening row) out ≡ valuesIn bytes n (openingOf mode opening))
+    pub n-nexts-and-the-end-through-a-row : (openFault mode row ≡ noFault) × (readThrough bytes n (openRow mode opening row) out ≡ valuesIn bytes n (openingOf mode opening))
     n-nexts-and-the-end-through-a-row =
         let o = an-opened-row mode opening row one words h in
         (o .0, through-a-row n (openRow mode opening row) out room ∙ ap (λ (p : Position). andEnd bytes (nexts bytes n p)) (o .1) ∙ n-nexts-and-the-end bytes (openingOf mode opening) h n few)
@@ -233,9 +236,9 @@ module _ (mode opening : ℕ) {xs buf writer : List ℕ} (R : RowMade Lossless (
 
 -- a row that stands for no reader, one that is too short among them, is refused with 2 by next and by end
 module _ (bytes row : List ℕ) where
-  pub no-reader-is-2 : standsForReader row ≡ false → ((out : List ℕ) → nextFault bytes row out ≡ 2) × (endFault bytes row ≡ 2)
+  pub no-reader-is-2 : standsForReader row ≡ false → ((out : List ℕ) → nextFault bytes row out ≡ fault 2) × (endFault bytes row ≡ fault 2)
   unfolding faultSaid refusalFault
   no-reader-is-2 h = (λ out. rw (no-reader-next bytes row h), ap plainFault (no-reader-end bytes row h))
 
-  pub a-short-row-is-2 : length row < readerLength → ((out : List ℕ) → nextFault bytes row out ≡ 2) × (endFault bytes row ≡ 2)
+  pub a-short-row-is-2 : length row < readerLength → ((out : List ℕ) → nextFault bytes row out ≡ fault 2) × (endFault bytes row ≡ fault 2)
   a-short-row-is-2 h = no-reader-is-2 (short-stands-for-none row h)

@@ -3,15 +3,16 @@ use mathlib.Core.Path.{_≡_}
 use mathlib.Core.List.{List, [], _∷_}
 use Prim.Native.Nat.{ℕ, zero, suc}
 use lib.ListN.{length, getD}
-use Rattle.models.specs.Answers.{Said, answered, refused, fault}
+use Rattle.models.specs.Answers.{Said, answered, refused}
+use Rattle.models.specs.declared.Fault.{Fault}
 use Rattle.exports.specs.Face.{askFault, askRow}
 use Rattle.reader.specs.Calls.{nextAnswer}
 use Rattle.exports_reader.specs.Row.{positionIn}
 use Rattle.exports_reader.specs.Calls.{oneValue, nextRow, endFault}
 
--- ---- one next: the number, the row and the output
+-- ---- one next: the fault, the row and the output
 
-abbrev pub nextFault : List ℕ → List ℕ → List ℕ → ℕ
+abbrev pub nextFault : List ℕ → List ℕ → List ℕ → Fault
 nextFault bytes row out = askFault 1 (length out) (nextAnswer bytes (positionIn row))
 
 abbrev pub nextMoved : List ℕ → List ℕ → List ℕ → List ℕ
@@ -20,11 +21,14 @@ nextMoved bytes row out = nextRow row out (nextAnswer bytes (positionIn row))
 abbrev pub nextOut : List ℕ → List ℕ → List ℕ → List ℕ
 nextOut bytes row out = askRow 1 oneValue out (nextAnswer bytes (positionIn row))
 
--- ---- n of them, and the end: the values that stood in out[0], where every call answered 0; else the first other number
+-- ---- n of them, and the end: the values that stood in out[0], where every call answered a fault of number 0; else the first other fault
 
-abbrev pub ifZero : ℕ → Said (List ℕ) → Said (List ℕ)
-ifZero zero later = later
-ifZero (suc n) later = refused (fault (suc n))
+abbrev pub unless : ℕ → Fault → Said (List ℕ) → Said (List ℕ)
+unless zero f later = later
+unless (suc n) f later = refused f
+
+abbrev pub ifZero : Fault → Said (List ℕ) → Said (List ℕ)
+ifZero f later = unless (f .number) f later
 
 -- a value before others
 abbrev pub andLater : ℕ → Said (List ℕ) → Said (List ℕ)
@@ -37,10 +41,10 @@ readThrough bytes (suc n) row out =
     ifZero (nextFault bytes row out)
     (andLater (getD (nextOut bytes row out) 0 0) (readThrough bytes n (nextMoved bytes row out) (nextOut bytes row out)))
 
--- the same, call by call: each next answers 0 and puts its value into out[0], and behind them the end answers 0
+-- the same, call by call: each next answers the number 0 and puts its value into out[0], and behind them the end answers 0
 abbrev pub EachAnswersZero : List ℕ → List ℕ → List ℕ → List ℕ → Type 0
-EachAnswersZero bytes row out [] = endFault bytes row ≡ 0
+EachAnswersZero bytes row out [] = (endFault bytes row) .number ≡ 0
 EachAnswersZero bytes row out (v ∷ vs) =
-    (nextFault bytes row out ≡ 0)
+    ((nextFault bytes row out) .number ≡ 0)
     × (getD (nextOut bytes row out) 0 0 ≡ v)
     × EachAnswersZero bytes (nextMoved bytes row out) (nextOut bytes row out) vs

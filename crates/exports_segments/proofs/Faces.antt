@@ -6,10 +6,11 @@ use Prim.Native.Nat.{ℕ, _≤_, _<_}
 use borrow.Author.Tests.{lt-ltb, le-ltb}
 use lib.Dec.{ltb}
 use lib.ListN.{length}
-use Rattle.models.specs.Answers.{Said, judge, verdict, keeping, itself}
-use Rattle.models.specs.Refusals.{number}
+use Rattle.models.specs.Answers.{fault, Said, judge, verdict, keeping, itself}
+use Rattle.models.specs.Refusals.{faultOf}
 use Rattle.models.specs.Calls.{saysVerdict}
 use Rattle.models.specs.declared.ErrorBound.{ErrorBound}
+use Rattle.models.specs.declared.Fault.{Fault}
 use Rattle.models.specs.declared.Refusal.{Refusal}
 use Rattle.models.specs.declared.Verdict.{Verdict}
 use Rattle.models.specs.declared.Verdict.the-variants.{Passed, Refused}
@@ -34,7 +35,7 @@ ends-said (OfEnds.Refused r) = refl
 
 -- ---- encode
 module _ (form : Form) (out row : List ℕ) where
-  pub encode-short : length row < 1 → (4 ≡ encodeFault form out row) × (out ≡ encodeOut form out row) × (row ≡ encodeRow form out row)
+  pub encode-short : length row < 1 → (fault 4 ≡ encodeFault form out row) × (out ≡ encodeOut form out row) × (row ≡ encodeRow form out row)
   unfolding encodeFault encodeOut encodeRow judge
   encode-short h =
       let e : ltb (length row) 1 ≡ true = lt-ltb (length row) 1 h in
@@ -55,14 +56,14 @@ module _ (form : Form) (out row : List ℕ) where
 
 -- ---- writing a segment, by the verdict on its causes
 module _ (model first last : ℕ) (b : ErrorBound) (xs valuesOut residualsOut row : List ℕ) (v : Verdict) (says : saysVerdict v ≡ verdict (segmentCauses model b xs (length row))) where
-  abbrev Left : ℕ → List ℕ → List ℕ → List ℕ → Type 0
-  Left n values residuals words =
-      (n ≡ segmentFault model first last b xs valuesOut residualsOut row)
+  abbrev Left : Fault → List ℕ → List ℕ → List ℕ → Type 0
+  Left told values residuals words =
+      (told ≡ segmentFault model first last b xs valuesOut residualsOut row)
       × (values ≡ segmentValuesOut model first last b xs valuesOut residualsOut row)
       × (residuals ≡ segmentResidualsOut model first last b xs valuesOut residualsOut row)
       × (words ≡ segmentRow model first last b xs valuesOut residualsOut row)
 
-  pub segment-refused : (r : Refusal) → v ≡ Refused r → Left (number r) valuesOut residualsOut row
+  pub segment-refused : (r : Refusal) → v ≡ Refused r → Left (faultOf r) valuesOut residualsOut row
   unfolding segmentFault segmentValuesOut segmentResidualsOut segmentRow
   segment-refused r e =
       let causes = segmentCauses model b xs (length row) in (

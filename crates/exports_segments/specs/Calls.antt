@@ -1,4 +1,4 @@
--- What the calls on parameter bytes and segments answer and leave through the C face: the number, and the lent memory afterwards, by what the call behind
+-- What the calls on parameter bytes and segments answer and leave through the C face: the fault, and the lent memory afterwards, by what the call behind
 -- says. Assumes nothing.
 use mathlib.Core.Bool.{Bool}
 use mathlib.Core.List.{List, [], _∷_, _++_}
@@ -7,6 +7,7 @@ use lib.Dec.{ltb}
 use lib.IntN.{ℤ}
 use lib.ListN.{length}
 use Rattle.models.specs.Answers.{Cause, _when_, judge, judgedMemory, itself}
+use Rattle.models.specs.declared.Fault.{Fault}
 use Rattle.models.specs.declared.ErrorBound.{ErrorBound}
 use Rattle.parameters.specs.Forms.{Ends, formBytes}
 use Rattle.parameters.specs.Calls.{lengthAnswer, bytesAfter}
@@ -36,7 +37,7 @@ rowShort need room = 4 when ltb room need
 
 -- ---- encode: the bytes of a form, and the row that takes their number
 
-unfoldable pub encodeFault : Form → List ℕ → List ℕ → ℕ
+unfoldable pub encodeFault : Form → List ℕ → List ℕ → Fault
 encodeFault form out row = judge itself (rowShort 1 (length row) ∷ []) (plainFault (lengthAnswer (formBytes form) out))
 
 unfoldable pub encodeOut : Form → List ℕ → List ℕ → List ℕ
@@ -50,7 +51,7 @@ encodeRow form out row = judgedMemory row (rowShort 1 (length row) ∷ []) (rowI
 abbrev pub segmentCauses : ℕ → ErrorBound → List ℕ → ℕ → List Cause
 segmentCauses model b xs room = writeCauses model b xs ++ (rowShort segmentLength room ∷ [])
 
-unfoldable pub segmentFault : ℕ → ℕ → ℕ → ErrorBound → List ℕ → List ℕ → List ℕ → List ℕ → ℕ
+unfoldable pub segmentFault : ℕ → ℕ → ℕ → ErrorBound → List ℕ → List ℕ → List ℕ → List ℕ → Fault
 segmentFault model first last b xs valuesOut residualsOut row =
     judge itself (segmentCauses model b xs (length row)) (plainFault (writeAnswer model first last b xs valuesOut residualsOut))
 
@@ -68,14 +69,14 @@ segmentRow model first last b xs valuesOut residualsOut row =
 
 -- ---- a segment's grid and sum, of its parameter bytes as they read against its least and greatest value
 
-unfoldable pub gridFault : ℕ → List ℤ → ℕ → ℕ → List ℕ → List ℕ → List ℕ → ℕ
+unfoldable pub gridFault : ℕ → List ℤ → ℕ → ℕ → List ℕ → List ℕ → List ℕ → Fault
 gridFault model ts min max values residuals out = plainFault (gridAnswer model ts (endsIn model min max values) residuals (length out))
 
 unfoldable pub gridOut : ℕ → List ℤ → ℕ → ℕ → List ℕ → List ℕ → List ℕ → List ℕ
 gridOut model ts min max values residuals out = gridMemory model ts (endsIn model min max values) residuals out
 
 -- the output is judged in its place in 01's order: after 3 and 12, before 10, 9, 11 and the residual stream's own
-unfoldable pub sumFault : Bool → ℕ → List ℤ → ℕ → ℕ → List ℕ → List ℕ → List ℕ → ℕ
+unfoldable pub sumFault : Bool → ℕ → List ℤ → ℕ → ℕ → List ℕ → List ℕ → List ℕ → Fault
 sumFault way model ts min max values residuals out = faultSaid 1 (length out) (sumAnswer way model ts (endsIn model min max values) residuals)
 
 unfoldable pub sumOut : Bool → ℕ → List ℤ → ℕ → ℕ → List ℕ → List ℕ → List ℕ → List ℕ

@@ -1,5 +1,5 @@
-// The C face of parameter bytes and segments. A call answers 0 or the number of its refusal, and a refusal
-// changes nothing that was lent. What it answers besides goes to the front of a lent row.
+// The C face of parameter bytes and segments. A call answers a fault, of number 0 where nothing is refused, and a
+// refusal changes nothing that was lent. What it answers besides goes to the front of a lent row.
 ghost use mathlib.Core.Path.{_≡_};
 ghost use lib.ListN.{length};
 ghost use Rattle.models.specs.Answers.{verdict};
@@ -12,6 +12,7 @@ ghost use Rattle.exports_segments.specs.Calls.{segmentCauses, segmentFau
 ghost use Rattle.exports_segments.specs.Calls.{gridFault, gridOut, sumFault, sumOut};
 use macaque_v::MacaqueV;
 use models::ErrorBound;
+use models::Fault;
 use models::GridAnswer;
 use models::Refusal;
 use models::Verdict;
@@ -29,7 +30,7 @@ pub extern "C" fn modelardb_encode_values_for_pmc_mean(
     residuals_max_value: u32,
     out: &mut [u8],
     row: &mut [u64],
-) -> u32
+) -> Fault
     ensures fault { λ r. ⌜ r ≡ encodeFault (pmcMeanForm value «residuals_min_value» «residuals_max_value») (now (out .entry)) (now (row .entry)) ⌝ }
     ensures bytes { λ r. ⌜ now (out .exit) ≡ encodeOut (pmcMeanForm value «residuals_min_value» «residuals_max_value») (now (out .entry)) (now (row .entry)) ⌝ }
     ensures row { λ r. ⌜ now (row .exit) ≡ encodeRow (pmcMeanForm value «residuals_min_value» «residuals_max_value») (now (out .entry)) (now (row .entry)) ⌝ }
@@ -55,7 +56,7 @@ pub extern "C" fn modelardb_encode_values_for_swing(
     residuals_max_value: u32,
     out: &mut [u8],
     row: &mut [u64],
-) -> u32
+) -> Fault
     ensures fault { λ r. ⌜ r ≡ encodeFault (swingForm «first_value» «last_value» «residuals_min_value» «residuals_max_value») (now (out .entry)) (now (row .entry)) ⌝ }
     ensures bytes { λ r. ⌜ now (out .exit) ≡ encodeOut (swingForm «first_value» «last_value» «residuals_min_value» «residuals_max_value») (now (out .entry)) (now (row .entry)) ⌝ }
     ensures row { λ r. ⌜ now (row .exit) ≡ encodeRow (swingForm «first_value» «last_value» «residuals_min_value» «residuals_max_value») (now (out .entry)) (now (row .entry)) ⌝ }
@@ -81,7 +82,7 @@ pub extern "C" fn modelardb_decode_values_for_pmc_mean(
     max_value: u32,
     values: &[u8],
     out: &mut [u32],
-) -> u32
+) -> Fault
     ensures fault { λ r. ⌜ r ≡ faultSaid 1 (length (now (out .entry))) (pmcMeanFrom «min_value» «max_value» (now (values .entry))) ⌝ }
     ensures row { λ r. ⌜ now (out .exit) ≡ rowAfter 1 oneWord (now (out .entry)) (pmcMeanFrom «min_value» «max_value» (now (values .entry))) ⌝ }
 {
@@ -96,7 +97,7 @@ pub extern "C" fn modelardb_decode_values_for_swing(
     max_value: u32,
     values: &[u8],
     out: &mut [u32],
-) -> u32
+) -> Fault
     ensures fault { λ r. ⌜ r ≡ faultSaid 2 (length (now (out .entry))) (swingFrom «min_value» «max_value» (now (values .entry))) ⌝ }
     ensures row { λ r. ⌜ now (out .exit) ≡ rowAfter 2 endsWords (now (out .entry)) (swingFrom «min_value» «max_value» (now (values .entry))) ⌝ }
 {
@@ -120,7 +121,7 @@ pub extern "C" fn modelardb_segment_write(
     values_out: &mut [u8],
     residuals_out: &mut [u8],
     segment: &mut [u64],
-) -> u32
+) -> Fault
     ensures fault { λ r. ⌜ r ≡ segmentFault model «first_value» «last_value» (boundOf kind bound) (now (residuals .entry)) (now («values_out» .entry)) (now («residuals_out» .entry)) (now (segment .entry)) ⌝ }
     ensures values { λ r. ⌜ now («values_out» .exit) ≡ segmentValuesOut model «first_value» «last_value» (boundOf kind bound) (now (residuals .entry)) (now («values_out» .entry)) (now («residuals_out» .entry)) (now (segment .entry)) ⌝ }
     ensures bytes { λ r. ⌜ now («residuals_out» .exit) ≡ segmentResidualsOut model «first_value» «last_value» (boundOf kind bound) (now (residuals .entry)) (now («values_out» .entry)) (now («residuals_out» .entry)) (now (segment .entry)) ⌝ }
@@ -175,7 +176,7 @@ pub extern "C" fn modelardb_segment_grid(
     values: &[u8],
     residuals: &[u8],
     out: &mut [u32],
-) -> u32
+) -> Fault
     ensures fault { λ r. ⌜ r ≡ gridFault model (now (timestamps .entry)) «min_value» «max_value» (now (values .entry)) (now (residuals .entry)) (now (out .entry)) ⌝ }
     ensures values { λ r. ⌜ now (out .exit) ≡ gridOut model (now (timestamps .entry)) «min_value» «max_value» (now (values .entry)) (now (residuals .entry)) (now (out .entry)) ⌝ }
 {
@@ -189,7 +190,7 @@ pub extern "C" fn modelardb_segment_grid(
         out,
     ) {
         GridAnswer::Refused(r) => models::fault_of(r),
-        GridAnswer::Drawn => 0,
+        GridAnswer::Drawn => exports::ACCEPTED,
     }
 }
 
@@ -203,7 +204,7 @@ pub extern "C" fn modelardb_segment_sum_by_average(
     values: &[u8],
     residuals: &[u8],
     out: &mut [u32],
-) -> u32
+) -> Fault
     ensures fault { λ r. ⌜ r ≡ sumFault byAverage model (now (timestamps .entry)) «min_value» «max_value» (now (values .entry)) (now (residuals .entry)) (now (out .entry)) ⌝ }
     ensures row { λ r. ⌜ now (out .exit) ≡ sumOut byAverage model (now (timestamps .entry)) «min_value» «max_value» (now (values .entry)) (now (residuals .entry)) (now (out .entry)) ⌝ }
 {
@@ -228,7 +229,7 @@ pub extern "C" fn modelardb_segment_sum_over(
     values: &[u8],
     residuals: &[u8],
     out: &mut [u32],
-) -> u32
+) -> Fault
     ensures fault { λ r. ⌜ r ≡ sumFault overTimes model (now (timestamps .entry)) «min_value» «max_value» (now (values .entry)) (now (residuals .entry)) (now (out .entry)) ⌝ }
     ensures row { λ r. ⌜ now (out .exit) ≡ sumOut overTimes model (now (timestamps .entry)) «min_value» «max_value» (now (values .entry)) (now (residuals .entry)) (now (out .entry)) ⌝ }
 {

@@ -1,4 +1,4 @@
-// An answer into a lent row: its words at the front and 0, or the number of its refusal.
+// An answer into a lent row: its words at the front and no fault, or the fault of its refusal.
 ghost use mathlib.Core.Path.{_≡_};
 ghost use Prim.Native.Nat.{_≤_};
 ghost use lib.ListN.{length};
@@ -8,6 +8,7 @@ ghost use Rattle.exports.specs.Face.{plainFault, rowIn, oneWord};
 ghost use Rattle.exports_segments.specs.Calls.{segmentLength, segmentWords};
 ghost use Rattle.exports_segments.specs.inner.Answers.{pairOf};
 use exports::PairAnswer;
+use models::Fault;
 use models::Verdict;
 use parameters::LengthAnswer;
 use segments::SegmentAnswer;
@@ -26,7 +27,7 @@ pub const SEGMENT_WORDS: usize = 4;
 
 // ---- rows beside other outputs, already judged
 
-pub fn put_length(answer: LengthAnswer, row: &mut [u64]) -> u32
+pub fn put_length(answer: LengthAnswer, row: &mut [u64]) -> Fault
     requires { ⌜ 1 ≤ length (now row) ⌝ }
     ensures fault { λ r. ⌜ r ≡ plainFault (saysLength answer) ⌝ }
     ensures row { λ r. ⌜ now (row .exit) ≡ rowIn oneWord (now (row .entry)) (saysLength answer) ⌝ }
@@ -40,7 +41,7 @@ pub fn put_length(answer: LengthAnswer, row: &mut [u64]) -> u32
     }
 }
 
-pub fn put_segment(answer: SegmentAnswer, row: &mut [u64]) -> u32
+pub fn put_segment(answer: SegmentAnswer, row: &mut [u64]) -> Fault
     requires { ⌜ segmentLength ≤ length (now row) ⌝ }
     ensures fault { λ r. ⌜ r ≡ plainFault (saysSegment answer) ⌝ }
     ensures row { λ r. ⌜ now (row .exit) ≡ rowIn segmentWords (now (row .entry)) (saysSegment answer) ⌝ }

@@ -8,9 +8,10 @@ use lib.Dec.{leb}
 use lib.ListN.{length}
 use Rattle.models.specs.Answers.{Said, Done, answered, refused, answeredOn, refusedOn, stateless, verdict, keeping, itself}
 use Rattle.models.specs.Bound.{boundAllowed}
-use Rattle.models.specs.Refusals.{number}
+use Rattle.models.specs.Refusals.{faultOf}
 use Rattle.models.specs.Calls.{saysVerdict}
 use Rattle.models.specs.declared.ErrorBound.{ErrorBound}
+use Rattle.models.specs.declared.Fault.{Fault}
 use Rattle.models.specs.declared.Refusal.{Refusal}
 use Rattle.models.specs.declared.Verdict.{Verdict}
 use Rattle.models.specs.declared.Verdict.the-variants.{Passed, Refused}
@@ -33,7 +34,7 @@ use Rattle.exports_stream.specs.Calls.{reopenFaceCauses, reopenSaid, reo
 -- ---- new, by the verdict on its causes
 
 module _ (kind bound mode opening : ℕ) (row : List ℕ) (v : Verdict) (says : saysVerdict v ≡ verdict (newCauses (boundOf kind bound) mode (length row))) where
-  pub new-refused : (r : Refusal) → v ≡ Refused r → (number r ≡ newFault kind bound mode opening row) × (row ≡ newRow kind bound mode opening row)
+  pub new-refused : (r : Refusal) → v ≡ Refused r → (faultOf r ≡ newFault kind bound mode opening row) × (row ≡ newRow kind bound mode opening row)
   unfolding newFault newRow
   new-refused r e =
       let causes = newCauses (boundOf kind bound) mode (length row) in
@@ -50,7 +51,7 @@ module _ (kind bound mode opening : ℕ) (row : List ℕ) (v : Verdict) (says : 
 
 module _ (buf : List ℕ) (used count k mode opening kind bound : ℕ) (row : List ℕ) (v : Verdict) (says : saysVerdict v ≡ verdict (reopenFaceCauses buf used count k mode kind bound row)) where
   pub reopen-refused : (r : Refusal) → v ≡ Refused r
-      → (number r ≡ reopenFault buf used count k mode opening kind bound row)
+      → (faultOf r ≡ reopenFault buf used count k mode opening kind bound row)
       × (row ≡ reopenRow buf used count k mode opening kind bound row)
       × (buf ≡ reopenBuffer buf used count k mode opening kind bound row)
   unfolding reopenFault reopenRow reopenBuffer
@@ -73,7 +74,7 @@ module _ (buf : List ℕ) (used count k mode opening kind bound : ℕ) (row : Li
 -- ---- a state that is handed out, in a row that holds its words
 
 pub put-plain : (row : List ℕ) (said : Said MacaqueV) (v : Verdict) (ws : List ℕ) → writerLength ≤ length row → length ws ≡ writerLength → wordsSaid v ws ≡ worded writerRow said
-    → {number : ℕ} {after : List ℕ} → Faced wholeRow (length ws) row (wordsSaid v ws) number after → (number ≡ plainFault said) × (after ≡ rowIn writerRow row said)
+    → {told : Fault} {after : List ℕ} → Faced wholeRow (length ws) row (wordsSaid v ws) told after → (told ≡ plainFault said) × (after ≡ rowIn writerRow row said)
 put-plain row (answered m) v ws room size e f =
     step-said {S = Done} writerLength writerRow row (answeredOn m) (inl room) (put writerRow writerLength row (answered m) v ws size e f)
 put-plain row (refused n) v ws room size e f =

@@ -11,7 +11,7 @@ use lib.ListN.{length, take, drop, getD}
 use lib.Seq.{length-take-le}
 use Rattle.bits.specs.Bits.{Below, wholeBytes}
 use Rattle.bits.proofs.Below.{below-nil, below-take}
-use Rattle.models.specs.Answers.{Said, answered, SaidOn, answeredOn, refusedOn, refusing, stateless, Cause, _when_, judge, itself, keeping, NoneHolds}
+use Rattle.models.specs.Answers.{fault, noFault, Said, answered, SaidOn, answeredOn, refusedOn, refusing, stateless, Cause, _when_, judge, itself, keeping, NoneHolds}
 use Rattle.models.specs.declared.Fault.{Fault}
 use Rattle.models.specs.Limits.{mostValues}
 use Rattle.models.specs.Bound.{boundAllowed, BoundHeld}
@@ -32,7 +32,7 @@ use Rattle.macaque_v.specs.declared.Opening.{Opening}
 use Rattle.macaque_v.proofs.Promises.{a-fresh-writer, a-write-goes-on, a-write-is-accepted, reopening-goes-back, grid-reads-back, lossless-keeps-the-inputs}
 use Rattle.macaque_v.proofs.Promises as call
 use Rattle.macaque_v.proofs.Held.{made-held}
-use Rattle.exports.specs.Face.{boundOf, plainFault, rowIn, stepFault, stepRow}
+use Rattle.exports.specs.Face.{boundOf, plainFault, rowIn, noState, stepFault, stepRow}
 use Rattle.exports.specs.Words.{boundFront}
 use Rattle.exports.proofs.Back.{bound-of-held, bound-front-held}
 use Rattle.exports_stream.specs.Row.{writerLength, writerRow, writtenRow, standsForState, spoiledWriter, writerIn, bytesInUse, lengthWord}
@@ -116,7 +116,7 @@ module _ (kind bound mode value : ℕ) (row : List ℕ) (hl : openingValue (open
   has-words = le-ltb (length row) writerLength words
 
   -- an allowed bound, a mode and a row of ten words are accepted, and nothing of the buffer is in use, whatever it holds
-  pub a-new-row : (newFault kind bound mode value row ≡ 0)
+  pub a-new-row : (newFault kind bound mode value row ≡ noFault)
       × ((buf : List ℕ) → RowMade (boundOf kind bound) (openingOf mode value) [] buf (newRow kind bound mode value row))
   unfolding newFault newRow judge
   a-new-row =
@@ -128,10 +128,10 @@ module _ (kind bound mode value : ℕ) (row : List ℕ) (hl : openingValue (open
 -- ---- writing through a row
 
 -- a number of 0 tells that nothing was refused
-accepted-zero : (m : MacaqueV) (ys buf : List ℕ) → plainFault (stateless (writeAnswer m ys buf)) ≡ 0 → writeAnswer m ys buf ≡ answeredOn (writerAt m (wroteBy m ys))
+accepted-zero : (m : MacaqueV) (ys buf : List ℕ) → (plainFault (stateless (writeAnswer m ys buf))) .number ≡ 0 → writeAnswer m ys buf ≡ answeredOn (writerAt m (wroteBy m ys))
 unfolding writeAnswer
 accepted-zero m ys buf =
-    judged-so (λ (q : SaidOn MacaqueV MacaqueV). plainFault (stateless q) ≡ 0 → q ≡ answeredOn (writerAt m (wroteBy m ys))) (refusing m) (λ n pos z. absurd (omega (arith, pos, z)))
+    judged-so (λ (q : SaidOn MacaqueV MacaqueV). (plainFault (stateless q)) .number ≡ 0 → q ≡ answeredOn (writerAt m (wroteBy m ys))) (refusing m) (λ n pos z. absurd (omega (arith, pos, z)))
     (writeCauses m ys (lentBytes (length buf))) (omega arith, (omega arith, (omega arith, (omega arith, tt)))) _ (λ z. refl)
 
 module _ {b : ErrorBound} {o : Opening} {xs buf row : List ℕ} (R : RowMade b o xs buf row) (hl : openingValue o < 2 ^ 32) where
@@ -148,7 +148,7 @@ module _ {b : ErrorBound} {o : Opening} {xs buf row : List ℕ} (R : RowMade b o
   bound-held = subst BoundHeld (ap (λ (m : MacaqueV). m .«error_bound») (a-state row (a-made-row-stands R) ∙ R .made .writer)) (bound-front-held row)
 
   -- an accepted write leaves the bytes of one fresh run, and a row that stands for its writer
-  pub a-row-goes-on : (ys : List ℕ) → Below 32 (xs ++ ys) → writeFault row ys buf ≡ 0 → RowMade b o (xs ++ ys) (writeBuffer row ys buf) (writeRow row ys buf)
+  pub a-row-goes-on : (ys : List ℕ) → Below 32 (xs ++ ys) → (writeFault row ys buf) .number ≡ 0 → RowMade b o (xs ++ ys) (writeBuffer row ys buf) (writeRow row ys buf)
   a-row-goes-on ys by h =
       let n : MacaqueV = writerAt (writerIn row) (wroteBy (writerIn row) ys) in
       let a : writeAnswer (writerIn row) ys buf ≡ answeredOn n = accepted-zero (writerIn row) ys buf h in
@@ -157,7 +157,7 @@ module _ {b : ErrorBound} {o : Opening} {xs buf row : List ℕ} (R : RowMade b o
 
   -- and it is accepted, wherever room and count limit allow
   pub a-row-is-accepted : Below 32 xs → boundAllowed b ≡ true → (ys : List ℕ) → length xs + length ys ≤ mostValues
-      → (stateOver b o (xs ++ ys)) .place ≤ 8 * length buf → writeFault row ys buf ≡ 0
+      → (stateOver b o (xs ++ ys)) .place ≤ 8 * length buf → writeFault row ys buf ≡ noFault
   a-row-is-accepted bx ok ys most room = ap stepFault (a-write-is-accepted (R .made) bx hl ok ys most room)
 
 -- "An empty write changes nothing": neither the row nor the buffer, accepted or not, whatever the row holds
@@ -218,9 +218,9 @@ module _ (kind bound mode value : ℕ) (row : List ℕ) {xs buf : List ℕ} {m :
     held : ltb (length row) writerLength ≡ false
     held = le-ltb (length row) writerLength words
 
-    number-is : reopenFault buf used (length xs) k mode value kind bound row ≡ 0
+    fault-is : reopenFault buf used (length xs) k mode value kind bound row ≡ noFault
     unfolding reopenFault
-    number-is = rw (le-leb mode 1 mode-is) (one-more itself (plainFault said) causes 4 (ltb (length row) writerLength) none held ∙ ap plainFault opens)
+    fault-is = rw (le-leb mode 1 mode-is) (one-more itself (plainFault said) causes 4 (ltb (length row) writerLength) none held ∙ ap plainFault opens)
 
     row-is : reopenRow buf used (length xs) k mode value kind bound row ≡ writerRow now ++ drop (length (writerRow now)) row
     unfolding reopenRow
@@ -231,12 +231,12 @@ module _ (kind bound mode value : ℕ) (row : List ℕ) {xs buf : List ℕ} {m :
     buffer-is = rw (le-leb mode 1 mode-is) (one-more (keeping buf) (reopenMemory buf used (length xs) k (openingOf mode value) (boundOf kind bound)) causes 4 (ltb (length row) writerLength) none held)
 
     -- reopened at any k, the row stands for the writer after the first k inputs, and the cut bytes are those of one fresh run over these
-    pub a-row-resumes : (reopenFault buf used (length xs) k mode value kind bound row ≡ 0)
+    pub a-row-resumes : (reopenFault buf used (length xs) k mode value kind bound row ≡ noFault)
         × RowMade (boundOf kind bound) (openingOf mode value) (take k xs) (reopenBuffer buf used (length xs) k mode value kind bound row)
         (reopenRow buf used (length xs) k mode value kind bound row)
     a-row-resumes =
         let made = reopening-goes-back M bx hl ok most k le .1 in
-        (number-is, rw buffer-is (row-made made hl (below-take 32 k xs bx) (bound-of-held kind bound) _ row-is))
+        (fault-is, rw buffer-is (row-made made hl (below-take 32 k xs bx) (bound-of-held kind bound) _ row-is))
 
     -- as one theorem: any further list that room and count limit allow is accepted through the reopened row, and leaves the bytes and the row of one
     -- fresh run over the first k inputs and the list
@@ -248,14 +248,14 @@ module _ (kind bound mode value : ℕ) (row : List ℕ) {xs buf : List ℕ} {m :
         let firsts : length (take k xs) ≡ k = length-take-le k xs le in
         let long = reopening-row-keeps-the-length buf used (length xs) k mode value kind bound row hl in
         let zero = a-row-is-accepted (r .1) hl (below-take 32 k xs bx) ok ys (omega arith) (omega (arith, room, long)) in
-        record { opens = r .0; accepts = zero; made = a-row-goes-on (r .1) hl ys by zero }
+        record { opens = r .0; accepts = zero; made = a-row-goes-on (r .1) hl ys by (ap (λ (f : Fault). f .number) zero) }
 
 -- ---- demand 2, of rows
 
 module _ {b : ErrorBound} (mode value : ℕ) {xs buf row : List ℕ} (R : RowMade b (openingOf mode value) xs buf row) (mode-is : mode ≤ 1)
     (hl : openingValue (openingOf mode value) < 2 ^ 32) (bx : Below 32 xs) (most : length xs ≤ mostValues) (out : List ℕ) (room : length xs ≤ length out) where
   -- the bytes in use and the count that the row tells are accepted by the grid, which draws the kept values into the output; its later places stay
-  pub a-row-reads-back : (gridFault (bytesInUse row buf) (lengthWord row) mode value out ≡ 0)
+  pub a-row-reads-back : (gridFault (bytesInUse row buf) (lengthWord row) mode value out ≡ noFault)
       × (gridOut (bytesInUse row buf) (lengthWord row) mode value out ≡ keptOf b (openingOf mode value) xs ++ drop (length xs) out)
   unfolding gridFault gridOut
   a-row-reads-back =
@@ -266,7 +266,7 @@ module _ {b : ErrorBound} (mode value : ℕ) {xs buf row : List ℕ} (R : RowMad
 -- lossless: the inputs
 module _ (mode value : ℕ) {xs buf row : List ℕ} (R : RowMade Lossless (openingOf mode value) xs buf row) (mode-is : mode ≤ 1)
     (hl : openingValue (openingOf mode value) < 2 ^ 32) (bx : Below 32 xs) (most : length xs ≤ mostValues) (out : List ℕ) (room : length xs ≤ length out) where
-  pub a-lossless-row-reads-back : (gridFault (bytesInUse row buf) (lengthWord row) mode value out ≡ 0) × (gridOut (bytesInUse row buf) (lengthWord row) mode value out ≡ xs ++ drop (length xs) out)
+  pub a-lossless-row-reads-back : (gridFault (bytesInUse row buf) (lengthWord row) mode value out ≡ noFault) × (gridOut (bytesInUse row buf) (lengthWord row) mode value out ≡ xs ++ drop (length xs) out)
   a-lossless-row-reads-back =
       let r = a-row-reads-back mode value R mode-is hl bx most out room in
       (r .0, r .1 ∙ ap (λ (vs : List ℕ). vs ++ drop (length xs) out) (lossless-keeps-the-inputs (openingOf mode value) xs))
@@ -274,13 +274,13 @@ module _ (mode value : ℕ) {xs buf row : List ℕ} (R : RowMade Lossless (openi
 -- ---- words that stand for no state, or for no mode
 
 -- a row that stands for no state, one that is too short among them, is refused with 2; where its bound is there and is not allowed, with 1 first
-pub no-state-is-2 : (row xs buf : List ℕ) → standsForState row ≡ false → writeFault row xs buf ≡ cond (boundAllowed (boundFront row)) 2 1
+pub no-state-is-2 : (row xs buf : List ℕ) → standsForState row ≡ false → writeFault row xs buf ≡ noState (boundAllowed (boundFront row))
 no-state-is-2 row xs buf h = ap plainFault (no-state-refused row xs buf h)
 
-pub a-short-row-is-2 : (row xs buf : List ℕ) → length row < writerLength → writeFault row xs buf ≡ cond (boundAllowed (boundFront row)) 2 1
+pub a-short-row-is-2 : (row xs buf : List ℕ) → length row < writerLength → writeFault row xs buf ≡ noState (boundAllowed (boundFront row))
 a-short-row-is-2 row xs buf h = no-state-is-2 row xs buf (short-stands-for-none row h)
 
 -- a mode above 1 is refused with 3: in `new` and `reopen` after the bound
-pub no-mode-is-3 : (bytes : List ℕ) (count mode value : ℕ) (out : List ℕ) → 1 < mode → gridFault bytes count mode value out ≡ 3
+pub no-mode-is-3 : (bytes : List ℕ) (count mode value : ℕ) (out : List ℕ) → 1 < mode → gridFault bytes count mode value out ≡ fault 3
 unfolding gridFault gridAnswer judge
 no-mode-is-3 bytes count mode value out h = rw (lt-leb mode 1 h)

@@ -1,11 +1,12 @@
--- What the calls of MacaqueV's C face answer and leave: the number, and the lent memory afterwards, by what the call behind says. Assumes nothing.
+-- What the calls of MacaqueV's C face answer and leave: the fault, and the lent memory afterwards, by what the call behind says. Assumes nothing.
 use mathlib.Core.Path.{_≡_}
 use mathlib.Core.Bool.{cond, not}
 use mathlib.Core.List.{List, [], _∷_, _++_}
 use Prim.Native.Nat.{ℕ}
 use lib.Dec.{eqb, leb, ltb}
 use lib.ListN.{length, take, drop}
-use Rattle.models.specs.Answers.{Said, Cause, _when_, judge, judgedMemory, itself}
+use Rattle.models.specs.Answers.{Said, Cause, _when_, judge, judgedMemory, itself, noFault}
+use Rattle.models.specs.declared.Fault.{Fault}
 use Rattle.models.specs.Bound.{boundAllowed}
 use Rattle.models.specs.declared.ErrorBound.{ErrorBound}
 use Rattle.macaque_v.specs.Calls.{newAnswer, writeAnswer, writeMemory}
@@ -32,7 +33,7 @@ countIn mode count = cond (leb mode 1) count noCount
 abbrev pub newCauses : ErrorBound → ℕ → ℕ → List Cause
 newCauses b mode words = 1 when not (boundAllowed b) ∷ 3 when ltb 1 mode ∷ 4 when ltb words writerLength ∷ []
 
-unfoldable pub newFault : ℕ → ℕ → ℕ → ℕ → List ℕ → ℕ
+unfoldable pub newFault : ℕ → ℕ → ℕ → ℕ → List ℕ → Fault
 newFault kind bound mode opening row =
     judge itself (newCauses (boundOf kind bound) mode (length row)) (plainFault (newAnswer (boundOf kind bound) (openingOf mode opening)))
 
@@ -40,9 +41,9 @@ unfoldable pub newRow : ℕ → ℕ → ℕ → ℕ → List ℕ → List ℕ
 newRow kind bound mode opening row =
     judgedMemory row (newCauses (boundOf kind bound) mode (length row)) (rowIn writerRow row (newAnswer (boundOf kind bound) (openingOf mode opening)))
 
--- ---- compress_values: the number and the row of a step, and the buffer
+-- ---- compress_values: the fault and the row of a step, and the buffer
 
-abbrev pub writeFault : List ℕ → List ℕ → List ℕ → ℕ
+abbrev pub writeFault : List ℕ → List ℕ → List ℕ → Fault
 writeFault row xs buf = stepFault (writeAnswer (writerIn row) xs buf)
 
 abbrev pub writeRow : List ℕ → List ℕ → List ℕ → List ℕ
@@ -65,7 +66,7 @@ reopenSaid buf used count k mode opening kind bound = reopenAnswer buf used (cou
 abbrev pub reopenLeft : List ℕ → ℕ → ℕ → ℕ → ℕ → ℕ → ℕ → ℕ → List ℕ
 reopenLeft buf used count k mode opening kind bound = reopenMemory buf used (countIn mode count) k (openingOf mode opening) (boundOf kind bound)
 
-unfoldable pub reopenFault : List ℕ → ℕ → ℕ → ℕ → ℕ → ℕ → ℕ → ℕ → List ℕ → ℕ
+unfoldable pub reopenFault : List ℕ → ℕ → ℕ → ℕ → ℕ → ℕ → ℕ → ℕ → List ℕ → Fault
 reopenFault buf used count k mode opening kind bound row =
     judge itself (reopenFaceCauses buf used count k mode kind bound row) (plainFault (reopenSaid buf used count k mode opening kind bound))
 
@@ -77,9 +78,9 @@ unfoldable pub reopenBuffer : List ℕ → ℕ → ℕ → ℕ → ℕ → ℕ �
 reopenBuffer buf used count k mode opening kind bound row =
     judgedMemory buf (reopenFaceCauses buf used count k mode kind bound row) (reopenLeft buf used count k mode opening kind bound)
 
--- ---- grid: the number and the output
+-- ---- grid: the fault and the output
 
-unfoldable pub gridFault : List ℕ → ℕ → ℕ → ℕ → List ℕ → ℕ
+unfoldable pub gridFault : List ℕ → ℕ → ℕ → ℕ → List ℕ → Fault
 gridFault bytes count mode opening out = plainFault (gridAnswer bytes (countIn mode count) (openingOf mode opening) (length out))
 
 unfoldable pub gridOut : List ℕ → ℕ → ℕ → ℕ → List ℕ → List ℕ
@@ -87,7 +88,7 @@ gridOut bytes count mode opening out = gridMemory bytes (countIn mode count) (op
 
 -- ---- sum: its pattern is the output's first place
 
-unfoldable pub sumFault : List ℕ → ℕ → ℕ → ℕ → List ℕ → ℕ
+unfoldable pub sumFault : List ℕ → ℕ → ℕ → ℕ → List ℕ → Fault
 sumFault bytes count mode opening out = faultSaid 1 (length out) (sumAnswer bytes (countIn mode count) (openingOf mode opening))
 
 unfoldable pub sumOut : List ℕ → ℕ → ℕ → ℕ → List ℕ → List ℕ
@@ -102,8 +103,8 @@ pub record RowMade (b : ErrorBound) (o : Opening) (xs buf row : List ℕ) : Type
 
 -- a buffer whose first `used` bytes hold xs is reopened at k into a row, which then is `after`, and the buffer `cut`; and ys are written through it
 pub record RowResumes (xs buf : List ℕ) (used k mode opening kind bound : ℕ) (row ys after cut : List ℕ) : Type 0 where
-  pub opens : reopenFault buf used (length xs) k mode opening kind bound row ≡ 0
-  pub accepts : writeFault after ys cut ≡ 0
+  pub opens : reopenFault buf used (length xs) k mode opening kind bound row ≡ noFault
+  pub accepts : writeFault after ys cut ≡ noFault
   pub made : RowMade (boundOf kind bound) (openingOf mode opening) (take k xs ++ ys) (writeBuffer after ys cut) (writeRow after ys cut)
 
 abbrev pub RowResumesAsOne : List ℕ → List ℕ → ℕ → ℕ → ℕ → ℕ → ℕ → ℕ → List ℕ → List ℕ → Type 0

@@ -1,6 +1,6 @@
 // The C face of MacaqueV. A writer's state crosses as a row of ten words (specs/Row.antt), and how a stream
-// opens as a mode and a value (specs/Calls.antt). A call answers 0 or the number of its refusal, and a
-// refusal changes nothing that was lent.
+// opens as a mode and a value (specs/Calls.antt). A call answers a fault, of number 0 where nothing is
+// refused, and a refusal changes nothing that was lent.
 ghost use mathlib.Core.Path.{_≡_};
 ghost use Prim.Native.Nat.{_≤_};
 ghost use lib.ListN.{length};
@@ -20,6 +20,7 @@ use macaque_v::WriteAnswer;
 use macaque_v::read;
 use macaque_v::read::OpenAnswer;
 use models::ErrorBound;
+use models::Fault;
 use models::GridAnswer;
 use models::Refusal;
 use models::Verdict;
@@ -37,7 +38,7 @@ pub extern "C" fn modelardb_macaque_v_new(
     mode: u32,
     opening: u32,
     state: &mut [u64],
-) -> u32
+) -> Fault
     ensures fault { λ r. ⌜ r ≡ newFault kind bound mode opening (now (state .entry)) ⌝ }
     ensures row { λ r. ⌜ now (state .exit) ≡ newRow kind bound mode opening (now (state .entry)) ⌝ }
 {
@@ -56,7 +57,7 @@ pub extern "C" fn modelardb_macaque_v_compress_values(
     state: &mut [u64],
     values: &[u32],
     buffer: &mut [u8],
-) -> u32
+) -> Fault
     ensures fault { λ r. ⌜ r ≡ stepFault (writeAnswer (writerIn (now (state .entry))) (now (values .entry)) (now (buffer .entry))) ⌝ }
     ensures row { λ r. ⌜ now (state .exit) ≡ stepRow (writtenRow (now (state .entry))) (now (state .entry)) (writeAnswer (writerIn (now (state .entry))) (now (values .entry)) (now (buffer .entry))) ⌝ }
     ensures bytes { λ r. ⌜ now (buffer .exit) ≡ writeMemory (writerIn (now (state .entry))) (now (values .entry)) (now (buffer .entry)) ⌝ }
@@ -82,7 +83,7 @@ pub extern "C" fn modelardb_macaque_v_reopen(
     kind: u32,
     bound: u32,
     state: &mut [u64],
-) -> u32
+) -> Fault
     ensures fault { λ r. ⌜ r ≡ reopenFault (now (buffer .entry)) used count k mode opening kind bound (now (state .entry)) ⌝ }
     ensures row { λ r. ⌜ now (state .exit) ≡ reopenRow (now (buffer .entry)) used count k mode opening kind bound (now (state .entry)) ⌝ }
     ensures bytes { λ r. ⌜ now (buffer .exit) ≡ reopenBuffer (now (buffer .entry)) used count k mode opening kind bound (now (state .entry)) ⌝ }
@@ -108,13 +109,13 @@ pub extern "C" fn modelardb_macaque_v_grid(
     mode: u32,
     opening: u32,
     out: &mut [u32],
-) -> u32
+) -> Fault
     ensures fault { λ r. ⌜ r ≡ gridFault (now (bytes .entry)) count mode opening (now (out .entry)) ⌝ }
     ensures values { λ r. ⌜ now (out .exit) ≡ gridOut (now (bytes .entry)) count mode opening (now (out .entry)) ⌝ }
 {
     match read::grid(bytes, count_in(mode, count), opening_of(mode, opening), out) {
         GridAnswer::Refused(r) => models::fault_of(r),
-        GridAnswer::Drawn => 0,
+        GridAnswer::Drawn => exports::ACCEPTED,
     }
 }
 
@@ -126,7 +127,7 @@ pub extern "C" fn modelardb_macaque_v_sum(
     mode: u32,
     opening: u32,
     out: &mut [u32],
-) -> u32
+) -> Fault
     ensures fault { λ r. ⌜ r ≡ sumFault (now (bytes .entry)) count mode opening (now (out .entry)) ⌝ }
     ensures values { λ r. ⌜ now (out .exit) ≡ sumOut (now (bytes .entry)) count mode opening (now (out .entry)) ⌝ }
 {
@@ -189,7 +190,7 @@ fn judge_reopen(
 }
 
 // The state's words to the front of the row, where there is one.
-fn put_opened(writer: OpenAnswer, state: &mut [u64]) -> u32
+fn put_opened(writer: OpenAnswer, state: &mut [u64]) -> Fault
     requires { ⌜ writerLength ≤ length (now state) ⌝ }
     ensures fault { λ r. ⌜ r ≡ plainFault (saysOpen writer) ⌝ }
     ensures row { λ r. ⌜ now (state .exit) ≡ rowIn writerRow (now (state .entry)) (saysOpen writer) ⌝ }

@@ -137,9 +137,12 @@ row-most n row =
     let l5 : length t5 ≤ 9 = omega (arith, length-last (hexadecimal (row .value)), length-digits 16 8 (row .value)) in
     omega (arith, length-append (t1 ++ t2 ++ t3 ++ t4) t5, length-append (t1 ++ t2 ++ t3) t4, length-append (t1 ++ t2) t3, length-append t1 t2)
 
--- a word and a number
-last-most : (word : List ℕ) (n : ℕ) → length word ≤ 8 → length (word ++ lastField (decimal n)) ≤ 80
-last-most word n h = omega (arith, length-append word (lastField (decimal n)), length-last (decimal n), decimal-most n)
+-- a number behind other text
+next-most : (text : List ℕ) (n k : ℕ) → length text ≤ k → length (text ++ field (decimal n)) ≤ k + 21
+next-most text n k h = omega (arith, length-append text (field (decimal n)), length-field (decimal n), decimal-most n)
+
+last-most : (text : List ℕ) (n : ℕ) → length text ≤ 50 → length (text ++ lastField (decimal n)) ≤ 80
+last-most text n h = omega (arith, length-append text (lastField (decimal n)), length-last (decimal n), decimal-most n)
 
 pub total-most : (n : ℕ) → length (totalText n) ≤ 80
 unfolding totalText
@@ -147,7 +150,9 @@ total-most n = last-most (field totalWord) n (lit≤ tt)
 
 pub refused-most : (f : Fault) → length (refusedText f) ≤ 80
 unfolding refusedText
-refused-most f = last-most (field refusedWord) (f .number) (lit≤ tt)
+refused-most f =
+    let a : List ℕ = field refusedWord ++ field (decimal (f .number)) in
+    last-most (a ++ field (decimal (f .value))) (f .place) (next-most a (f .value) 29 (next-most (field refusedWord) (f .number) 8 (lit≤ tt)))
 
 -- what is printed of a line is the text that was put into it
 pub text-laid : (text line : List ℕ) → length line ≡ 80 → length text ≤ 80 → take (length text) (laid text line) ≡ text

@@ -86,9 +86,9 @@ rowText n row =
 unfoldable pub totalText : ℕ → List ℕ
 totalText bits = field totalWord ++ lastField (decimal bits)
 
--- "On a refusal the only line is as `refused 5`."
+-- "The listing's refusal line becomes `refused`, number, value, place, with single spaces"
 unfoldable pub refusedText : Fault → List ℕ
-refusedText f = field refusedWord ++ lastField (decimal (f .number))
+refusedText f = field refusedWord ++ field (decimal (f .number)) ++ field (decimal (f .value)) ++ lastField (decimal (f .place))
 
 -- ---- in a lent line
 

@@ -65,7 +65,7 @@ pub fn judge(input: &[u8]) -> Judged
         return Judged::Refused(Refusal::OverLimit);
     }
     if input.len() < 4 {
-        return Judged::Refused(Refusal::EndsEarly);
+        return Judged::Refused(Refusal::EndsEarly { value: 0, place: 0 });
     }
     let count = count_in(input);
     if MacaqueV::MOST_VALUES < count {
@@ -128,8 +128,11 @@ pub fn refusal(cause: Refusal, line: &mut [u8; 80]) -> usize
     ensures length { λ r. ⌜ r ≡ length (refusedText (faultOf cause)) ⌝ }
     ensures text { λ r. ⌜ now (line .exit) ≡ laid (refusedText (faultOf cause)) (now (line .entry)) ⌝ }
 {
-    let at = line::word(b"refused ", line, 0);
-    line::number(models::number_of(cause) as usize, b'\n', line, at)
+    let fault = models::fault_of(cause);
+    let a = line::word(b"refused ", line, 0);
+    let b = line::number(fault.number as usize, b' ', line, a);
+    let c = line::number(fault.value as usize, b' ', line, b);
+    line::number(fault.place, b'\n', line, c)
 }
 
 // ---- the input

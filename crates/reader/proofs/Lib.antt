@@ -4,3 +4,4 @@ pub mod Held
 pub mod Promises
 pub mod Last
 pub mod Causes
+pub mod Broken

@@ -37,10 +37,10 @@ use Rattle.reader.specs.Run.{Run, also, andThen, nexts, ifEnded, andEnd,
 use Rattle.reader.specs.declared.position.Position.{Position}
 
 -- where reading from the start leads: it may be read on from there, and the rule for a state is kept
-record Going (bytes : List ℕ) (at : Cursor) : Type 0 where
-  readable : ReadableAt bytes at
-  near : at .place ≤ 45 * at .count
-  ruled : Ruled macaque (stateAt at)
+pub record Going (bytes : List ℕ) (at : Cursor) : Type 0 where
+  pub readable : ReadableAt bytes at
+  pub near : at .place ≤ 45 * at .count
+  pub ruled : Ruled macaque (stateAt at)
 
 -- a value before others
 abbrev pub cons : ℕ → Said (List ℕ) → Said (List ℕ)
@@ -48,7 +48,7 @@ cons v (answered vs) = answered (v ∷ vs)
 cons v (refused n) = refused n
 
 module _ (bytes : List ℕ) where
-  allowed : (at : Cursor) → Going bytes at → at .count ≤ mostValues → mayUse (length bytes) at ≡ true
+  pub allowed : (at : Cursor) → Going bytes at → at .count ≤ mostValues → mayUse (length bytes) at ≡ true
   allowed at g few = usable-if macaque macaque-good (lentBytes (length bytes)) (stateAt at) (omega (arith, g .readable .within, g .near)) few (g .ruled)
 
   -- ---- one value
@@ -57,7 +57,7 @@ module _ (bytes : List ℕ) where
     abbrev to : Cursor
     to = record { last = v; lead = win .lead; trail = win .trail; place = at .place + used; count = at .count + 1 }
 
-    goes-on : Going bytes to
+    pub goes-on : Going bytes to
     goes-on =
         let raw : Bool = rawNext (modeOf first) (at .count) in
         let o = own macaque macaque-good (windowIn (at .lead) (at .trail)) (at .last) (g .readable .small) (ahead bytes at) v win used raw e in
@@ -71,7 +71,7 @@ module _ (bytes : List ℕ) where
         }
 
     -- the theory reads on from the same place
-    same-place : (n : ℕ) → readN (bare (modeOf first)) n (advance (bare (modeOf first)) (stateAt at) v win used) (drop used (ahead bytes at)) ≡ readFrom first bytes to n
+    pub same-place : (n : ℕ) → readN (bare (modeOf first)) n (advance (bare (modeOf first)) (stateAt at) v win used) (drop used (ahead bytes at)) ≡ readFrom first bytes to n
     same-place n =
         ap₂ (λ (k : ℕ) (b : List Bool). readN (bare (modeOf first)) n (record { last = v; win = win; place = at .place + used; count = k; seen = tt }) b) (sym (add-one (at .count))) (drop-drop used (at .place) (bitsOf bytes))
 
@@ -106,7 +106,7 @@ module _ (bytes : List ℕ) where
   unfolding ended
   stops f = refl
 
-  accepted : (p : Position) → Going bytes (p .at) → p .at .count < mostValues → nextAnswer bytes p ≡ nextRead bytes p
+  pub accepted : (p : Position) → Going bytes (p .at) → p .at .count < mostValues → nextAnswer bytes p ≡ nextRead bytes p
   unfolding nextAnswer judge
   accepted p g few =
       let no : ¬ (p .at .count ≡ mostValues) = λ e. omega arith in
@@ -132,7 +132,7 @@ module _ (bytes : List ℕ) where
       go (stream.halt m) e ih = stops (record { no = m; value = p .at .count; place = p .at .place })
 
   -- where the nexts lead
-  abbrev Led : ℕ → SaidOn Position Run → Type 0
+  abbrev pub Led : ℕ → SaidOn Position Run → Type 0
   Led k (answeredOn r) = Going bytes (r .after .at) × (r .after .at .count ≡ k)
   Led k (refusedOn m q) = Unit
 
@@ -140,7 +140,7 @@ module _ (bytes : List ℕ) where
   also-led v k (answeredOn r) l = l
   also-led v k (refusedOn m p) l = tt
 
-  nexts-led : (n : ℕ) (p : Position) → Going bytes (p .at) → p .at .count + n ≤ mostValues → Led (p .at .count + n) (nexts bytes n p)
+  pub nexts-led : (n : ℕ) (p : Position) → Going bytes (p .at) → p .at .count + n ≤ mostValues → Led (p .at .count + n) (nexts bytes n p)
   unfolding nexts nextRead
   nexts-led zero p g few = (g, omega arith)
   nexts-led (suc n) p g few =
@@ -156,7 +156,7 @@ module _ (bytes : List ℕ) where
           also-led v (p .at .count + suc n) (nexts bytes n to) (subst (λ (m : ℕ). Led m (nexts bytes n to)) k (ih to (goes-on (p .«with_first») (p .at) g v win used e) (omega arith)))
       go (stream.halt m) e ih = tt
 
-  start-goes : (o : Opening) → openingValue o < 2 ^ 32 → Going bytes (startOf o)
+  pub start-goes : (o : Opening) → openingValue o < 2 ^ 32 → Going bytes (startOf o)
   start-goes o h =
       record {
         readable = start-readable bytes o (small o h);

@@ -14,7 +14,7 @@ said : (c : tie.After-end-from) → plainFault (saysVerdict (c .end-from .result
 said c = ap plainFault (c .end-from .ensures ∙ ap (endAnswer (c .before .before .before .before .args .bytes .now)) (c .before .position-in .ensures))
 
 returns : tie.Need-returns
-returns c = c .number-of .ensures ∙ ap (λ (v : Verdict). plainFault (saysVerdict v)) (sym (c .before .before .r .given .1)) ∙ said (c .before .before .before .before)
+returns c = c .fault-of .ensures ∙ ap (λ (v : Verdict). plainFault (saysVerdict v)) (sym (c .before .before .r .given .1)) ∙ said (c .before .before .before .before)
 
 returns-2 : tie.Need-returns-2
 returns-2 c = ap (λ (v : Verdict). plainFault (saysVerdict v)) (sym (c .enum-told .given .1)) ∙ said (c .before .before)

@@ -12,7 +12,7 @@ returns : tie.Need-returns
 unfolding gridFault gridOut
 returns c =
     let k = c .before .before .before .before .before .before in
-    (c .number-of .ensures ∙ sym (ap (λ (a : GridAnswer). plainFault (saysGrid a)) (c .before .before .r .given .1)) ∙ ap plainFault (k .grid .ensures .0), k .grid .ensures .1)
+    (c .fault-of .ensures ∙ sym (ap (λ (a : GridAnswer). plainFault (saysGrid a)) (c .before .before .r .given .1)) ∙ ap plainFault (k .grid .ensures .0), k .grid .ensures .1)
 
 returns-2 : tie.Need-returns-2
 unfolding gridFault gridOut

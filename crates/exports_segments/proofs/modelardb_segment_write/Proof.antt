@@ -34,7 +34,7 @@ returns c =
     let k = c .before .before .before .before in
     let a = k .before .before .before .before .before .before .args in
     let t = segment-refused (a .model) (a .first-value) (a .last-value) (boundOf (a .kind) (a .bound)) (a .residuals .now) (a .values-out .now) (a .residuals-out .now) (a .segment .now) _ (judged k) (c .before .before .r .given .0 .0) (c .before .before .r .given .1) in
-    (c .number-of .ensures ∙ t .0, (t .1, (t .2, t .3)))
+    (c .fault-of .ensures ∙ t .0, (t .1, (t .2, t .3)))
 
 returns-2 : tie.Need-returns-2
 returns-2 c =

@@ -49,7 +49,7 @@ returns : tie.Need-returns
 returns c =
     let k = c .before .before .before .before .before .before in
     let e = said k ∙ ap saysWrite (c .before .before .r .given .1) in
-    (c .number-of .ensures ∙ sym (ap stepFault e), (sym (ap (stepRow (writtenRow (row k)) (row k)) e), left k))
+    (c .fault-of .ensures ∙ sym (ap stepFault e), (sym (ap (stepRow (writtenRow (row k)) (row k)) e), left k))
 
 returns-2 : tie.Need-returns-2
 returns-2 c =

@@ -34,7 +34,7 @@ left c =
 returns : tie.Need-returns
 returns c =
     let k = c .before .before .before .before .before .before in
-    (c .number-of .ensures ∙ sym (ap (λ r. plainFault (saysGrid r)) (c .before .before .r .given .1)) ∙ said k, left k)
+    (c .fault-of .ensures ∙ sym (ap (λ r. plainFault (saysGrid r)) (c .before .before .r .given .1)) ∙ said k, left k)
 
 returns-2 : tie.Need-returns-2
 returns-2 c =

@@ -34,7 +34,7 @@ returns c =
     let k = c .before .before .before .before in
     let a = k .before .before .before .args in
     let t = new-refused (a .kind) (a .bound) (a .mode) (a .opening) (a .state .now) _ (judged k) (c .before .before .r .given .0 .0) (c .before .before .r .given .1) in
-    (c .number-of .ensures ∙ t .0, t .1)
+    (c .fault-of .ensures ∙ t .0, t .1)
 
 returns-2 : tie.Need-returns-2
 returns-2 c =

@@ -37,7 +37,7 @@ returns c =
     let k = c .before .before .before .before in
     let a = k .before .before .before .before .before .args in
     let t = reopen-refused (a .buffer .now) (a .used) (a .count) (a .k) (a .mode) (a .opening) (a .kind) (a .bound) (a .state .now) _ (judged k) (c .before .before .r .given .0 .0) (c .before .before .r .given .1) in
-    (c .number-of .ensures ∙ t .0, (t .1, t .2))
+    (c .fault-of .ensures ∙ t .0, (t .1, t .2))
 
 returns-2 : tie.Need-returns-2
 returns-2 c =

@@ -5,6 +5,7 @@ use Rattle.models.specs.Answers.{answered}
 use Rattle.models.specs.declared.Verdict.the-variants.{Passed}
 use Rattle.macaque_v.specs.Read.{saysOpen}
 use Rattle.macaque_v.specs.declared.read.OpenAnswer.{OpenAnswer}
+use Rattle.exports.specs.Face.{plainFault, rowIn}
 use Rattle.exports.specs.inner.Put.{worded}
 use Rattle.exports_stream.specs.Row.{writerRow}
 use Rattle.exports_stream.proofs.Faces.{put-plain}
@@ -12,6 +13,11 @@ use Rattle.exports_stream.proofs.Words.{writer-long}
 use borrow.Author.Needs.{needs}
 use Rattle.exports_stream.proofs.put_opened.Statement.{statement}
 use Rattle.exports_stream.proofs.put_opened.Tie as tie
+
+returns : tie.Need-returns
+returns c =
+    let e = sym (c .before .before .writer .given .1) in
+    (c .fault-of .ensures ∙ ap (λ (w : OpenAnswer). plainFault (saysOpen w)) e, ap (λ (w : OpenAnswer). rowIn writerRow (c .before .before .before .before .before .args .state .now) (saysOpen w)) e)
 
 returns-2 : tie.Need-returns-2
 returns-2 c =
@@ -30,6 +36,6 @@ put-opened-spec =
     (λ c κs. search needs)
     (λ c. search needs)
     (λ c κs. search needs)
-    (λ c. search needs)
+    returns
     (λ c. search needs)
     returns-2)

@@ -7,7 +7,7 @@ use Rattle.exports_fit.proofs.of_pmc_mean.modelardb_pmc_mean_grid.State
 use Rattle.exports_fit.proofs.of_pmc_mean.modelardb_pmc_mean_grid.Tie as tie
 
 returns : tie.Need-returns
-returns c = (c .number-of .ensures ∙ ap plainFault (ap saysGrid (sym (c .before .before .r .given .1)) ∙ c .before .before .before .before .before .before .grid .ensures .0), c .before .before .before .before .before .before .grid .ensures .1)
+returns c = (c .fault-of .ensures ∙ ap plainFault (ap saysGrid (sym (c .before .before .r .given .1)) ∙ c .before .before .before .before .before .before .grid .ensures .0), c .before .before .before .before .before .before .grid .ensures .1)
 
 returns-2 : tie.Need-returns-2
 returns-2 c = (ap plainFault (ap saysGrid (sym (c .enum-told .given .1)) ∙ c .before .before .before .before .grid .ensures .0), c .before .before .before .before .grid .ensures .1)

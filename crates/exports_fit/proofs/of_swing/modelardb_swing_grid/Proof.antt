@@ -9,7 +9,7 @@ use Rattle.exports_fit.proofs.of_swing.modelardb_swing_grid.Statement.{
 use Rattle.exports_fit.proofs.of_swing.modelardb_swing_grid.Tie as tie
 
 returns : tie.Need-returns
-returns c = (c .number-of .ensures ∙ ap plainFault (ap saysGrid (sym (c .before .before .r .given .1)) ∙ (rw (toZ-ofZ w64 (c .before .before .before .before .before .before .before .before .before .args .start-time) (c .before .before .before .before .before .before .before .before .before .fits .start-time), toZ-ofZ w64 (c .before .before .before .before .before .before .before .before .before .args .end-time) (c .before .before .before .before .before .before .before .before .before .fits .end-time)) at (c .before .before .before .before .before .before .grid .ensures .0))), (rw (toZ-ofZ w64 (c .before .before .before .before .before .before .before .before .before .args .start-time) (c .before .before .before .before .before .before .before .before .before .fits .start-time), toZ-ofZ w64 (c .before .before .before .before .before .before .before .before .before .args .end-time) (c .before .before .before .before .before .before .before .before .before .fits .end-time)) at (c .before .before .before .before .before .before .grid .ensures .1)))
+returns c = (c .fault-of .ensures ∙ ap plainFault (ap saysGrid (sym (c .before .before .r .given .1)) ∙ (rw (toZ-ofZ w64 (c .before .before .before .before .before .before .before .before .before .args .start-time) (c .before .before .before .before .before .before .before .before .before .fits .start-time), toZ-ofZ w64 (c .before .before .before .before .before .before .before .before .before .args .end-time) (c .before .before .before .before .before .before .before .before .before .fits .end-time)) at (c .before .before .before .before .before .before .grid .ensures .0))), (rw (toZ-ofZ w64 (c .before .before .before .before .before .before .before .before .before .args .start-time) (c .before .before .before .before .before .before .before .before .before .fits .start-time), toZ-ofZ w64 (c .before .before .before .before .before .before .before .before .before .args .end-time) (c .before .before .before .before .before .before .before .before .before .fits .end-time)) at (c .before .before .before .before .before .before .grid .ensures .1)))
 
 returns-2 : tie.Need-returns-2
 returns-2 c = (ap plainFault (ap saysGrid (sym (c .enum-told .given .1)) ∙ (rw (toZ-ofZ w64 (c .before .before .before .before .before .before .before .args .start-time) (c .before .before .before .before .before .before .before .fits .start-time), toZ-ofZ w64 (c .before .before .before .before .before .before .before .args .end-time) (c .before .before .before .before .before .before .before .fits .end-time)) at (c .before .before .before .before .grid .ensures .0))), (rw (toZ-ofZ w64 (c .before .before .before .before .before .before .before .args .start-time) (c .before .before .before .before .before .before .before .fits .start-time), toZ-ofZ w64 (c .before .before .before .before .before .before .before .args .end-time) (c .before .before .before .before .before .before .before .fits .end-time)) at (c .before .before .before .before .grid .ensures .1)))

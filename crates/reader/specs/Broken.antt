@@ -1,0 +1,32 @@
+-- What a reader hands out of a stream that reading a count refuses with 5 to 8: the values before the break, and then the same refusal. Assumes nothing.
+use mathlib.Core.Path.{_≡_}
+use mathlib.Core.List.{List}
+use Prim.Native.Nat.{ℕ}
+use lib.ListN.{length, take}
+use Rattle.models.specs.Answers.{refused, answeredOn, refusedOn}
+use Rattle.models.specs.declared.Fault.{Fault}
+use Rattle.macaque_v.specs.Read.{valuesIn}
+use Rattle.macaque_v.specs.declared.Opening.{Opening}
+use Rattle.reader.specs.Calls.{openedAt, nextAnswer, endAnswer}
+use Rattle.reader.specs.Run.{Run, nexts}
+
+-- As many nexts as the fault says are accepted, each with its value. Behind them a next is refused by the same fault, with the reader left as it was;
+-- or, where that is 8, the end is.
+pub record ReadsUntil (bytes : List ℕ) (o : Opening) (f : Fault) : Type 0 where
+  pub run : Run
+  pub accepts : nexts bytes (f .value) (openedAt o) ≡ answeredOn run
+  pub long : length (run .values) ≡ f .value
+  pub next : ¬ (f .number ≡ 8) → nextAnswer bytes (run .after) ≡ refusedOn f (run .after)
+  pub end : f .number ≡ 8 → endAnswer bytes (run .after) ≡ refused f
+
+-- the same where `sent` are the values of the stream that was sent: those of the reader are the first of them
+pub record ReadsAsSent (bytes : List ℕ) (o : Opening) (f : Fault) (sent : List ℕ) : Type 0 where
+  pub until : ReadsUntil bytes o f
+  pub asSent : until .run .values ≡ take (f .value) sent
+
+-- of a stream that holds the values `sent` only the first m bytes arrived: reading so many values is refused with 5
+pub record CutUpload (bytes : List ℕ) (n : ℕ) (o : Opening) (sent : List ℕ) (m : ℕ) : Type 0 where
+  pub fault : Fault
+  pub refuses : valuesIn (take m bytes) n o ≡ refused fault
+  pub five : fault .number ≡ 5
+  pub reads : ReadsAsSent (take m bytes) o fault sent
