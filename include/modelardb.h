@@ -3,10 +3,10 @@
  * that of `exports`.
  *
  * Floats cross as their bits. A NaN that is computed is answered as 7FC00000 or 7FF8000000000000; the values of a
- * stream keep their bits. A call that can be refused answers 0, or the number of its refusal, and then it has
- * changed no memory that it was lent. Where several causes apply, the first is answered in the order 1, 2, 3, 12,
- * 4, 10, 9, 11, and then 5 to 8 by the first place in the stream. Each call below lists its own causes in that
- * order.
+ * stream keep their bits. A call that can be refused answers a modelardb_fault, whose number is 0 or that of the
+ * refusal, and then it has changed no memory that it was lent. Where several causes apply, the first is answered
+ * in the order 1, 2, 3, 12, 4, 10, 9, 11, and then 5 to 8 by the first place in the stream. Each call below lists
+ * its own causes in that order. Those of a stream, 5 to 8, say at which value and at which bit it broke.
  *
  * A state crosses as a row of 64-bit words. A row that holds fewer words than the state has, or words that no
  * such state has, stands for none: a call that reads it is refused with 2. It is refused with 1 before that if
@@ -39,7 +39,7 @@
 extern "C" {
 #endif
 
-/* What a call answers: that it was accepted, or why it was refused. */
+/* The numbers: that a call was accepted, or why it was refused. */
 #define MODELARDB_ACCEPTED 0
 #define MODELARDB_BOUND_NOT_ALLOWED 1
 #define MODELARDB_STATE_NOT_ALLOWED 2
@@ -53,6 +53,18 @@ extern "C" {
 #define MODELARDB_TIMES_NOT_ALLOWED 10 /* timestamps out of limit, or not increasing */
 #define MODELARDB_NO_MODEL 11          /* nothing fitted, or a line whose ends differ, at least one not finite */
 #define MODELARDB_COUNTS_DISAGREE 12   /* counts or lengths that do not go together */
+
+/* What a call answers. With 5 to 7, `value` is the number of the value that was being read, counted from 0, and
+ * `place` the bit at which its code begins, counted from the first of the stream. With 8, `value` is the count and
+ * `place` the first set padding bit or, where none is set, the first bit of the first further byte. With every
+ * other number both are 0.
+ *
+ * They say where reading could not go on. Bytes that were altered may have read as other values before that. */
+typedef struct modelardb_fault {
+  uint32_t number; /* MODELARDB_ACCEPTED or a refusal */
+  uint32_t value;
+  size_t place;
+} modelardb_fault;
 
 /* The kinds of a bound. A bound is its kind and the bits of its f32: an absolute one is finite and above 0, a
  * relative one (per cent) above 0 and at most 100, and Lossless does not look at the bits. Any other kind is
@@ -90,12 +102,13 @@ uint64_t modelardb_widen(uint32_t bits);
 uint32_t modelardb_narrow(uint64_t bits);
 
 /* out[0]: 1 where the approximate value may stand for the real one, else 0. Refusals: 1; 4. */
-uint32_t modelardb_is_value_within_error_bound(uint32_t kind, uint32_t bound, uint32_t real_value,
-                                               uint32_t approximate_value, uint32_t *out, size_t out_length);
+modelardb_fault modelardb_is_value_within_error_bound(uint32_t kind, uint32_t bound, uint32_t real_value,
+                                                      uint32_t approximate_value, uint32_t *out,
+                                                      size_t out_length);
 
 /* out[0]: the f64 by which a line may pass from the value. Refusals: 1; 4. */
-uint32_t modelardb_maximum_allowed_deviation(uint32_t kind, uint32_t bound, uint64_t value, uint64_t *out,
-                                             size_t out_length);
+modelardb_fault modelardb_maximum_allowed_deviation(uint32_t kind, uint32_t bound, uint64_t value, uint64_t *out,
+                                                    size_t out_length);
 
 /* ---- MacaqueV: a stream of values, each coded by how it differs from the last one that was kept
  * (exports_stream)
@@ -131,32 +144,32 @@ uint32_t modelardb_maximum_allowed_deviation(uint32_t kind, uint32_t bound, uint
 #define MODELARDB_BYTES(place) (((place) + 7) / 8)
 
 /* state: a writer before any value. Refusals: 1; 3 (mode); 4 (a row under ten words). */
-uint32_t modelardb_macaque_v_new(uint32_t kind, uint32_t bound, uint32_t mode, uint32_t opening, uint64_t *state,
-                                 size_t state_length);
+modelardb_fault modelardb_macaque_v_new(uint32_t kind, uint32_t bound, uint32_t mode, uint32_t opening,
+                                        uint64_t *state, size_t state_length);
 
 /* Writes the values behind the state's place into the buffer; state: words 2 to 6, 8 and 9 become those of the
  * writer after them, and the others stay, so that a write of no values changes nothing. Refusals: 1; 2; 3 (over
  * 65,536 values in all); 4 (the buffer). */
-uint32_t modelardb_macaque_v_compress_values(uint64_t *state, size_t state_length, const uint32_t *values,
-                                             size_t values_length, uint8_t *buffer, size_t buffer_length);
+modelardb_fault modelardb_macaque_v_compress_values(uint64_t *state, size_t state_length, const uint32_t *values,
+                                                    size_t values_length, uint8_t *buffer, size_t buffer_length);
 
 /* state: the writer behind the first k of the `count` values of the stream in the buffer's first `used`
  * bytes, which is checked whole. The bits behind them in the byte that they end in become 0. Refusals: 1; 3
  * (mode, or count above 65,536); 12 (k above count, or used above the buffer's length); 4 (a row under ten
- * words); then 5 to 8. */
-uint32_t modelardb_macaque_v_reopen(uint8_t *buffer, size_t buffer_length, size_t used, size_t count, size_t k,
-                                    uint32_t mode, uint32_t opening, uint32_t kind, uint32_t bound, uint64_t *state,
-                                    size_t state_length);
+ * words); then 5 to 8 with value and place, whatever k is. */
+modelardb_fault modelardb_macaque_v_reopen(uint8_t *buffer, size_t buffer_length, size_t used, size_t count,
+                                           size_t k, uint32_t mode, uint32_t opening, uint32_t kind,
+                                           uint32_t bound, uint64_t *state, size_t state_length);
 
-/* out[0] to out[count - 1]: the values of the stream. Refusals: 3 (mode, or count above 65,536); 4; then 5 to
- * 8. */
-uint32_t modelardb_macaque_v_grid(const uint8_t *bytes, size_t bytes_length, size_t count, uint32_t mode,
-                                  uint32_t opening, uint32_t *out, size_t out_length);
+/* out[0] to out[count - 1]: the values of the stream. Refusals: 3 (mode, or count above 65,536); 4; then 5 to 8
+ * with value and place. */
+modelardb_fault modelardb_macaque_v_grid(const uint8_t *bytes, size_t bytes_length, size_t count, uint32_t mode,
+                                         uint32_t opening, uint32_t *out, size_t out_length);
 
-/* out[0]: the f32 sum of the values of the stream. Refusals: 3 (mode, or count above 65,536); 4; then 5 to
- * 8. */
-uint32_t modelardb_macaque_v_sum(const uint8_t *bytes, size_t bytes_length, size_t count, uint32_t mode,
-                                 uint32_t opening, uint32_t *out, size_t out_length);
+/* out[0]: the f32 sum of the values of the stream. Refusals: 3 (mode, or count above 65,536); 4; then 5 to 8
+ * with value and place. */
+modelardb_fault modelardb_macaque_v_sum(const uint8_t *bytes, size_t bytes_length, size_t count, uint32_t mode,
+                                        uint32_t opening, uint32_t *out, size_t out_length);
 
 /* ---- PMC-Mean: one value for a run of values, as long as it is within the bound of the least and the greatest
  * (exports_fit)
@@ -178,24 +191,25 @@ uint32_t modelardb_macaque_v_sum(const uint8_t *bytes, size_t bytes_length, size
  */
 
 /* state: PMC-Mean before any value. Refusals: 1; 4. */
-uint32_t modelardb_pmc_mean_new(uint32_t kind, uint32_t bound, uint64_t *state, size_t state_length);
+modelardb_fault modelardb_pmc_mean_new(uint32_t kind, uint32_t bound, uint64_t *state, size_t state_length);
 
 /* Tries one more value, the f32 of these bits. state: the model with it and 1 in word 6, or, where it does not
  * fit, the same model and 0 in word 6. Refusals: 1; 2; 3 (a model of 65,536 values). */
-uint32_t modelardb_pmc_mean_fit_value(uint64_t *state, size_t state_length, uint32_t value);
+modelardb_fault modelardb_pmc_mean_fit_value(uint64_t *state, size_t state_length, uint32_t value);
 
 /* out[0]: the f32 bytes for each value, with metadata of m bytes. Refusals: 1; 2; 3 (m); 4 (out); 11. */
-uint32_t modelardb_pmc_mean_bytes_per_value(const uint64_t *state, size_t state_length, size_t m, uint32_t *out,
-                                            size_t out_length);
+modelardb_fault modelardb_pmc_mean_bytes_per_value(const uint64_t *state, size_t state_length, size_t m,
+                                                   uint32_t *out, size_t out_length);
 
 /* out[0]: the f32 that stands for the values. Refusals: 1; 2; 4 (out); 11. */
-uint32_t modelardb_pmc_mean_model(const uint64_t *state, size_t state_length, uint32_t *out, size_t out_length);
+modelardb_fault modelardb_pmc_mean_model(const uint64_t *state, size_t state_length, uint32_t *out,
+                                         size_t out_length);
 
 /* out[0]: the f32 sum of `count` such values. Refusals: 3 (count above 65,536); 4. */
-uint32_t modelardb_pmc_mean_sum(size_t count, uint32_t value, uint32_t *out, size_t out_length);
+modelardb_fault modelardb_pmc_mean_sum(size_t count, uint32_t value, uint32_t *out, size_t out_length);
 
 /* out[0] to out[count - 1]: the value. Refusals: 3 (count above 65,536); 4. */
-uint32_t modelardb_pmc_mean_grid(uint32_t value, size_t count, uint32_t *out, size_t out_length);
+modelardb_fault modelardb_pmc_mean_grid(uint32_t value, size_t count, uint32_t *out, size_t out_length);
 
 /* ---- Swing: a line from the first point of a run on that passes each later one within the bound (exports_fit)
  *
@@ -221,33 +235,37 @@ uint32_t modelardb_pmc_mean_grid(uint32_t value, size_t count, uint32_t *out, si
  */
 
 /* state: Swing before any point. Refusals: 1; 4. */
-uint32_t modelardb_swing_new(uint32_t kind, uint32_t bound, uint64_t *state, size_t state_length);
+modelardb_fault modelardb_swing_new(uint32_t kind, uint32_t bound, uint64_t *state, size_t state_length);
 
 /* Tries one more point. state: the model with it and 1 in word 12, or, where it does not fit, the same model and
  * 0 in word 12. Refusals: 1; 2; 3 (a model of 65,536 points); 10. */
-uint32_t modelardb_swing_fit_data_point(uint64_t *state, size_t state_length, int64_t timestamp, uint32_t value);
+modelardb_fault modelardb_swing_fit_data_point(uint64_t *state, size_t state_length, int64_t timestamp,
+                                               uint32_t value);
 
 /* out[0]: the f32 bytes for each value, with metadata of m bytes and one byte more. Refusals: 1; 2; 3 (m); 4
  * (out); 11. */
-uint32_t modelardb_swing_bytes_per_value(const uint64_t *state, size_t state_length, size_t m, uint32_t *out,
-                                         size_t out_length);
+modelardb_fault modelardb_swing_bytes_per_value(const uint64_t *state, size_t state_length, size_t m,
+                                                uint32_t *out, size_t out_length);
 
 /* out[0], out[1]: the f32 of the line's first and of its last value. Refusals: 1; 2; 4 (out); 11. */
-uint32_t modelardb_swing_model(const uint64_t *state, size_t state_length, uint32_t *out, size_t out_length);
+modelardb_fault modelardb_swing_model(const uint64_t *state, size_t state_length, uint32_t *out,
+                                      size_t out_length);
 
 /* The line through (start_time, first_value) and (end_time, last_value), two f32: its values' f32 sum into out[0],
  * by the average of its ends for `count` values. Refusals: 3 (count above 65,536); 4; 10; 11. */
-uint32_t modelardb_swing_sum_by_average(int64_t start_time, int64_t end_time, uint32_t first_value,
-                                        uint32_t last_value, size_t count, uint32_t *out, size_t out_length);
+modelardb_fault modelardb_swing_sum_by_average(int64_t start_time, int64_t end_time, uint32_t first_value,
+                                               uint32_t last_value, size_t count, uint32_t *out,
+                                               size_t out_length);
 
 /* The same, by adding up its values at the timestamps. Refusals: 3 (over 65,536 timestamps); 4; 10; 11. */
-uint32_t modelardb_swing_sum_over(int64_t start_time, int64_t end_time, uint32_t first_value, uint32_t last_value,
-                                  const int64_t *timestamps, size_t timestamps_length, uint32_t *out,
-                                  size_t out_length);
+modelardb_fault modelardb_swing_sum_over(int64_t start_time, int64_t end_time, uint32_t first_value,
+                                         uint32_t last_value, const int64_t *timestamps, size_t timestamps_length,
+                                         uint32_t *out, size_t out_length);
 
 /* out[0] on: the line's value at each timestamp. Refusals: 3 (over 65,536 timestamps); 4; 10; 11. */
-uint32_t modelardb_swing_grid(int64_t start_time, int64_t end_time, uint32_t first_value, uint32_t last_value,
-                              const int64_t *timestamps, size_t timestamps_length, uint32_t *out, size_t out_length);
+modelardb_fault modelardb_swing_grid(int64_t start_time, int64_t end_time, uint32_t first_value,
+                                     uint32_t last_value, const int64_t *timestamps, size_t timestamps_length,
+                                     uint32_t *out, size_t out_length);
 
 /* ---- the choice between the two (exports_choice)
  *
@@ -277,24 +295,24 @@ uint32_t modelardb_swing_grid(int64_t start_time, int64_t end_time, uint32_t fir
 #define MODELARDB_CHOSEN_WORDS 5
 
 /* state: a builder before any point. Refusals: 1; 4. */
-uint32_t modelardb_model_builder_new(uint32_t kind, uint32_t bound, uint64_t *state, size_t state_length);
+modelardb_fault modelardb_model_builder_new(uint32_t kind, uint32_t bound, uint64_t *state, size_t state_length);
 
 /* Tries one more point with each model that has not failed. state: the builder after it. Refusals: 1; 2; 3 (a
  * model of 65,536 points); 10. */
-uint32_t modelardb_model_builder_try_to_update_models(uint64_t *state, size_t state_length, int64_t timestamp,
-                                                      uint32_t value);
+modelardb_fault modelardb_model_builder_try_to_update_models(uint64_t *state, size_t state_length,
+                                                             int64_t timestamp, uint32_t value);
 
 /* out[0] to out[4]: the model that needs fewer bytes for each value, with metadata of m bytes. Refusals: 1; 2; 3
  * (m); 4 (out); 11 (a model of length 0). */
-uint32_t modelardb_model_builder_finish(const uint64_t *state, size_t state_length, size_t m, uint64_t *out,
-                                        size_t out_length);
+modelardb_fault modelardb_model_builder_finish(const uint64_t *state, size_t state_length, size_t m, uint64_t *out,
+                                               size_t out_length);
 
 /* out[0] to out[4]: the model chosen for the points from the first one on, each model fitted until it fails.
  * Refusals: 1; 3 (over 65,536 values, or m); 12 (unequal lengths); 4; 10 (all timestamps are judged); 11 (no
  * values). */
-uint32_t modelardb_choose_model(const int64_t *timestamps, size_t timestamps_length, const uint32_t *values,
-                                size_t values_length, uint32_t kind, uint32_t bound, size_t m, uint64_t *out,
-                                size_t out_length);
+modelardb_fault modelardb_choose_model(const int64_t *timestamps, size_t timestamps_length, const uint32_t *values,
+                                       size_t values_length, uint32_t kind, uint32_t bound, size_t m,
+                                       uint64_t *out, size_t out_length);
 
 /* ---- parameter bytes and segments (exports_segments)
  *
@@ -319,54 +337,57 @@ uint32_t modelardb_choose_model(const int64_t *timestamps, size_t timestamps_len
 
 /* out: PMC-Mean's parameter bytes; row[0]: how many they are. The residuals' least and greatest value are
  * both 7FC00000 where there are none. Refusals: 4 (an empty row, or out). */
-uint32_t modelardb_encode_values_for_pmc_mean(uint32_t value, uint32_t residuals_min_value,
-                                              uint32_t residuals_max_value, uint8_t *out, size_t out_length,
-                                              uint64_t *row, size_t row_length);
+modelardb_fault modelardb_encode_values_for_pmc_mean(uint32_t value, uint32_t residuals_min_value,
+                                                     uint32_t residuals_max_value, uint8_t *out, size_t out_length,
+                                                     uint64_t *row, size_t row_length);
 
 /* out: Swing's parameter bytes; row[0]: how many they are. Refusals: 4 (an empty row, or out). */
-uint32_t modelardb_encode_values_for_swing(uint32_t first_value, uint32_t last_value, uint32_t residuals_min_value,
-                                           uint32_t residuals_max_value, uint8_t *out, size_t out_length,
-                                           uint64_t *row, size_t row_length);
+modelardb_fault modelardb_encode_values_for_swing(uint32_t first_value, uint32_t last_value,
+                                                  uint32_t residuals_min_value, uint32_t residuals_max_value,
+                                                  uint8_t *out, size_t out_length, uint64_t *row,
+                                                  size_t row_length);
 
 /* out[0]: the value that PMC-Mean's parameter bytes give with the segment's least and greatest value.
  * Refusals: 4; 9. */
-uint32_t modelardb_decode_values_for_pmc_mean(uint32_t min_value, uint32_t max_value, const uint8_t *values,
-                                              size_t values_length, uint32_t *out, size_t out_length);
+modelardb_fault modelardb_decode_values_for_pmc_mean(uint32_t min_value, uint32_t max_value, const uint8_t *values,
+                                                     size_t values_length, uint32_t *out, size_t out_length);
 
 /* out[0] and out[1]: the first and the last value that Swing's parameter bytes give with the segment's least
  * and greatest value. Refusals: 4; 9. */
-uint32_t modelardb_decode_values_for_swing(uint32_t min_value, uint32_t max_value, const uint8_t *values,
-                                           size_t values_length, uint32_t *out, size_t out_length);
+modelardb_fault modelardb_decode_values_for_swing(uint32_t min_value, uint32_t max_value, const uint8_t *values,
+                                                  size_t values_length, uint32_t *out, size_t out_length);
 
 /* values_out: the parameter bytes; residuals_out: the residual bytes; segment: the words above. The bound is the
  * residuals'. Refusals: 1; 3 (model, or over 255 residuals); 4 (a row under four words, or either output). */
-uint32_t modelardb_segment_write(uint32_t model, uint32_t first_value, uint32_t last_value, uint32_t kind,
-                                 uint32_t bound, const uint32_t *residuals, size_t residuals_length,
-                                 uint8_t *values_out, size_t values_out_length, uint8_t *residuals_out,
-                                 size_t residuals_out_length, uint64_t *segment, size_t segment_length);
+modelardb_fault modelardb_segment_write(uint32_t model, uint32_t first_value, uint32_t last_value, uint32_t kind,
+                                        uint32_t bound, const uint32_t *residuals, size_t residuals_length,
+                                        uint8_t *values_out, size_t values_out_length, uint8_t *residuals_out,
+                                        size_t residuals_out_length, uint64_t *segment, size_t segment_length);
 
 /* The reading calls take all timestamps of a segment: the model owns the first ones, the residuals as many of
  * the last as their count byte says. Their refusals: 3 (model, or over 65,536 timestamps); 12 (no timestamp left
  * for the model); 4; 10 (a timestamp, or Swing with one only); 9 (the parameter bytes, or a count byte of 0); 11;
- * then 5 to 8 of the residual stream. */
+ * then 5 to 8 of the residual stream: value 0 is the first residual, and places count from that stream's first
+ * byte. */
 
 /* out[0] to out[timestamps_length - 1]: the values, the model's and then the residuals'. */
-uint32_t modelardb_segment_grid(uint32_t model, const int64_t *timestamps, size_t timestamps_length,
-                                uint32_t min_value, uint32_t max_value, const uint8_t *values, size_t values_length,
-                                const uint8_t *residuals, size_t residuals_length, uint32_t *out,
-                                size_t out_length);
+modelardb_fault modelardb_segment_grid(uint32_t model, const int64_t *timestamps, size_t timestamps_length,
+                                       uint32_t min_value, uint32_t max_value, const uint8_t *values,
+                                       size_t values_length, const uint8_t *residuals, size_t residuals_length,
+                                       uint32_t *out, size_t out_length);
 
 /* out[0]: the f32 sum of the values, of Swing's by the average of its ends. */
-uint32_t modelardb_segment_sum_by_average(uint32_t model, const int64_t *timestamps, size_t timestamps_length,
-                                          uint32_t min_value, uint32_t max_value, const uint8_t *values,
-                                          size_t values_length, const uint8_t *residuals, size_t residuals_length,
-                                          uint32_t *out, size_t out_length);
+modelardb_fault modelardb_segment_sum_by_average(uint32_t model, const int64_t *timestamps,
+                                                 size_t timestamps_length, uint32_t min_value, uint32_t max_value,
+                                                 const uint8_t *values, size_t values_length,
+                                                 const uint8_t *residuals, size_t residuals_length, uint32_t *out,
+                                                 size_t out_length);
 
 /* out[0]: the f32 sum of the values, of Swing's one by one at its timestamps. */
-uint32_t modelardb_segment_sum_over(uint32_t model, const int64_t *timestamps, size_t timestamps_length,
-                                    uint32_t min_value, uint32_t max_value, const uint8_t *values,
-                                    size_t values_length, const uint8_t *residuals, size_t residuals_length,
-                                    uint32_t *out, size_t out_length);
+modelardb_fault modelardb_segment_sum_over(uint32_t model, const int64_t *timestamps, size_t timestamps_length,
+                                           uint32_t min_value, uint32_t max_value, const uint8_t *values,
+                                           size_t values_length, const uint8_t *residuals, size_t residuals_length,
+                                           uint32_t *out, size_t out_length);
 
 /* ---- a reader: a stream's values, one by one (exports_reader)
  *
@@ -387,20 +408,22 @@ uint32_t modelardb_segment_sum_over(uint32_t model, const int64_t *timestamps, s
 
 /* reader: before the first value of a stream, which opens by a mode and a value as a writer does. Refusals: 3
  * (mode); 4 (a row under six words). */
-uint32_t modelardb_reader_open(uint32_t mode, uint32_t opening, uint64_t *reader, size_t reader_length);
+modelardb_fault modelardb_reader_open(uint32_t mode, uint32_t opening, uint64_t *reader, size_t reader_length);
 
-/* out[0]: the next value; reader: behind it. Refusals: 2; 3 (at 65,536 values); 4 (out); then 5 to 7. */
-uint32_t modelardb_reader_next(const uint8_t *bytes, size_t bytes_length, uint64_t *reader, size_t reader_length,
-                               uint32_t *out, size_t out_length);
+/* out[0]: the next value; reader: behind it. Refusals: 2; 3 (at 65,536 values); 4 (out); then 5 to 7, whose value
+ * and place are the reader's length and place. */
+modelardb_fault modelardb_reader_next(const uint8_t *bytes, size_t bytes_length, uint64_t *reader,
+                                      size_t reader_length, uint32_t *out, size_t out_length);
 
-/* 0 where the stream ends behind the values read. Refusals: 2; 8. */
-uint32_t modelardb_reader_end(const uint8_t *bytes, size_t bytes_length, const uint64_t *reader,
-                              size_t reader_length);
+/* Accepted where the stream ends behind the values read. Refusals: 2; 8, whose value is the reader's length and
+ * whose place is that of the first leftover bit. */
+modelardb_fault modelardb_reader_end(const uint8_t *bytes, size_t bytes_length, const uint64_t *reader,
+                                     size_t reader_length);
 
 /* out[0]: the last of a stream's values, `count` of them; +0 for a count of 0, whatever the stream opens on.
- * Refusals: 3 (mode, or count above 65,536); 4; then 5 to 8. */
-uint32_t modelardb_reader_last_value(const uint8_t *bytes, size_t bytes_length, size_t count, uint32_t mode,
-                                     uint32_t opening, uint32_t *out, size_t out_length);
+ * Refusals: 3 (mode, or count above 65,536); 4; then 5 to 8 with value and place. */
+modelardb_fault modelardb_reader_last_value(const uint8_t *bytes, size_t bytes_length, size_t count, uint32_t mode,
+                                            uint32_t opening, uint32_t *out, size_t out_length);
 
 #ifdef __cplusplus
 }

@@ -3,6 +3,8 @@
 use exports::words;
 use exports_fit::of_pmc_mean;
 use exports_fit::of_swing;
+use models::Fault;
+use replaying::lists::Told;
 
 // How many calls there are; they are numbered from 0 in the order of include/modelardb.h.
 pub const CALLS: u64 = 38;
@@ -19,7 +21,7 @@ pub struct Numbers {
     pub n: u64,
 }
 
-// What a call answers. Of its memory, t holds timestamps, p and q bytes, v values, s a row of words that is
+// What a call answers: number, value and place. Of its memory, t holds timestamps, p and q bytes, v values, s a row of words that is
 // only read and r one that is written.
 pub fn answer(
     call: u64,
@@ -30,7 +32,7 @@ pub fn answer(
     q: &mut [u8],
     v: &mut [u32],
     r: &mut [u64],
-) -> u64 {
+) -> Told {
     if call <= 8 {
         return of_streams(call, x, p, v, r);
     }
@@ -46,7 +48,7 @@ pub fn answer(
     of_the_reader(call, x, s, p, v, r)
 }
 
-fn of_streams(call: u64, x: Numbers, p: &mut [u8], v: &mut [u32], r: &mut [u64]) -> u64 {
+fn of_streams(call: u64, x: Numbers, p: &mut [u8], v: &mut [u32], r: &mut [u64]) -> Told {
     if call <= 3 {
         return of_numbers(call, x, v, r);
     }
@@ -56,7 +58,7 @@ fn of_streams(call: u64, x: Numbers, p: &mut [u8], v: &mut [u32], r: &mut [u64])
     of_reading(call, x, p, v)
 }
 
-fn of_models(call: u64, x: Numbers, t: &[i64], s: &[u64], v: &mut [u32], r: &mut [u64]) -> u64 {
+fn of_models(call: u64, x: Numbers, t: &[i64], s: &[u64], v: &mut [u32], r: &mut [u64]) -> Told {
     if call <= 14 {
         return of_pmc_mean(call, x, s, v, r);
     }
@@ -74,7 +76,7 @@ fn of_segments(
     q: &mut [u8],
     v: &mut [u32],
     r: &mut [u64],
-) -> u64 {
+) -> Told {
     if call <= 27 {
         return of_encoding(call, x, p, r);
     }
@@ -87,23 +89,23 @@ fn of_segments(
     of_segments_read(call, x, t, p, q, v)
 }
 
-fn of_numbers(call: u64, x: Numbers, v: &mut [u32], r: &mut [u64]) -> u64 {
+fn of_numbers(call: u64, x: Numbers, v: &mut [u32], r: &mut [u64]) -> Told {
     match call {
-        0 => exports::modelardb_widen(x.a),
-        1 => exports::modelardb_narrow(x.k) as u64,
-        2 => exports::modelardb_is_value_within_error_bound(x.a, x.b, x.c, x.d, v) as u64,
-        _ => exports::modelardb_maximum_allowed_deviation(x.a, x.b, x.k, r) as u64,
+        0 => given(exports::modelardb_widen(x.a)),
+        1 => given(exports::modelardb_narrow(x.k) as u64),
+        2 => told(exports::modelardb_is_value_within_error_bound(x.a, x.b, x.c, x.d, v)),
+        _ => told(exports::modelardb_maximum_allowed_deviation(x.a, x.b, x.k, r)),
     }
 }
 
-fn of_writing(call: u64, x: Numbers, p: &mut [u8], v: &[u32], r: &mut [u64]) -> u64 {
+fn of_writing(call: u64, x: Numbers, p: &mut [u8], v: &[u32], r: &mut [u64]) -> Told {
     let used = x.k as usize;
     let count = x.m as usize;
     let k = x.n as usize;
     match call {
-        4 => exports_stream::modelardb_macaque_v_new(x.a, x.b, x.c, x.d, r) as u64,
-        5 => exports_stream::modelardb_macaque_v_compress_values(r, v, p) as u64,
-        _ => exports_stream::modelardb_macaque_v_reopen(
+        4 => told(exports_stream::modelardb_macaque_v_new(x.a, x.b, x.c, x.d, r)),
+        5 => told(exports_stream::modelardb_macaque_v_compress_values(r, v, p)),
+        _ => told(exports_stream::modelardb_macaque_v_reopen(
             p,
             used,
             count,
@@ -113,98 +115,108 @@ fn of_writing(call: u64, x: Numbers, p: &mut [u8], v: &[u32], r: &mut [u64]) -> 
             x.c,
             x.d,
             r,
-        ) as u64,
+        )),
     }
 }
 
-fn of_reading(call: u64, x: Numbers, p: &[u8], v: &mut [u32]) -> u64 {
+fn of_reading(call: u64, x: Numbers, p: &[u8], v: &mut [u32]) -> Told {
     let count = x.k as usize;
     match call {
-        7 => exports_stream::modelardb_macaque_v_grid(p, count, x.a, x.b, v) as u64,
-        _ => exports_stream::modelardb_macaque_v_sum(p, count, x.a, x.b, v) as u64,
+        7 => told(exports_stream::modelardb_macaque_v_grid(p, count, x.a, x.b, v)),
+        _ => told(exports_stream::modelardb_macaque_v_sum(p, count, x.a, x.b, v)),
     }
 }
 
-fn of_pmc_mean(call: u64, x: Numbers, s: &[u64], v: &mut [u32], r: &mut [u64]) -> u64 {
+fn of_pmc_mean(call: u64, x: Numbers, s: &[u64], v: &mut [u32], r: &mut [u64]) -> Told {
     let n = x.k as usize;
     match call {
-        9 => of_pmc_mean::modelardb_pmc_mean_new(x.a, x.b, r) as u64,
-        10 => of_pmc_mean::modelardb_pmc_mean_fit_value(r, x.a) as u64,
-        11 => of_pmc_mean::modelardb_pmc_mean_bytes_per_value(s, n, v) as u64,
-        12 => of_pmc_mean::modelardb_pmc_mean_model(s, v) as u64,
-        13 => of_pmc_mean::modelardb_pmc_mean_sum(n, x.a, v) as u64,
-        _ => of_pmc_mean::modelardb_pmc_mean_grid(x.a, n, v) as u64,
+        9 => told(of_pmc_mean::modelardb_pmc_mean_new(x.a, x.b, r)),
+        10 => told(of_pmc_mean::modelardb_pmc_mean_fit_value(r, x.a)),
+        11 => told(of_pmc_mean::modelardb_pmc_mean_bytes_per_value(s, n, v)),
+        12 => told(of_pmc_mean::modelardb_pmc_mean_model(s, v)),
+        13 => told(of_pmc_mean::modelardb_pmc_mean_sum(n, x.a, v)),
+        _ => told(of_pmc_mean::modelardb_pmc_mean_grid(x.a, n, v)),
     }
 }
 
-fn of_swing(call: u64, x: Numbers, s: &[u64], v: &mut [u32], r: &mut [u64]) -> u64 {
+fn of_swing(call: u64, x: Numbers, s: &[u64], v: &mut [u32], r: &mut [u64]) -> Told {
     match call {
-        15 => of_swing::modelardb_swing_new(x.a, x.b, r) as u64,
-        16 => of_swing::modelardb_swing_fit_data_point(r, words::time_in(x.k), x.a) as u64,
-        17 => of_swing::modelardb_swing_bytes_per_value(s, x.k as usize, v) as u64,
-        _ => of_swing::modelardb_swing_model(s, v) as u64,
+        15 => told(of_swing::modelardb_swing_new(x.a, x.b, r)),
+        16 => told(of_swing::modelardb_swing_fit_data_point(r, words::time_in(x.k), x.a)),
+        17 => told(of_swing::modelardb_swing_bytes_per_value(s, x.k as usize, v)),
+        _ => told(of_swing::modelardb_swing_model(s, v)),
     }
 }
 
-fn of_lines(call: u64, x: Numbers, t: &[i64], v: &mut [u32]) -> u64 {
+fn of_lines(call: u64, x: Numbers, t: &[i64], v: &mut [u32]) -> Told {
     let start = words::time_in(x.k);
     let end = words::time_in(x.m);
     match call {
-        19 => of_swing::modelardb_swing_sum_by_average(
-            start,
-            end,
-            x.a,
-            x.b,
-            x.n as usize,
-            v,
-        ) as u64,
-        20 => of_swing::modelardb_swing_sum_over(start, end, x.a, x.b, t, v) as u64,
-        _ => of_swing::modelardb_swing_grid(start, end, x.a, x.b, t, v) as u64,
+        19 => told(of_swing::modelardb_swing_sum_by_average(start, end, x.a, x.b, x.n as usize, v)),
+        20 => told(of_swing::modelardb_swing_sum_over(start, end, x.a, x.b, t, v)),
+        _ => told(of_swing::modelardb_swing_grid(start, end, x.a, x.b, t, v)),
     }
 }
 
-fn of_the_choice(call: u64, x: Numbers, t: &[i64], s: &[u64], v: &[u32], r: &mut [u64]) -> u64 {
+fn of_the_choice(call: u64, x: Numbers, t: &[i64], s: &[u64], v: &[u32], r: &mut [u64]) -> Told {
     let time = words::time_in(x.k);
     let m = x.k as usize;
     match call {
-        22 => exports_choice::modelardb_model_builder_new(x.a, x.b, r) as u64,
-        23 => exports_choice::modelardb_model_builder_try_to_update_models(r, time, x.a) as u64,
-        24 => exports_choice::modelardb_model_builder_finish(s, m, r) as u64,
-        _ => exports_choice::modelardb_choose_model(t, v, x.a, x.b, m, r) as u64,
+        22 => told(exports_choice::modelardb_model_builder_new(x.a, x.b, r)),
+        23 => told(exports_choice::modelardb_model_builder_try_to_update_models(r, time, x.a)),
+        24 => told(exports_choice::modelardb_model_builder_finish(s, m, r)),
+        _ => told(exports_choice::modelardb_choose_model(t, v, x.a, x.b, m, r)),
     }
 }
 
-fn of_encoding(call: u64, x: Numbers, p: &mut [u8], r: &mut [u64]) -> u64 {
+fn of_encoding(call: u64, x: Numbers, p: &mut [u8], r: &mut [u64]) -> Told {
     match call {
-        26 => exports_segments::modelardb_encode_values_for_pmc_mean(x.a, x.b, x.c, p, r) as u64,
-        _ => exports_segments::modelardb_encode_values_for_swing(x.a, x.b, x.c, x.d, p, r) as u64,
+        26 => told(exports_segments::modelardb_encode_values_for_pmc_mean(x.a, x.b, x.c, p, r)),
+        _ => told(exports_segments::modelardb_encode_values_for_swing(x.a, x.b, x.c, x.d, p, r)),
     }
 }
 
-fn of_decoding(call: u64, x: Numbers, p: &[u8], v: &mut [u32]) -> u64 {
+fn of_decoding(call: u64, x: Numbers, p: &[u8], v: &mut [u32]) -> Told {
     match call {
-        28 => exports_segments::modelardb_decode_values_for_pmc_mean(x.a, x.b, p, v) as u64,
-        _ => exports_segments::modelardb_decode_values_for_swing(x.a, x.b, p, v) as u64,
+        28 => told(exports_segments::modelardb_decode_values_for_pmc_mean(x.a, x.b, p, v)),
+        _ => told(exports_segments::modelardb_decode_values_for_swing(x.a, x.b, p, v)),
     }
 }
 
-fn of_segments_written(x: Numbers, p: &mut [u8], q: &mut [u8], v: &[u32], r: &mut [u64]) -> u64 {
-    exports_segments::modelardb_segment_write(x.a, x.b, x.c, x.d, x.e, v, p, q, r) as u64
+fn of_segments_written(x: Numbers, p: &mut [u8], q: &mut [u8], v: &[u32], r: &mut [u64]) -> Told {
+    told(exports_segments::modelardb_segment_write(x.a, x.b, x.c, x.d, x.e, v, p, q, r))
 }
 
-fn of_segments_read(call: u64, x: Numbers, t: &[i64], p: &[u8], q: &[u8], v: &mut [u32]) -> u64 {
+fn of_segments_read(call: u64, x: Numbers, t: &[i64], p: &[u8], q: &[u8], v: &mut [u32]) -> Told {
     match call {
-        31 => exports_segments::modelardb_segment_grid(x.a, t, x.b, x.c, p, q, v) as u64,
-        32 => exports_segments::modelardb_segment_sum_by_average(x.a, t, x.b, x.c, p, q, v) as u64,
-        _ => exports_segments::modelardb_segment_sum_over(x.a, t, x.b, x.c, p, q, v) as u64,
+        31 => told(exports_segments::modelardb_segment_grid(x.a, t, x.b, x.c, p, q, v)),
+        32 => told(exports_segments::modelardb_segment_sum_by_average(x.a, t, x.b, x.c, p, q, v)),
+        _ => told(exports_segments::modelardb_segment_sum_over(x.a, t, x.b, x.c, p, q, v)),
     }
 }
 
-fn of_the_reader(call: u64, x: Numbers, s: &[u64], p: &[u8], v: &mut [u32], r: &mut [u64]) -> u64 {
+fn of_the_reader(call: u64, x: Numbers, s: &[u64], p: &[u8], v: &mut [u32], r: &mut [u64]) -> Told {
     match call {
-        34 => exports_reader::modelardb_reader_open(x.a, x.b, r) as u64,
-        35 => exports_reader::modelardb_reader_next(p, r, v) as u64,
-        36 => exports_reader::modelardb_reader_end(p, s) as u64,
-        _ => exports_reader::modelardb_reader_last_value(p, x.k as usize, x.a, x.b, v) as u64,
+        34 => told(exports_reader::modelardb_reader_open(x.a, x.b, r)),
+        35 => told(exports_reader::modelardb_reader_next(p, r, v)),
+        36 => told(exports_reader::modelardb_reader_end(p, s)),
+        _ => told(exports_reader::modelardb_reader_last_value(p, x.k as usize, x.a, x.b, v)),
+    }
+}
+
+fn told(fault: Fault) -> Told {
+    Told {
+        number: fault.number as u64,
+        value: fault.value as u64,
+        place: fault.place as u64,
+    }
+}
+
+// What a call gives that is never refused.
+fn given(number: u64) -> Told {
+    Told {
+        number,
+        value: 0,
+        place: 0,
     }
 }

@@ -6,6 +6,7 @@ use exports::words;
 use replaying::line;
 use replaying::line::MARKS;
 use replaying::lists;
+use replaying::lists::Told;
 
 pub enum Verdict {
     Same,
@@ -65,13 +66,13 @@ fn agrees(
     marks: &[usize; MARKS],
 ) -> bool {
     let s = lists::list(all, marks, line::S);
-    let number = calls::answer(call, numbers(all, marks), t, s, p, q, v, r);
-    is_left(number, p, q, v, r, all, marks)
+    let told = calls::answer(call, numbers(all, marks), t, s, p, q, v, r);
+    is_left(told, p, q, v, r, all, marks)
 }
 
-// Whether the call answered the number that the line says, and left all memory as it says.
+// Whether the call answered what the line says, and left all memory as it says.
 fn is_left(
-    number: u64,
+    told: Told,
     p: &[u8],
     q: &[u8],
     v: &[u32],
@@ -79,7 +80,7 @@ fn is_left(
     all: &[u64],
     marks: &[usize; MARKS],
 ) -> bool {
-    lists::is_answer(number, all, marks)
+    lists::is_answer(told, all, marks)
         & lists::are_bytes(p, all, marks, line::P)
         & lists::are_bytes(q, all, marks, line::Q)
         & lists::are_values(v, all, marks, line::V)

@@ -1,10 +1,10 @@
 // A line of the list, read byte by byte into words:
 //
-//    CALL x .. w .. t .. p .. q .. v .. r .. s .. : NUMBER p .. q .. v .. r ..
+//    CALL x .. w .. t .. p .. q .. v .. r .. s .. : NUMBER VALUE PLACE p .. q .. v .. r ..
 //
 // hexadecimal words between single letters that name the lists (calls.rt says what each holds), first
-// the call's number and what it is handed, then what it must answer and leave. A list that is not named
-// is empty, or, behind the colon, must be left as it was. `COUNT*WORD` stands for so many such words. A
+// the call's number and what it is handed, then what it must answer and leave. A value and a place that
+// are both 0 are left out. A list that is not named is empty, or, behind the colon, must be left as it was. `COUNT*WORD` stands for so many such words. A
 // line that begins with `#` is for people, and one that begins with `@` is the title of those behind it.
 
 // How many words a line may have: lists of 65,537 timestamps and values, and more.

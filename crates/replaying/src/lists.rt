@@ -218,11 +218,20 @@ fn wide_value(value: u32) -> u64 {
     value as u64
 }
 
-// Whether it is the one number that must be answered.
-pub fn is_answer(number: u64, all: &[u64], marks: &[usize; MARKS]) -> bool {
+// What a call answers: its number with the value and the place, or what it gives where it is never refused.
+pub struct Told {
+    pub number: u64,
+    pub value: u64,
+    pub place: u64,
+}
+
+// Whether it is what must be answered, one word or three.
+pub fn is_answer(told: Told, all: &[u64], marks: &[usize; MARKS]) -> bool {
     let words = list(all, marks, line::ANSWER);
-    if words.len() != 1 {
+    if (words.len() != 1) & (words.len() != 3) {
         return false;
     }
-    words[0] == number
+    (word(all, marks, line::ANSWER, 0) == told.number)
+        & (word(all, marks, line::ANSWER, 1) == told.value)
+        & (word(all, marks, line::ANSWER, 2) == told.place)
 }

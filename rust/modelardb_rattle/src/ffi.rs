@@ -1,6 +1,7 @@
-//! The C face of the proved library as functions on slices: each answers 0 or the number of a
-//! refusal. The only `unsafe` of this crate stands here: each function lends slices that are valid
-//! for the whole call, and no other memory. The types of this crate are made of these calls.
+//! The C face of the proved library as functions on slices. Each that can be refused answers a
+//! [`Fault`], of number 0 where it was accepted; the words below say what becomes of its outputs then.
+//! The only `unsafe` of this crate stands here: each function lends slices that are valid for the whole
+//! call, and no other memory. The types of this crate are made of these calls.
 
 mod choice;
 mod fit;
@@ -23,7 +24,11 @@ pub use segments::{
     encode_values_for_swing, segment_grid, segment_sum_by_average, segment_sum_over, segment_write,
 };
 
+use crate::Fault;
+
 mod c {
+    use crate::Fault;
+
     unsafe extern "C" {
         /// The bits of the f64 of an f32's value.
         pub safe fn modelardb_widen(bits: u32) -> u64;
@@ -36,14 +41,14 @@ mod c {
             approximate: u32,
             out: *mut u32,
             out_len: usize,
-        ) -> u32;
+        ) -> Fault;
         pub unsafe fn modelardb_maximum_allowed_deviation(
             kind: u32,
             bound: u32,
             value: u64,
             out: *mut u64,
             out_len: usize,
-        ) -> u32;
+        ) -> Fault;
         pub unsafe fn modelardb_macaque_v_new(
             kind: u32,
             bound: u32,
@@ -51,7 +56,7 @@ mod c {
             opening: u32,
             state: *mut u64,
             state_len: usize,
-        ) -> u32;
+        ) -> Fault;
         pub unsafe fn modelardb_macaque_v_compress_values(
             state: *mut u64,
             state_len: usize,
@@ -59,7 +64,7 @@ mod c {
             values_len: usize,
             buffer: *mut u8,
             buffer_len: usize,
-        ) -> u32;
+        ) -> Fault;
         pub unsafe fn modelardb_macaque_v_reopen(
             buffer: *mut u8,
             buffer_len: usize,
@@ -72,7 +77,7 @@ mod c {
             bound: u32,
             state: *mut u64,
             state_len: usize,
-        ) -> u32;
+        ) -> Fault;
         pub unsafe fn modelardb_macaque_v_grid(
             bytes: *const u8,
             bytes_len: usize,
@@ -81,7 +86,7 @@ mod c {
             opening: u32,
             out: *mut u32,
             out_len: usize,
-        ) -> u32;
+        ) -> Fault;
         pub unsafe fn modelardb_macaque_v_sum(
             bytes: *const u8,
             bytes_len: usize,
@@ -90,7 +95,7 @@ mod c {
             opening: u32,
             out: *mut u32,
             out_len: usize,
-        ) -> u32;
+        ) -> Fault;
     }
 }
 
@@ -100,13 +105,13 @@ pub use c::{modelardb_narrow as narrow, modelardb_widen as widen};
 /// its first value in full or 1 on a given one, and that one's bits.
 pub type Words = (u32, u32);
 
-/// 0 or the refusal's number; `out[0]` becomes 0 or 1.
+/// `out[0]` becomes 0 or 1.
 pub fn is_value_within_error_bound(
     (kind, bound): Words,
     real: u32,
     approximate: u32,
     out: &mut [u32],
-) -> u32 {
+) -> Fault {
     let (start, length) = (out.as_mut_ptr(), out.len());
     // SAFETY: start and length are those of a slice lent for the call.
     unsafe {
@@ -114,8 +119,8 @@ pub fn is_value_within_error_bound(
     }
 }
 
-/// 0 or the refusal's number; `out[0]` becomes the bits of the deviation.
-pub fn maximum_allowed_deviation((kind, bound): Words, value: u64, out: &mut [u64]) -> u32 {
+/// `out[0]` becomes the bits of the deviation.
+pub fn maximum_allowed_deviation((kind, bound): Words, value: u64, out: &mut [u64]) -> Fault {
     let (start, length) = (out.as_mut_ptr(), out.len());
     // SAFETY: start and length are those of a slice lent for the call.
     unsafe { c::modelardb_maximum_allowed_deviation(kind, bound, value, start, length) }
@@ -126,16 +131,16 @@ pub fn maximum_allowed_deviation((kind, bound): Words, value: u64, out: &mut [u6
 /// full; the place in bits; the length.
 pub const STATE_WORDS: usize = 10;
 
-/// 0 or the refusal's number; the first ten words of `state` become a fresh writer's.
-pub fn macaque_v_new((kind, bound): Words, (mode, opening): Words, state: &mut [u64]) -> u32 {
+/// The first ten words of `state` become a fresh writer's.
+pub fn macaque_v_new((kind, bound): Words, (mode, opening): Words, state: &mut [u64]) -> Fault {
     let (start, length) = (state.as_mut_ptr(), state.len());
     // SAFETY: start and length are those of a slice lent for the call.
     unsafe { c::modelardb_macaque_v_new(kind, bound, mode, opening, start, length) }
 }
 
-/// 0 or the refusal's number; the values are written behind the state's place, and `state` becomes
+/// The values are written behind the state's place, and `state` becomes
 /// the one after them.
-pub fn macaque_v_compress_values(state: &mut [u64], values: &[u32], buffer: &mut [u8]) -> u32 {
+pub fn macaque_v_compress_values(state: &mut [u64], values: &[u32], buffer: &mut [u8]) -> Fault {
     let (row, row_length) = (state.as_mut_ptr(), state.len());
     let (start, length) = (buffer.as_mut_ptr(), buffer.len());
     // SAFETY: each start and length are those of a slice lent for the call, and no two overlap.
@@ -151,7 +156,7 @@ pub fn macaque_v_compress_values(state: &mut [u64], values: &[u32], buffer: &mut
     }
 }
 
-/// 0 or the refusal's number; `state` becomes that of the writer behind the first `k` of the `count`
+/// `state` becomes that of the writer behind the first `k` of the `count`
 /// values in the first `used` bytes, and what follows them in their last byte becomes zeros.
 pub fn macaque_v_reopen(
     buffer: &mut [u8],
@@ -160,7 +165,7 @@ pub fn macaque_v_reopen(
     (mode, opening): Words,
     (kind, bound): Words,
     state: &mut [u64],
-) -> u32 {
+) -> Fault {
     let (row, row_length) = (state.as_mut_ptr(), state.len());
     let (start, length) = (buffer.as_mut_ptr(), buffer.len());
     // SAFETY: each start and length are those of a slice lent for the call, and they do not overlap.
@@ -171,16 +176,21 @@ pub fn macaque_v_reopen(
     }
 }
 
-/// 0 or the refusal's number; the first `count` places of `out` become the stream's values.
-pub fn macaque_v_grid(bytes: &[u8], count: usize, (mode, opening): Words, out: &mut [u32]) -> u32 {
+/// The first `count` places of `out` become the stream's values.
+pub fn macaque_v_grid(
+    bytes: &[u8],
+    count: usize,
+    (mode, opening): Words,
+    out: &mut [u32],
+) -> Fault {
     let (places, room) = (out.as_mut_ptr(), out.len());
     let (start, length) = (bytes.as_ptr(), bytes.len());
     // SAFETY: each start and length are those of a slice lent for the call, and they do not overlap.
     unsafe { c::modelardb_macaque_v_grid(start, length, count, mode, opening, places, room) }
 }
 
-/// 0 or the refusal's number; `out[0]` becomes the bits of the sum of the stream's values.
-pub fn macaque_v_sum(bytes: &[u8], count: usize, (mode, opening): Words, out: &mut [u32]) -> u32 {
+/// `out[0]` becomes the bits of the sum of the stream's values.
+pub fn macaque_v_sum(bytes: &[u8], count: usize, (mode, opening): Words, out: &mut [u32]) -> Fault {
     let (places, room) = (out.as_mut_ptr(), out.len());
     let (start, length) = (bytes.as_ptr(), bytes.len());
     // SAFETY: each start and length are those of a slice lent for the call, and they do not overlap.

@@ -1,5 +1,6 @@
 //! ModelarDB's compression core, proved in Rattle, behind safe Rust: the Rust's own names over the
-//! proved static library. A call answers its values, or a [`Refusal`] that says what was wrong.
+//! proved static library. A call answers its values, or a [`Refusal`] that says what was wrong and, of a
+//! stream, where.
 //!
 //! Values are f32. Where a NaN's payload matters, a call on the value's bits stands beside the call
 //! on floats.
@@ -42,7 +43,7 @@ pub use models::{
 };
 pub use numbers::{narrow, narrow_bits, widen, widen_bits};
 pub use pmc_mean::PMCMean;
-pub use refusal::Refusal;
+pub use refusal::{Fault, Refusal};
 pub use segments::{Model, Segment};
 pub use swing::{Line, Swing};
 pub use types::{ModelBuilder, SelectedModel, choose_model, choose_model_bits};

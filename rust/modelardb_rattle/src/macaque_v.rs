@@ -123,8 +123,8 @@ impl MacaqueV {
     /// ```
     pub fn new(error_bound: ErrorBound, opening: Opening) -> Result<Self, Refusal> {
         let mut row = [0; STATE_WORDS];
-        let number = ffi::macaque_v_new(error_bound.words(), opening.words(), &mut row);
-        Refusal::judge(number).map(|()| Self { row })
+        let fault = ffi::macaque_v_new(error_bound.words(), opening.words(), &mut row);
+        Refusal::judge(fault).map(|()| Self { row })
     }
 
     /// The writer behind the first `k` of the `count` values in the buffer's first `used` bytes. The
@@ -135,8 +135,25 @@ impl MacaqueV {
     ///
     /// [`Refusal::BoundNotAllowed`]; [`Refusal::OverLimit`] for a count above 65,536;
     /// [`Refusal::CountsDisagree`] for a `k` above the count, or a `used` above the buffer's length; then
-    /// what is wrong with the stream: [`Refusal::EndsEarly`], [`Refusal::NoWindow`],
-    /// [`Refusal::WindowNotAllowed`] or [`Refusal::Leftover`].
+    /// what is wrong with the stream and where, whatever `k` is: [`Refusal::EndsEarly`],
+    /// [`Refusal::NoWindow`], [`Refusal::WindowNotAllowed`] or [`Refusal::Leftover`].
+    ///
+    /// ```
+    /// use modelardb_rattle::{ErrorBound, MacaqueV, Opening, Refusal};
+    ///
+    /// // Of 1.0, 1.0, 2.0 six bytes arrived, and they are as they were sent.
+    /// let (first, lossless) = (Opening::First, ErrorBound::Lossless);
+    /// let mut buffer = [0x3F, 0x80, 0x00, 0x00, 0xB0, 0x91, 0x00, 0x00];
+    /// let refused = MacaqueV::reopen(&mut buffer, 6, 3, 3, first, lossless);
+    /// assert_eq!(refused, Err(Refusal::EndsEarly { value: 2, place: 34 }));
+    /// // So two values are there, in 34 bits. Without what follows these the upload goes on.
+    /// buffer[4] &= 0b1100_0000;
+    /// let mut writer = MacaqueV::reopen(&mut buffer, 5, 2, 2, first, lossless)?;
+    /// writer.compress_values(&[2.0], &mut buffer)?;
+    /// let case_a = [0x3F, 0x80, 0x00, 0x00, 0xB0, 0x91, 0xFE];
+    /// assert_eq!(buffer[..writer.bytes_used()], case_a);
+    /// # Ok::<(), Refusal>(())
+    /// ```
     pub fn reopen(
         buffer: &mut [u8],
         used: usize,
@@ -147,8 +164,8 @@ impl MacaqueV {
     ) -> Result<Self, Refusal> {
         let (opening, bound) = (opening.words(), error_bound.words());
         let mut row = [0; STATE_WORDS];
-        let number = ffi::macaque_v_reopen(buffer, used, (count, k), opening, bound, &mut row);
-        Refusal::judge(number).map(|()| Self { row })
+        let fault = ffi::macaque_v_reopen(buffer, used, (count, k), opening, bound, &mut row);
+        Refusal::judge(fault).map(|()| Self { row })
     }
 
     /// Writes the values behind those that stand in the buffer. No values change nothing. A refusal

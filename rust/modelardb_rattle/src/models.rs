@@ -85,8 +85,8 @@ pub fn is_value_within_error_bound_bits(
     approximate_value: u32,
 ) -> Result<bool, Refusal> {
     let (words, mut out) = (error_bound.words(), [0]);
-    let number = ffi::is_value_within_error_bound(words, real_value, approximate_value, &mut out);
-    Refusal::judge(number)?;
+    let fault = ffi::is_value_within_error_bound(words, real_value, approximate_value, &mut out);
+    Refusal::judge(fault)?;
     Ok(out[0] != 0)
 }
 
@@ -115,8 +115,8 @@ pub fn maximum_allowed_deviation(error_bound: ErrorBound, value: f64) -> Result<
 /// [`Refusal::BoundNotAllowed`].
 pub fn maximum_allowed_deviation_bits(error_bound: ErrorBound, value: u64) -> Result<u64, Refusal> {
     let mut out = [0];
-    let number = ffi::maximum_allowed_deviation(error_bound.words(), value, &mut out);
-    Refusal::judge(number)?;
+    let fault = ffi::maximum_allowed_deviation(error_bound.words(), value, &mut out);
+    Refusal::judge(fault)?;
     Ok(out[0])
 }
 
@@ -127,15 +127,15 @@ mod tests {
     #[test]
     fn words_that_stand_for_no_bound_are_refused() {
         let mut out = [7];
-        let number = ffi::is_value_within_error_bound((3, 0), 0, 0, &mut out);
-        assert_eq!((number, out), (1, [7]));
+        let fault = ffi::is_value_within_error_bound((3, 0), 0, 0, &mut out);
+        assert_eq!((fault, out), (1.into(), [7]));
     }
 
     #[test]
     fn a_row_too_short_is_refused_after_the_bound() {
-        assert_eq!(ffi::is_value_within_error_bound((0, 0), 0, 0, &mut []), 4);
-        assert_eq!(ffi::is_value_within_error_bound((1, 0), 0, 0, &mut []), 1);
-        assert_eq!(ffi::maximum_allowed_deviation((0, 0), 0, &mut []), 4);
-        assert_eq!(ffi::maximum_allowed_deviation((3, 0), 0, &mut []), 1);
+        let within = |bound| ffi::is_value_within_error_bound(bound, 0, 0, &mut []);
+        let deviation = |bound| ffi::maximum_allowed_deviation(bound, 0, &mut []);
+        assert_eq!((within((0, 0)), within((1, 0))), (4.into(), 1.into()));
+        assert_eq!((deviation((0, 0)), deviation((3, 0))), (4.into(), 1.into()));
     }
 }

@@ -54,8 +54,8 @@ pub fn encode_values_for_pmc_mean_bits(
 ) -> Result<usize, Refusal> {
     let residuals = (residuals_min_value, residuals_max_value);
     let mut row = [0];
-    let number = ffi::encode_values_for_pmc_mean(value, residuals, out, &mut row);
-    Refusal::judge(number)?;
+    let fault = ffi::encode_values_for_pmc_mean(value, residuals, out, &mut row);
+    Refusal::judge(fault)?;
     Ok(row[0] as usize)
 }
 
@@ -103,8 +103,8 @@ pub fn encode_values_for_swing_bits(
     let ends = (first_value, last_value);
     let residuals = (residuals_min_value, residuals_max_value);
     let mut row = [0];
-    let number = ffi::encode_values_for_swing(ends, residuals, out, &mut row);
-    Refusal::judge(number)?;
+    let fault = ffi::encode_values_for_swing(ends, residuals, out, &mut row);
+    Refusal::judge(fault)?;
     Ok(row[0] as usize)
 }
 
@@ -143,8 +143,8 @@ pub fn decode_values_for_pmc_mean_bits(
     values: &[u8],
 ) -> Result<u32, Refusal> {
     let (segment, mut out) = ((min_value, max_value), [0]);
-    let number = ffi::decode_values_for_pmc_mean(segment, values, &mut out);
-    Refusal::judge(number)?;
+    let fault = ffi::decode_values_for_pmc_mean(segment, values, &mut out);
+    Refusal::judge(fault)?;
     Ok(out[0])
 }
 

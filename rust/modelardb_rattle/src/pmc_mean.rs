@@ -95,8 +95,8 @@ impl PMCMean {
     /// [`Refusal::OverLimit`] for a size of 0 or above 65,535; [`Refusal::NoModel`] while there is no value.
     pub fn bytes_per_value(&self, metadata_size: usize) -> Result<f32, Refusal> {
         let mut out = [0];
-        let number = ffi::pmc_mean_bytes_per_value(&self.row, metadata_size, &mut out);
-        Refusal::judge(number)?;
+        let fault = ffi::pmc_mean_bytes_per_value(&self.row, metadata_size, &mut out);
+        Refusal::judge(fault)?;
         Ok(f32::from_bits(out[0]))
     }
 

@@ -1,4 +1,4 @@
-//! Why a call is refused.
+//! Why a call is refused, and where a stream broke.
 
 use std::error::Error;
 use std::fmt::{Display, Formatter, Result};
@@ -6,6 +6,24 @@ use std::fmt::{Display, Formatter, Result};
 /// The twelve causes, in the order of their numbers and under the names of the proved library. Where
 /// several apply, the first is answered in the order 1, 2, 3, 12, 4, 10, 9, 11, and then 5 to 8 by the
 /// first place in the stream. A refused call has changed nothing that it was lent.
+///
+/// The four of a stream, 5 to 8, say where reading stood when it could not go on: `value` is the number
+/// of the value that was being read, counted from 0, and `place` the bit at which its code begins,
+/// counted from the stream's first. In a segment the stream is that of the residuals, so value 0 is the
+/// first residual. What was altered can stand anywhere before that: a changed bit may read as other
+/// values for a while. So values in front of `value` are no more to be trusted than those behind it,
+/// unless it is known that no bit was changed, as where a stream was only cut short.
+///
+/// ```
+/// use modelardb_rattle::{Opening, Refusal, macaque_v};
+///
+/// // 1.0, 1.0, 2.0, and the last byte did not arrive: the third value, whose code begins at bit 34.
+/// let cut = [0x3F, 0x80, 0x00, 0x00, 0xB0, 0x91];
+/// let refusal = macaque_v::sum(&cut, 3, Opening::First).unwrap_err();
+/// assert_eq!(refusal, Refusal::EndsEarly { value: 2, place: 34 });
+/// let told = "refused 5 at value 2, bit 34: the stream ends before its last value";
+/// assert_eq!(refusal.to_string(), told);
+/// ```
 ///
 /// Further requests may add causes.
 #[derive(Clone, Copy, Debug, PartialEq, Eq, Hash)]
@@ -26,18 +44,42 @@ pub enum Refusal {
     /// are always enough.
     OutputTooShort,
     /// 5: the stream ends before its last value. Bytes are missing, the count is too high, or the
-    /// bytes are not those that were written: look at both, and fetch them again.
-    EndsEarly,
+    /// bytes are not those that were written: look at both, and fetch them again. Where the bytes end
+    /// too early and are right so far, the first `value` values are there, in the first `place` bits: a
+    /// [`Reader`](crate::Reader) gives them, and [`MacaqueV::reopen`](crate::MacaqueV::reopen) shows how
+    /// to write on behind them.
+    EndsEarly {
+        /// The value whose code is not all there.
+        value: usize,
+        /// The bit at which its code begins, or would.
+        place: usize,
+    },
     /// 6: the stream keeps a window before any was set, which none that is written does: the bytes or
     /// the opening are not those of its writer, or the count is too high. Look at all three, and fetch
     /// them again.
-    NoWindow,
+    NoWindow {
+        /// The value whose code keeps the window.
+        value: usize,
+        /// The bit at which its code begins.
+        place: usize,
+    },
     /// 7: the stream sets a window of no bits, or of more than 32 with its leading zeros, which none
     /// that is written does: the bytes or the opening are not those of its writer. Fetch them again.
-    WindowNotAllowed,
+    WindowNotAllowed {
+        /// The value whose code sets the window.
+        value: usize,
+        /// The bit at which its code begins.
+        place: usize,
+    },
     /// 8: the stream goes on behind its last value, with a set padding bit or a further byte. The count
-    /// is too low, bytes of another stream follow, or they are not those that were written.
-    Leftover,
+    /// is too low, bytes of another stream follow, or they are not those that were written. Where bytes
+    /// follow that are none of its own, as of a whole buffer, hand in those that are in use.
+    Leftover {
+        /// The count: how many values were read.
+        value: usize,
+        /// The first set padding bit or, where none is set, the first bit of the first further byte.
+        place: usize,
+    },
     /// 9: the parameter bytes' length or flag, or a residual count byte of 0, is not allowed: the bytes
     /// are not those of a segment of this model. Fetch them again.
     FormNotAllowed,
@@ -54,90 +96,152 @@ pub enum Refusal {
     CountsDisagree,
 }
 
-/// Each cause with what was wrong; its number is its place, counted from 1.
-const CAUSES: [(Refusal, &str); 12] = [
-    (
-        Refusal::BoundNotAllowed,
-        "the error bound is not allowed: an absolute one must be finite and above 0, a relative one above 0 and at most 100",
-    ),
-    (
-        Refusal::StateNotAllowed,
-        "the state is not allowed: its fields do not go together, or not with the buffer that it was lent",
-    ),
-    (
-        Refusal::OverLimit,
-        "a number is above its limit, 65,536 values, 255 residuals or model 1, or the metadata size M is above 65,535 or below 1",
-    ),
-    (
-        Refusal::OutputTooShort,
-        "the lent output is too short for the answer",
-    ),
-    (Refusal::EndsEarly, "the stream ends before its last value"),
-    (
-        Refusal::NoWindow,
-        "the stream keeps a window before any was set",
-    ),
-    (
-        Refusal::WindowNotAllowed,
-        "the stream sets a window of no bits, or of more than 32 with its leading zeros",
-    ),
-    (
-        Refusal::Leftover,
-        "the stream goes on after its last value: a set padding bit or a further byte",
-    ),
-    (
-        Refusal::FormNotAllowed,
-        "the parameter bytes' length or flag, or the residual count byte, is not allowed",
-    ),
-    (
-        Refusal::TimesNotAllowed,
-        "the timestamps are not strictly increasing, one is outside -2^52 to 2^52, a line does not end behind its start, or a Swing segment owns one timestamp only",
-    ),
-    (
-        Refusal::NoModel,
-        "there is no model: the state is of length 0, or the line has ends that differ, at least one not finite",
-    ),
-    (
-        Refusal::CountsDisagree,
-        "the counts do not match: k above the count, more used than the buffer holds, lists of unequal lengths, or no value left for the model",
-    ),
+/// A refusal in three numbers, as it crosses the C face. Number 0 is that of an accepted call.
+#[derive(Clone, Copy, Debug, Default, PartialEq, Eq, Hash)]
+#[repr(C)]
+pub struct Fault {
+    /// The refusal's number, 1 to 12, or 0.
+    pub number: u32,
+    /// Of 5 to 8 the value that was being read, counted from 0, of 8 the count; else 0.
+    pub value: u32,
+    /// Of 5 to 8 the bit at which its code begins, of 8 that of the first leftover; else 0.
+    pub place: usize,
+}
+
+impl Fault {
+    /// What an accepted call answers.
+    pub const ACCEPTED: Fault = Fault {
+        number: 0,
+        value: 0,
+        place: 0,
+    };
+}
+
+impl From<u32> for Fault {
+    /// A number with neither value nor place.
+    fn from(number: u32) -> Fault {
+        Fault {
+            number,
+            ..Fault::ACCEPTED
+        }
+    }
+}
+
+/// What was wrong, in the order of the numbers.
+const CAUSES: [&str; 12] = [
+    "the error bound is not allowed: an absolute one must be finite and above 0, a relative one above 0 and at most 100",
+    "the state is not allowed: its fields do not go together, or not with the buffer that it was lent",
+    "a number is above its limit, 65,536 values, 255 residuals or model 1, or the metadata size M is above 65,535 or below 1",
+    "the lent output is too short for the answer",
+    "the stream ends before its last value",
+    "the stream keeps a window before any was set",
+    "the stream sets a window of no bits, or of more than 32 with its leading zeros",
+    "the stream goes on after its last value: a set padding bit or a further byte",
+    "the parameter bytes' length or flag, or the residual count byte, is not allowed",
+    "the timestamps are not strictly increasing, one is outside -2^52 to 2^52, a line does not end behind its start, or a Swing segment owns one timestamp only",
+    "there is no model: the state is of length 0, or the line has ends that differ, at least one not finite",
+    "the counts do not match: k above the count, more used than the buffer holds, lists of unequal lengths, or no value left for the model",
 ];
 
 impl Refusal {
     /// The refusal's number, 1 to 12.
     ///
     /// ```
-    /// assert_eq!(modelardb_rattle::Refusal::EndsEarly.number(), 5);
+    /// assert_eq!(modelardb_rattle::Refusal::NoModel.number(), 11);
     /// ```
     pub fn number(self) -> u32 {
-        self as u32 + 1
+        match self {
+            Refusal::BoundNotAllowed => 1,
+            Refusal::StateNotAllowed => 2,
+            Refusal::OverLimit => 3,
+            Refusal::OutputTooShort => 4,
+            Refusal::EndsEarly { .. } => 5,
+            Refusal::NoWindow { .. } => 6,
+            Refusal::WindowNotAllowed { .. } => 7,
+            Refusal::Leftover { .. } => 8,
+            Refusal::FormNotAllowed => 9,
+            Refusal::TimesNotAllowed => 10,
+            Refusal::NoModel => 11,
+            Refusal::CountsDisagree => 12,
+        }
     }
 
-    /// The refusal of a number, if it is one.
+    /// The refusal's number, and with 5 to 8 the value and the place; with the others both are 0.
     ///
     /// ```
-    /// use modelardb_rattle::Refusal;
-    /// assert_eq!(Refusal::from_number(8), Some(Refusal::Leftover));
-    /// assert_eq!(Refusal::from_number(0), None);
+    /// use modelardb_rattle::{Fault, Refusal};
+    ///
+    /// let leftover = Refusal::Leftover { value: 3, place: 56 };
+    /// assert_eq!(leftover.fault(), Fault { number: 8, value: 3, place: 56 });
+    /// assert_eq!(Refusal::NoModel.fault(), Fault { number: 11, value: 0, place: 0 });
     /// ```
-    pub fn from_number(number: u32) -> Option<Refusal> {
-        let index = usize::try_from(number.checked_sub(1)?).ok()?;
-        CAUSES.get(index).map(|&(refusal, _)| refusal)
+    pub fn fault(self) -> Fault {
+        let (value, place) = self.at().unwrap_or_default();
+        Fault {
+            number: self.number(),
+            // A stream has 65,536 values at most.
+            value: u32::try_from(value).unwrap_or(u32::MAX),
+            place,
+        }
     }
 
-    /// What a call of the library answered: 0, or the number of a refusal.
-    pub(crate) fn judge(number: u32) -> std::result::Result<(), Refusal> {
-        match number {
+    /// The refusal that three numbers stand for, if the first is one's. Value and place are looked at
+    /// with 5 to 8 alone.
+    ///
+    /// ```
+    /// use modelardb_rattle::{Fault, Refusal};
+    ///
+    /// let told = Fault { number: 5, value: 2, place: 34 };
+    /// assert_eq!(Refusal::from_fault(told), Some(Refusal::EndsEarly { value: 2, place: 34 }));
+    /// assert_eq!(Refusal::from_fault(Fault::ACCEPTED), None);
+    /// ```
+    pub fn from_fault(fault: Fault) -> Option<Refusal> {
+        let (value, place) = (fault.value as usize, fault.place);
+        Some(match fault.number {
+            1 => Refusal::BoundNotAllowed,
+            2 => Refusal::StateNotAllowed,
+            3 => Refusal::OverLimit,
+            4 => Refusal::OutputTooShort,
+            5 => Refusal::EndsEarly { value, place },
+            6 => Refusal::NoWindow { value, place },
+            7 => Refusal::WindowNotAllowed { value, place },
+            8 => Refusal::Leftover { value, place },
+            9 => Refusal::FormNotAllowed,
+            10 => Refusal::TimesNotAllowed,
+            11 => Refusal::NoModel,
+            12 => Refusal::CountsDisagree,
+            _ => return None,
+        })
+    }
+
+    /// The value and the place of the four that tell them.
+    fn at(self) -> Option<(usize, usize)> {
+        match self {
+            Refusal::EndsEarly { value, place }
+            | Refusal::NoWindow { value, place }
+            | Refusal::WindowNotAllowed { value, place }
+            | Refusal::Leftover { value, place } => Some((value, place)),
+            _ => None,
+        }
+    }
+
+    /// What a call of the library answered.
+    pub(crate) fn judge(fault: Fault) -> std::result::Result<(), Refusal> {
+        match fault.number {
             0 => Ok(()),
-            _ => Err(Refusal::from_number(number).expect("the number of a refusal")),
+            _ => Err(Refusal::from_fault(fault).expect("the number of a refusal")),
         }
     }
 }
 
 impl Display for Refusal {
     fn fmt(&self, f: &mut Formatter) -> Result {
-        let (_, text) = CAUSES[*self as usize];
-        write!(f, "refused {}: {text}", self.number())
+        let number = self.number();
+        write!(f, "refused {number}")?;
+        if let Some((value, place)) = self.at() {
+            write!(f, " at value {value}, bit {place}")?;
+        }
+        write!(f, ": {}", CAUSES[number as usize - 1])
     }
 }
 
@@ -147,12 +251,51 @@ impl Error for Refusal {}
 mod tests {
     use super::*;
 
+    /// One of each number; value and place are left out where a refusal has none.
     #[test]
-    fn each_cause_stands_at_its_number() {
-        for (place, (refusal, _)) in CAUSES.iter().enumerate() {
-            assert_eq!(refusal.number() as usize, place + 1);
-            assert_eq!(Refusal::from_number(refusal.number()), Some(*refusal));
+    fn each_refusal_stands_for_its_three_numbers() {
+        for number in 1..=12 {
+            let told = Fault {
+                number,
+                value: 65_536,
+                place: 2_949_120,
+            };
+            let refusal = Refusal::from_fault(told).expect("one of twelve");
+            assert_eq!(refusal.number(), number);
+            let carried = match number {
+                5..=8 => told,
+                _ => number.into(),
+            };
+            assert_eq!(refusal.fault(), carried);
+            assert_eq!(Refusal::from_fault(carried), Some(refusal));
         }
-        assert_eq!(Refusal::from_number(13), None);
+        assert_eq!(Refusal::from_fault(13.into()), None);
+    }
+
+    #[test]
+    fn a_refusal_is_told_with_its_value_and_place() {
+        let (value, place) = (2, 40);
+        for (refusal, begin) in [
+            (
+                Refusal::EndsEarly { value, place },
+                "refused 5 at value 2, bit 40: the stream ends",
+            ),
+            (
+                Refusal::NoWindow { value, place },
+                "refused 6 at value 2, bit 40: the stream keeps",
+            ),
+            (
+                Refusal::WindowNotAllowed { value, place },
+                "refused 7 at value 2, bit 40: the stream sets",
+            ),
+            (
+                Refusal::Leftover { value, place },
+                "refused 8 at value 2, bit 40: the stream goes on",
+            ),
+            (Refusal::OutputTooShort, "refused 4: the lent output"),
+            (Refusal::CountsDisagree, "refused 12: the counts"),
+        ] {
+            assert!(refusal.to_string().starts_with(begin), "{refusal}");
+        }
     }
 }

@@ -158,9 +158,8 @@ impl Segment {
         let (model, bound) = (model.into().words(), error_bound.words());
         let (mut values, mut stream) = ([0; MOST_VALUES_BYTES], [0; MOST_RESIDUALS_BYTES]);
         let mut row = [0; SEGMENT_WORDS];
-        let number =
-            ffi::segment_write(model, bound, residuals, &mut values, &mut stream, &mut row);
-        Refusal::judge(number)?;
+        let fault = ffi::segment_write(model, bound, residuals, &mut values, &mut stream, &mut row);
+        Refusal::judge(fault)?;
         Ok(Self {
             model_type_id: model.0,
             min_value_bits: row[0] as u32,
@@ -209,8 +208,9 @@ impl Segment {
     /// [`Refusal::CountsDisagree`] where the residuals leave no timestamp to the model;
     /// [`Refusal::OutputTooShort`]; [`Refusal::TimesNotAllowed`], also where a line has one timestamp only;
     /// [`Refusal::FormNotAllowed`]; [`Refusal::NoModel`] for a line with ends that differ while at least
-    /// one is not finite; then what is wrong with the residuals: [`Refusal::EndsEarly`],
-    /// [`Refusal::NoWindow`], [`Refusal::WindowNotAllowed`] or [`Refusal::Leftover`].
+    /// one is not finite; then what is wrong with the residuals and where, counted from the first of
+    /// them: [`Refusal::EndsEarly`], [`Refusal::NoWindow`], [`Refusal::WindowNotAllowed`] or
+    /// [`Refusal::Leftover`].
     ///
     /// ```
     /// use modelardb_rattle::{ErrorBound, Model, Refusal, Segment};
@@ -223,6 +223,12 @@ impl Segment {
     /// // One timestamp is left for the line, and that is no line.
     /// assert_eq!(segment.grid(&[0, 5], &mut out), Err(Refusal::TimesNotAllowed));
     /// assert_eq!(segment.grid(&[0], &mut out), Err(Refusal::CountsDisagree));
+    ///
+    /// // The last byte of the residual's code is lost, and not the one that counts it.
+    /// let mut cut = segment.clone();
+    /// cut.residuals.remove(2);
+    /// let refused = cut.grid(&[0, 5, 20, 25], &mut out);
+    /// assert_eq!(refused, Err(Refusal::EndsEarly { value: 0, place: 0 }));
     /// # Ok::<(), Refusal>(())
     /// ```
     pub fn grid(&self, timestamps: &[i64], out: &mut [f32]) -> Result<(), Refusal> {
@@ -265,8 +271,8 @@ impl Segment {
     /// Those of [`Segment::sum_by_average`].
     pub fn sum_by_average_bits(&self, timestamps: &[i64]) -> Result<u32, Refusal> {
         let mut out = [0];
-        let number = ffi::segment_sum_by_average(self.into(), timestamps, &mut out);
-        Refusal::judge(number)?;
+        let fault = ffi::segment_sum_by_average(self.into(), timestamps, &mut out);
+        Refusal::judge(fault)?;
         Ok(out[0])
     }
 
@@ -286,8 +292,8 @@ impl Segment {
     /// Those of [`Segment::sum_by_average`].
     pub fn sum_over_bits(&self, timestamps: &[i64]) -> Result<u32, Refusal> {
         let mut out = [0];
-        let number = ffi::segment_sum_over(self.into(), timestamps, &mut out);
-        Refusal::judge(number)?;
+        let fault = ffi::segment_sum_over(self.into(), timestamps, &mut out);
+        Refusal::judge(fault)?;
         Ok(out[0])
     }
 }

@@ -87,8 +87,8 @@ impl Swing {
     ///
     /// Those of [`Swing::fit_data_point`].
     pub fn fit_data_point_bits(&mut self, timestamp: i64, value: u32) -> Result<bool, Refusal> {
-        let number = ffi::swing_fit_data_point(&mut self.row, timestamp, value);
-        Refusal::judge(number)?;
+        let fault = ffi::swing_fit_data_point(&mut self.row, timestamp, value);
+        Refusal::judge(fault)?;
         Ok(std::mem::take(&mut self.row[FITS]) == 1)
     }
 
@@ -100,8 +100,8 @@ impl Swing {
     /// [`Refusal::OverLimit`] for a size of 0 or above 65,535; [`Refusal::NoModel`] while there is no point.
     pub fn bytes_per_value(&self, metadata_size: usize) -> Result<f32, Refusal> {
         let mut out = [0];
-        let number = ffi::swing_bytes_per_value(&self.row, metadata_size, &mut out);
-        Refusal::judge(number)?;
+        let fault = ffi::swing_bytes_per_value(&self.row, metadata_size, &mut out);
+        Refusal::judge(fault)?;
         Ok(f32::from_bits(out[0]))
     }
 

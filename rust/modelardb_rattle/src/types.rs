@@ -83,8 +83,8 @@ impl ModelBuilder {
         timestamp: i64,
         value: u32,
     ) -> Result<bool, Refusal> {
-        let number = ffi::model_builder_try_to_update_models(&mut self.row, timestamp, value);
-        Refusal::judge(number)?;
+        let fault = ffi::model_builder_try_to_update_models(&mut self.row, timestamp, value);
+        Refusal::judge(fault)?;
         Ok(self.pmc_mean_could_fit_all() || self.swing_could_fit_all())
     }
 
@@ -97,8 +97,8 @@ impl ModelBuilder {
     /// [`Refusal::OverLimit`] for a size of 0 or above 65,535; [`Refusal::NoModel`] while there is no point.
     pub fn finish(&self, metadata_size: usize) -> Result<SelectedModel, Refusal> {
         let mut row = [0; SELECTED_MODEL_WORDS];
-        let number = ffi::model_builder_finish(&self.row, metadata_size, &mut row);
-        Refusal::judge(number)?;
+        let fault = ffi::model_builder_finish(&self.row, metadata_size, &mut row);
+        Refusal::judge(fault)?;
         Ok(SelectedModel { row })
     }
 
@@ -256,7 +256,7 @@ pub fn choose_model_bits(
     metadata_size: usize,
 ) -> Result<SelectedModel, Refusal> {
     let (bound, mut row) = (error_bound.words(), [0; SELECTED_MODEL_WORDS]);
-    let number = ffi::choose_model(timestamps, values, bound, metadata_size, &mut row);
-    Refusal::judge(number)?;
+    let fault = ffi::choose_model(timestamps, values, bound, metadata_size, &mut row);
+    Refusal::judge(fault)?;
     Ok(SelectedModel { row })
 }

@@ -1,6 +1,6 @@
 //! The examples on the shipped readings: the shipped stream is what the library writes, an upload that is cut at
-//! any value goes on as one run, a flipped bit is often read as other values, a bad line is named, and the README
-//! shows what they print.
+//! any value goes on as one run, a flipped bit is often read as other values, a cut is told at the first value that
+//! is missing, a bad line is named, and the README shows what they print.
 
 #[path = "../examples/flipped/damage.rs"]
 mod damage;
@@ -54,9 +54,9 @@ fn a_cut_at_any_value_leaves_no_trace() {
 #[test]
 fn flipped_bits_are_often_read_as_other_values() {
     let values = shipped("day.txt").values;
-    for (bound, size, other, refused) in [
-        ("lossless", 232, 1367, [83, 5, 383, 18]),
-        ("0.25", 120, 452, [166, 72, 268, 2]),
+    for (bound, size, other, refused, told) in [
+        ("lossless", 232, 1367, [83, 5, 383, 18], [144, 215, 130]),
+        ("0.25", 120, 452, [166, 72, 268, 2], [302, 41, 165]),
     ] {
         let error_bound = readings::bound(bound).expect("a bound");
         let stream = damage::written(&values, error_bound).expect("an allowed bound");
@@ -64,13 +64,13 @@ fn flipped_bits_are_often_read_as_other_values() {
         let (flipped, cut) = (stream.flipped(), stream.cut());
         assert_eq!((flipped.total(), cut.total()), (8 * size, size));
         assert_eq!(
-            (flipped.same, flipped.other, flipped.refused),
-            (0, other, refused)
+            (flipped.same, flipped.other, flipped.refused, flipped.told),
+            (0, other, refused, told)
         );
         assert_eq!(
-            cut.refused,
-            [size, 0, 0, 0],
-            "a stream that is cut ends early"
+            (cut.refused, cut.told),
+            ([size, 0, 0, 0], [size, 0, 0]),
+            "a stream that is cut ends early, at the first value that is missing"
         );
     }
 }

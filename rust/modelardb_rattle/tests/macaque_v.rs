@@ -93,7 +93,8 @@ fn a_refused_reopening_changes_nothing() {
     assert_eq!(reopen(2, 65_537, 0, lossless), Err(Refusal::OverLimit));
     assert_eq!(reopen(2, 1, 2, lossless), Err(Refusal::CountsDisagree));
     assert_eq!(reopen(3, 1, 1, lossless), Err(Refusal::CountsDisagree));
-    assert_eq!(reopen(2, 1, 1, lossless), Err(Refusal::Leftover));
+    let leftover = Refusal::Leftover { value: 1, place: 2 };
+    assert_eq!(reopen(2, 1, 1, lossless), Err(leftover));
 }
 
 #[test]
@@ -103,7 +104,7 @@ fn reading_leaves_what_is_not_its_own() {
     assert_eq!(values, [1.0, 1.0, 9.0]);
     assert_eq!(
         grid_bits(&[0xA0], 3, Opening::On(1.0), &mut bits),
-        Err(Refusal::NoWindow)
+        Err(Refusal::NoWindow { value: 2, place: 4 })
     );
     assert_eq!(
         grid_bits(&[0xA0], 4, Opening::On(1.0), &mut bits),

@@ -73,7 +73,8 @@ fn a_refused_reading_leaves_the_output() {
     assert_eq!(refused(&segment, &[0, 1, 2, 3, 4]), Refusal::OutputTooShort);
     let mut damaged = segment.clone();
     damaged.residuals.insert(0, 0x00);
-    assert_eq!(refused(&damaged, &[0, 1, 2, 3]), Refusal::NoWindow);
+    let no_window = Refusal::NoWindow { value: 0, place: 0 };
+    assert_eq!(refused(&damaged, &[0, 1, 2, 3]), no_window);
     damaged.values = vec![4, 0, 0, 0, 0];
     assert_eq!(refused(&damaged, &[0, 1, 2, 3]), Refusal::FormNotAllowed);
     damaged.model_type_id = 2;

@@ -1,12 +1,13 @@
 //! The smallest inputs of our readings: one test for each place that the paper leaves open.
 
-use oracle::paper::macaque_v::{self, Fault, MacaqueV, Opening, Reader, Window, kept, read_all};
+use oracle::paper::macaque_v::{self, MacaqueV, Opening, Reader, Window, kept, read_all};
 use oracle::paper::models::ErrorBound::{self, Absolute, Lossless, Relative};
 use oracle::paper::numbers::{NAN_32, narrow, narrow_by_cast, widen, widen_by_cast};
 use oracle::paper::pmc_mean::PMCMean;
 use oracle::paper::segments::{Segment, write};
 use oracle::paper::swing::{self, Line, Swing};
 use oracle::paper::types::{Extremes, ModelBuilder, choose_model, pmc_mean_bytes, swing_bytes};
+use oracle::paper::{Fault, Read};
 
 const ONE: u32 = 0x3F80_0000;
 /// "At most 65,536 values a call or stream".
@@ -18,6 +19,15 @@ const NONE: Extremes = Extremes {
 
 fn bits(value: f32) -> u32 {
     value.to_bits()
+}
+
+/// Refused at a value and a place.
+fn refused<T>(number: u32, value: usize, place: usize) -> Read<T> {
+    Err(Fault {
+        number,
+        value,
+        place,
+    })
 }
 
 #[test]
@@ -211,16 +221,43 @@ fn segment<'a>(model: u32, timestamps: &'a [i64], residuals: &'a [u8]) -> Segmen
 #[test]
 fn segments_are_judged_in_order() {
     let out = &mut [0; 4];
-    assert_eq!(segment(2, &[], &[]).grid(out), Err(3));
-    assert_eq!(segment(0, &[], &[]).grid(out), Err(12));
-    assert_eq!(segment(0, &[5], &[0x80, 1]).grid(out), Err(12));
-    assert_eq!(segment(0, &[5, 5], &[0x80, 1]).grid(&mut out[..1]), Err(4));
-    assert_eq!(segment(0, &[5, 5], &[0x80, 1]).grid(out), Err(10));
-    assert_eq!(segment(1, &[5, 6], &[0x80, 1]).grid(out), Err(10));
-    assert_eq!(segment(0, &[5, 6], &[0x80, 0]).grid(out), Err(9));
-    assert_eq!(segment(0, &[5, 6], &[0xA0, 1]).grid(out), Err(8));
+    assert_eq!(segment(2, &[], &[]).grid(out), refused(3, 0, 0));
+    assert_eq!(segment(0, &[], &[]).grid(out), refused(12, 0, 0));
+    assert_eq!(segment(0, &[5], &[0x80, 1]).grid(out), refused(12, 0, 0));
+    assert_eq!(
+        segment(0, &[5, 5], &[0x80, 1]).grid(&mut out[..1]),
+        refused(4, 0, 0)
+    );
+    assert_eq!(segment(0, &[5, 5], &[0x80, 1]).grid(out), refused(10, 0, 0));
+    assert_eq!(segment(1, &[5, 6], &[0x80, 1]).grid(out), refused(10, 0, 0));
+    assert_eq!(segment(0, &[5, 6], &[0x80, 0]).grid(out), refused(9, 0, 0));
+    assert_eq!(segment(0, &[5, 6], &[0xA0, 1]).grid(out), refused(8, 1, 2));
     assert_eq!(segment(0, &[5, 6], &[0x80, 1]).grid(out), Ok(()));
     assert_eq!(out, &[ONE, ONE, 0, 0]);
+}
+
+/// "In a segment, places count from the residual stream's first byte", and values are the residuals.
+#[test]
+fn a_segment_says_where_its_residuals_broke() {
+    let times = &[5, 6, 7, 8, 9];
+    for (residuals, number, value, place) in [
+        (&[0xC0, 1][..], 5, 0, 0),
+        (&[0xAC, 3], 5, 2, 4),
+        (&[0xA0, 3], 6, 2, 4),
+        (&[0xAC, 0x00, 0x00, 3], 7, 2, 4),
+        (&[0xA0, 1], 8, 1, 2),
+        (&[0xA0, 0x00, 2], 8, 2, 8),
+        (&[0xA8, 0x80, 2], 8, 2, 4),
+    ] {
+        for model in [0, 1] {
+            let segment = segment(model, times, residuals);
+            let out = &mut [7; 5];
+            assert_eq!(segment.grid(out), refused(number, value, place));
+            assert_eq!(out, &[7; 5]);
+            assert_eq!(segment.sum_by_average(), refused(number, value, place));
+            assert_eq!(segment.sum_over_times(), refused(number, value, place));
+        }
+    }
 }
 
 #[test]
@@ -267,11 +304,11 @@ fn reopening_zeroes_the_cut_byte_alone() {
     assert_eq!(reopen(1, 2, 2, Lossless), (Ok(14), [0xFE, 0x0C, 0xFF]));
     assert_eq!(reopen(2, 2, 2, Lossless), (Ok(16), [0xFE, 0x0E, 0xFF]));
     assert_eq!(reopen(0, 2, 2, Lossless), (Ok(0), [0xFE, 0x0E, 0xFF]));
-    assert_eq!(reopen(70_000, 2, 1, Lossless).0, Err(12));
-    assert_eq!(reopen(0, 4, 1, Lossless).0, Err(12));
-    assert_eq!(reopen(0, 4, MOST + 1, Lossless).0, Err(3));
-    assert_eq!(reopen(0, 4, MOST + 1, Absolute(0.0)).0, Err(1));
-    assert_eq!(reopen(0, 2, 1, Lossless).0, Err(8));
+    assert_eq!(reopen(70_000, 2, 1, Lossless).0, refused(12, 0, 0));
+    assert_eq!(reopen(0, 4, 1, Lossless).0, refused(12, 0, 0));
+    assert_eq!(reopen(0, 4, MOST + 1, Lossless).0, refused(3, 0, 0));
+    assert_eq!(reopen(0, 4, MOST + 1, Absolute(0.0)).0, refused(1, 0, 0));
+    assert_eq!(reopen(0, 2, 1, Lossless).0, refused(8, 1, 14));
 }
 
 /// A state after one value of one bit, with the window of the lowest bit.
@@ -324,7 +361,10 @@ fn bytes_do_not_fix_the_count() {
         read_all(&[0xFE, 0x0C], 2, Opening::On(ONE)).unwrap().len(),
         2
     );
-    assert_eq!(macaque_v::sum(&[0], 0, Opening::WithFirst), Err(8));
+    assert_eq!(
+        macaque_v::sum(&[0], 0, Opening::WithFirst),
+        refused(8, 0, 0)
+    );
     assert_eq!(macaque_v::sum(&[], 0, Opening::WithFirst), Ok(0));
 }
 
@@ -333,29 +373,19 @@ fn the_reader_holds_its_place() {
     let reader = Reader::open(&[0xA0], Opening::On(ONE));
     let (row, reader) = reader.next_value().unwrap();
     assert_eq!((row.value, row.bits), (ONE, 2));
-    let leftover = Fault {
-        number: 8,
-        value: 1,
-        place: 2,
-    };
-    assert_eq!(reader.end(), Err(leftover));
+    assert_eq!(reader.end(), refused(8, 1, 2));
     let (_, reader) = reader.next_value().unwrap();
     assert_eq!(reader.end(), Ok(()));
-    let keep = Fault {
-        number: 6,
-        value: 2,
-        place: 4,
-    };
-    assert_eq!(reader.next_value().unwrap_err(), keep);
+    assert_eq!(reader.next_value(), refused(6, 2, 4));
     let full = Reader {
         length: MOST,
         ..reader
     };
-    assert_eq!(full.next_value().unwrap_err().number, 3);
+    assert_eq!(full.next_value(), refused(3, 0, 0));
     assert_eq!(full.end(), Ok(()));
     let wrong = Reader { place: 9, ..reader };
-    assert_eq!(wrong.next_value().unwrap_err().number, 2);
-    assert_eq!(wrong.end().unwrap_err().number, 2);
+    assert_eq!(wrong.next_value(), refused(2, 0, 0));
+    assert_eq!(wrong.end(), refused(2, 0, 0));
 }
 
 #[test]

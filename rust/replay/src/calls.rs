@@ -1,6 +1,7 @@
 //! The calls by their numbers, in the order of include/modelardb.h, as the oracle answers them.
 
 use crate::record::Record;
+use modelardb_rattle::Fault;
 use modelardb_rattle::ffi::StoredSegment;
 use oracle::paper::models::ErrorBound;
 use oracle::paper::{Answer, models, numbers};
@@ -57,41 +58,45 @@ pub const CALLS: [(&str, &[u64]); 38] = [
     ("modelardb_reader_last_value", &[3, 4, 5, 6, 7, 8]),
 ];
 
+/// What a call answers: number, value and place, or, of the two that are never refused, what they give.
+pub type Told = [u64; 3];
+
 /// What the call of a record answers, and the record with the memory as it is left.
-pub fn answered(record: &Record) -> (u64, Record) {
+pub fn answered(record: &Record) -> (Told, Record) {
     let mut left = record.clone();
     (answer(&mut left), left)
 }
 
 /// What the call of a record answers; its memory becomes what the call leaves.
-fn answer(record: &mut Record) -> u64 {
+fn answer(record: &mut Record) -> Told {
     match record.call {
-        0..4 => of_numbers(record),
-        4..9 => of_streams(record).into(),
-        9..15 => of_pmc_mean(record).into(),
-        15..22 => of_swing(record).into(),
-        22..26 => of_the_choice(record).into(),
-        26..34 => of_segments(record).into(),
-        _ => of_the_reader(record).into(),
+        0 => [numbers::widen(record.x[0]), 0, 0],
+        1 => [numbers::narrow(record.w[0]).into(), 0, 0],
+        2..4 => told(of_bounds(record)),
+        4..9 => told(of_streams(record)),
+        9..15 => told(of_pmc_mean(record)),
+        15..22 => told(of_swing(record)),
+        22..26 => told(of_the_choice(record)),
+        26..34 => told(of_segments(record)),
+        _ => told(of_the_reader(record)),
     }
 }
 
-fn of_numbers(record: &mut Record) -> u64 {
+fn told(fault: Fault) -> Told {
+    [fault.number.into(), fault.value.into(), fault.place as u64]
+}
+
+fn of_bounds(record: &mut Record) -> Fault {
     let Record {
         call, x, w, v, r, ..
     } = record;
+    let bound = bound(x[0], x[1]);
     match call {
-        0 => numbers::widen(x[0]),
-        1 => numbers::narrow(w[0]).into(),
         2 => {
-            let within = models::is_value_within_error_bound(bound(x[0], x[1]), x[2], x[3]);
-            in_row(within.map(u32::from), v).into()
+            let within = models::is_value_within_error_bound(bound, x[2], x[3]);
+            in_row(within.map(u32::from), v)
         }
-        _ => in_row(
-            models::maximum_allowed_deviation(bound(x[0], x[1]), w[0]),
-            r,
-        )
-        .into(),
+        _ => in_row(models::maximum_allowed_deviation(bound, w[0]), r),
     }
 }
 
@@ -105,18 +110,18 @@ fn bound(kind: u32, bits: u32) -> ErrorBound {
     }
 }
 
-/// The number of an answer of one word, which goes into the row.
-fn in_row<T>(answer: Answer<T>, row: &mut [T]) -> u32 {
+/// An answer of one word, which goes into the row.
+fn in_row<T>(answer: Answer<T>, row: &mut [T]) -> Fault {
     match fit::in_room(answer, 1, row.len()) {
         Ok(word) => {
             row[0] = word;
-            0
+            Fault::ACCEPTED
         }
-        Err(number) => number,
+        Err(refused) => face::fault(refused),
     }
 }
 
-fn of_streams(record: &mut Record) -> u32 {
+fn of_streams(record: &mut Record) -> Fault {
     let Record {
         call,
         x,
@@ -139,7 +144,7 @@ fn of_streams(record: &mut Record) -> u32 {
     }
 }
 
-fn of_pmc_mean(record: &mut Record) -> u32 {
+fn of_pmc_mean(record: &mut Record) -> Fault {
     let Record {
         call,
         x,
@@ -160,7 +165,7 @@ fn of_pmc_mean(record: &mut Record) -> u32 {
     }
 }
 
-fn of_swing(record: &mut Record) -> u32 {
+fn of_swing(record: &mut Record) -> Fault {
     let Record {
         call,
         x,
@@ -183,7 +188,7 @@ fn of_swing(record: &mut Record) -> u32 {
     }
 }
 
-fn of_the_choice(record: &mut Record) -> u32 {
+fn of_the_choice(record: &mut Record) -> Fault {
     let Record {
         call,
         x,
@@ -202,7 +207,7 @@ fn of_the_choice(record: &mut Record) -> u32 {
     }
 }
 
-fn of_segments(record: &mut Record) -> u32 {
+fn of_segments(record: &mut Record) -> Fault {
     let Record {
         call,
         x,
@@ -235,7 +240,7 @@ fn of_segments(record: &mut Record) -> u32 {
     }
 }
 
-fn of_the_reader(record: &mut Record) -> u32 {
+fn of_the_reader(record: &mut Record) -> Fault {
     let Record {
         call,
         x,

@@ -2,6 +2,7 @@
 
 use crate::calls::answered;
 use crate::record::Record;
+use modelardb_rattle::Fault;
 use modelardb_rattle::ffi::{
     MODEL_BUILDER_WORDS, PMC_MEAN_WORDS, READER_WORDS, SEGMENT_WORDS, SELECTED_MODEL_WORDS,
     STATE_WORDS, SWING_WORDS,
@@ -74,7 +75,7 @@ fn above_limits(call: usize) -> Vec<Record> {
         // and a reader behind as many values a place.
         let is_line = call != 16 || record.r.get(11).is_some_and(|&length| length > 1);
         let has_place = call != 35 || record.r.get(4).is_some_and(|&place| place > 0);
-        if call < 2 || answered(&record).0 == 0 && is_line && has_place {
+        if call < 2 || answered(&record).0 == [0; 3] && is_line && has_place {
             break record;
         }
     };
@@ -305,7 +306,7 @@ fn of_streams(call: usize, inputs: &mut Inputs) -> Record {
 }
 
 /// A state after some steps.
-fn fitted(inputs: &mut Inputs, words: usize, step: fn(&mut [u64], i64, u32) -> u32) -> Vec<u64> {
+fn fitted(inputs: &mut Inputs, words: usize, step: fn(&mut [u64], i64, u32) -> Fault) -> Vec<u64> {
     let mut row = vec![STALE.into(); words];
     let bound = face::bound_words(inputs.bound());
     match words {
@@ -562,19 +563,21 @@ fn of_the_reader(call: usize, inputs: &mut Inputs) -> Record {
 #[cfg(test)]
 mod tests {
     use super::{Record, answered, within_limits};
+    use crate::Told;
 
     /// At its limit a call is accepted, but for the write that lacks a byte.
     #[test]
     fn limits_are_accepted() {
-        let answers = |call: usize| -> Vec<u64> {
+        let answers = |call: usize| -> Vec<Told> {
             let records = within_limits(call).into_iter();
             let records = records.map(|record| Record { call, ..record });
             records.map(|record| answered(&record).0).collect()
         };
-        assert_eq!(answers(5), [0, 4]);
-        assert_eq!(answers(6), [0, 0, 0]);
+        let accepted = [0; 3];
+        assert_eq!(answers(5), [accepted, [4, 0, 0]]);
+        assert_eq!(answers(6), [accepted; 3]);
         for call in [7, 8, 13, 14, 19, 30, 37] {
-            assert_eq!(answers(call), [0], "call {call}");
+            assert_eq!(answers(call), [accepted], "call {call}");
         }
     }
 }

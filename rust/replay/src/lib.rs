@@ -1,12 +1,13 @@
 //! Makes the fixed list of answers that the proved program `replay` replays: calls of the C face with inputs
-//! from a seeded generator, and what the oracle, our plain program of document 01, answers and leaves in the
-//! lent memory. The compiled library has no part in it.
+//! from a seeded generator, and what the oracle, our plain program of document 01, answers, number, value and
+//! place, and leaves in the lent memory. The compiled library has no part in it.
 
+mod broken;
 mod calls;
 mod draw;
 mod record;
 
-pub use calls::CALLS;
+pub use calls::{CALLS, Told};
 
 use calls::answered;
 use record::Record;
@@ -17,13 +18,15 @@ use std::fmt::Write;
 /// The seed of the list.
 const SEED: u64 = 1;
 
-/// How many records of a call are drawn for each of its refusals, besides those at its limits.
+/// How many records of a call are drawn for each of its refusals, besides those at its limits and those of
+/// broken streams.
 const DRAWN: usize = 25;
 
 /// The records of a call.
 fn records(call: usize) -> Vec<Record> {
     let mut inputs = Inputs::named(SEED, CALLS[call].0);
     let mut records = draw::at_limits(call);
+    records.extend(broken::records(call));
     let count = DRAWN * (2 + CALLS[call].1.len());
     records.extend((0..count).map(|_| draw::drawn(call, &mut inputs)));
     records
@@ -56,8 +59,8 @@ pub fn told() -> String {
     text
 }
 
-/// The refusals of a call that the list holds.
-pub fn refusals(call: usize) -> BTreeSet<u64> {
-    let numbers = records(call).into_iter().map(|record| answered(&record).0);
-    numbers.filter(|&number| number != 0).collect()
+/// The refusals of a call that the list holds: number, value and place.
+pub fn refusals(call: usize) -> BTreeSet<Told> {
+    let told = records(call).into_iter().map(|record| answered(&record).0);
+    told.filter(|told| told[0] != 0).collect()
 }

@@ -1,5 +1,6 @@
 //! A record: a call, the numbers and the memory that it is handed.
 
+use crate::calls::Told;
 use std::fmt::Write;
 
 /// What each list holds is said in crates/replay/src/calls.rt: `x` and `w` the numbers of 32 and of 64 bits in
@@ -19,8 +20,9 @@ pub struct Record {
 }
 
 impl Record {
-    /// Its line. Behind the colon stand the answer and those lists that are not left as they were.
-    pub fn line(&self, (number, left): &(u64, Self)) -> String {
+    /// Its line. Behind the colon stand the answer, without a value and a place that are both 0, and those
+    /// lists that are not left as they were.
+    pub fn line(&self, (told, left): &(Told, Self)) -> String {
         let mut line = format!("{:x}", self.call);
         let times: Vec<u64> = self.t.iter().map(|&time| time as u64).collect();
         for (name, words) in [('x', wide(&self.x)), ('w', self.w.clone()), ('t', times)] {
@@ -31,7 +33,11 @@ impl Record {
             put(&mut line, *name, words);
         }
         put(&mut line, 's', &self.s);
+        let [number, value, place] = told;
         _ = write!(line, " : {number:x}");
+        if (*value, *place) != (0, 0) {
+            _ = write!(line, " {value:x} {place:x}");
+        }
         for ((name, words), (_, before)) in after.iter().zip(&before) {
             if words != before {
                 put(&mut line, *name, words);

@@ -1,4 +1,5 @@
-//! The committed list is what the oracle answers today, and it holds every refusal of every call.
+//! The committed list is what the oracle answers today, and it holds every refusal of every call, those of a
+//! stream at later values too.
 
 use std::collections::BTreeSet;
 
@@ -25,7 +26,26 @@ fn every_refusal_of_every_call_is_in_the_list() {
         let expected: BTreeSet<u64> = refusals.iter().copied().collect();
         // The first two answer no number but a value.
         if call > 1 {
-            assert_eq!(replay::refusals(call), expected, "{name}");
+            let numbers = replay::refusals(call)
+                .into_iter()
+                .map(|[number, ..]| number);
+            assert_eq!(BTreeSet::from_iter(numbers), expected, "{name}");
+        }
+    }
+}
+
+#[test]
+fn every_refusal_of_a_stream_is_in_the_list_at_several_places() {
+    for (call, (name, refusals)) in replay::CALLS.iter().enumerate().skip(2) {
+        let told = replay::refusals(call);
+        for &number in *refusals {
+            let placed = |told: &&replay::Told| told[0] == number && told[1] > 0 && told[2] > 0;
+            let placed = told.iter().filter(placed).count();
+            if (5..=8).contains(&number) {
+                assert!(placed > 1, "{name}: {number} behind a value: {placed}");
+            } else {
+                assert_eq!(placed, 0, "{name}: {number} has no place");
+            }
         }
     }
 }

@@ -1,21 +1,20 @@
 //! The C face by document 01: the paper's program behind rows of words, here that of MacaqueV. Each
-//! function is called as its namesake of the compiled library is, and answers 0 or the number of a
-//! refusal.
+//! function is called as its namesake of the compiled library is, and answers as that does.
 
 pub mod choice;
 pub mod fit;
 pub mod reader;
 pub mod segments;
 
-use modelardb_rattle::Refusal;
 use modelardb_rattle::ffi::{STATE_WORDS, Words};
+use modelardb_rattle::{Fault, Refusal};
 use oracle::paper::macaque_v::{self, MacaqueV, Opening, Window};
 use oracle::paper::models::ErrorBound::{self, Absolute, Lossless, Relative};
 use oracle::paper::refusal::{BOUND, COUNTS, LIMIT, OUTPUT, STATE};
-use oracle::paper::{Answer, judge_count, refuse_if};
+use oracle::paper::{Answer, Fault as Refused, Read, judge_count, refuse_if};
 
-pub fn new(bound: Words, opening: Words, row: &mut [u64]) -> u32 {
-    number(|| {
+pub fn new(bound: Words, opening: Words, row: &mut [u64]) -> Fault {
+    told(|| {
         let bound = allowed_bound(bound)?;
         let opening = opening_in(opening)?;
         refuse_if(row.len() < STATE_WORDS, OUTPUT)?;
@@ -25,8 +24,8 @@ pub fn new(bound: Words, opening: Words, row: &mut [u64]) -> u32 {
 }
 
 /// The words of the bound and of the mode stay as they are handed in.
-pub fn compress_values(row: &mut [u64], values: &[u32], buffer: &mut [u8]) -> u32 {
-    number(|| {
+pub fn compress_values(row: &mut [u64], values: &[u32], buffer: &mut [u8]) -> Fault {
+    told(|| {
         let after = state_in(row)?.compress_values(values, buffer)?;
         let kept = [row[0], row[1], row[7]];
         put(row, after);
@@ -42,8 +41,8 @@ pub fn reopen(
     opening: Words,
     bound: Words,
     row: &mut [u64],
-) -> u32 {
-    number(|| {
+) -> Fault {
+    told(|| {
         let bound = allowed_bound(bound)?;
         let opening = opening_in(opening)?;
         judge_count(count)?;
@@ -55,12 +54,12 @@ pub fn reopen(
     })
 }
 
-pub fn grid(bytes: &[u8], count: usize, opening: Words, out: &mut [u32]) -> u32 {
-    number(|| macaque_v::grid(bytes, count, opening_in(opening)?, out))
+pub fn grid(bytes: &[u8], count: usize, opening: Words, out: &mut [u32]) -> Fault {
+    told(|| macaque_v::grid(bytes, count, opening_in(opening)?, out))
 }
 
-pub fn sum(bytes: &[u8], count: usize, opening: Words, out: &mut [u32]) -> u32 {
-    number(|| {
+pub fn sum(bytes: &[u8], count: usize, opening: Words, out: &mut [u32]) -> Fault {
+    told(|| {
         let opening = opening_in(opening)?;
         judge_count(count)?;
         refuse_if(out.is_empty(), OUTPUT)?;
@@ -69,8 +68,17 @@ pub fn sum(bytes: &[u8], count: usize, opening: Words, out: &mut [u32]) -> u32 {
     })
 }
 
-fn number(call: impl FnOnce() -> Answer<()>) -> u32 {
-    call().err().unwrap_or(0)
+fn told(call: impl FnOnce() -> Read<()>) -> Fault {
+    call().map_or_else(fault, |()| Fault::ACCEPTED)
+}
+
+/// The paper's refusal as it crosses the C face.
+pub fn fault(refused: Refused) -> Fault {
+    Fault {
+        number: refused.number,
+        value: refused.value as u32,
+        place: refused.place,
+    }
 }
 
 /// A bound's two words.
@@ -88,9 +96,25 @@ pub fn safe_bound(bound: ErrorBound) -> modelardb_rattle::ErrorBound {
     }
 }
 
-/// An answer of the safe types, a refusal as its number.
+/// An answer of the safe types, a refusal as its number, for calls that do not read a stream.
 pub fn numbered<A>(answer: Result<A, Refusal>) -> Answer<A> {
     answer.map_err(Refusal::number)
+}
+
+/// An answer of the safe types, a refusal as number, value and place.
+pub fn placed<A>(answer: Result<A, Refusal>) -> Read<A> {
+    answer.map_err(|refusal| {
+        let Fault {
+            number,
+            value,
+            place,
+        } = refusal.fault();
+        Refused {
+            number,
+            value: value as usize,
+            place,
+        }
+    })
 }
 
 /// An opening's two words.

@@ -1,6 +1,7 @@
 //! Lent memory between guards: what a call leaves in it, and whether it wrote beside it.
 
 use crate::context::Context;
+use modelardb_rattle::Fault;
 use std::fmt::Debug;
 use std::sync::LazyLock;
 
@@ -53,40 +54,40 @@ impl<T: Copy + PartialEq> Lent<T> {
     }
 }
 
-/// What a call leaves: its number, and the row or output that it was lent.
-pub type Left<T> = (u32, Vec<T>);
+/// What a call leaves: what it answers, and the row or output that it was lent.
+pub type Left<T> = (Fault, Vec<T>);
 
 /// A call that is lent `memory`, by the paper and by the library. A refusal leaves the memory alone.
 pub fn compared<T: Copy + PartialEq + Debug>(
     context: &mut Context,
     (memory, guard): (&[T], T),
-    paper: impl FnOnce(&mut [T]) -> u32,
-    library: impl FnOnce(&mut [T]) -> u32,
+    paper: impl FnOnce(&mut [T]) -> Fault,
+    library: impl FnOnce(&mut [T]) -> Fault,
     input: impl FnOnce() -> String,
 ) -> Left<T> {
     let mut expected = memory.to_vec();
-    let number = paper(&mut expected);
+    let fault = paper(&mut expected);
     let mut lent = Lent::new(memory, guard);
     let ours = library(lent.lend());
     let left = lent.content();
-    let is_as_refused = ours == 0 || left.as_deref() == Some(memory);
+    let is_as_refused = ours == Fault::ACCEPTED || left.as_deref() == Some(memory);
     context.same(
         "library",
-        (number, Some(&expected[..]), true),
+        (fault, Some(&expected[..]), true),
         (ours, left.as_deref(), is_as_refused),
         || format!("{} into {memory:X?}", input()),
     );
-    (number, expected)
+    (fault, expected)
 }
 
 /// Lends what is only to be read, and sees that it was left alone.
 pub fn to_read<T: Copy + PartialEq>(
     (content, guard): (&[T], T),
     is_kept: &mut bool,
-    call: impl FnOnce(&[T]) -> u32,
-) -> u32 {
+    call: impl FnOnce(&[T]) -> Fault,
+) -> Fault {
     let mut lent = Lent::new(content, guard);
-    let number = call(lent.lend());
+    let fault = call(lent.lend());
     *is_kept = lent.content().as_deref() == Some(content);
-    number
+    fault
 }

@@ -1,6 +1,7 @@
 //! The order of the causes of refusal, and choices that bring causes in.
 
 use crate::context::Context;
+use modelardb_rattle::Fault;
 use modelardb_rattle::ffi::Words;
 use oracle::paper::refusal::{
     BOUND, COUNTS, ENDS_EARLY, FORM, LEFTOVER, LIMIT, NO_MODEL, NO_WINDOW, OUTPUT, STATE, TIMES,
@@ -14,15 +15,15 @@ const ORDER: [u32; 12] = [
     LEFTOVER,
 ];
 
-/// The number must be that of the first of the causes.
+/// The answer's number must be that of the first of the causes.
 pub fn in_order(
     context: &mut Context,
     causes: &[u32],
-    number: u32,
+    fault: Fault,
     input: impl FnOnce() -> String,
 ) {
     let first = ORDER.into_iter().find(|cause| causes.contains(cause));
-    context.same("the order", first.unwrap_or(0), number, input);
+    context.same("the order", first.unwrap_or(0), fault.number, input);
 }
 
 /// Bounds as they cross the C face, and the cause that each brings in, or 0.

@@ -1,6 +1,7 @@
 //! What a stream says once it is altered: the format has no checksum, so a flipped bit is often read as other
-//! values. Usage: `flipped FILE BOUND`, a file with a time and a value on each line, and a bound (`0.25`, `5%`):
-//! the values are written lossless and within the bound, and each stream is altered in every place.
+//! values; where it is refused, that is told at the altered value or behind it. Usage: `flipped FILE BOUND`, a
+//! file with a time and a value on each line, and a bound (`0.25`, `5%`): the values are written lossless and
+//! within the bound, and each stream is altered in every place.
 
 mod damage;
 #[path = "../shared/readings.rs"]

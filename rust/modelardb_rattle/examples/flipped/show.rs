@@ -1,11 +1,11 @@
 //! The outcomes as a table.
 
-use crate::damage::{Outcomes, written};
+use crate::damage::{NEAR, Outcomes, written};
 use modelardb_rattle::{ErrorBound, Refusal};
 use std::fmt::Write;
 
 const HEAD: &str = "\
-bound    bytes  altered      streams  same values  other values  refused: 5     6     7     8
+bound    bytes  altered      streams  same values  other values  refused: 5     6     7     8  told: there   near  later
 ";
 
 /// Two lines for each bound.
@@ -18,7 +18,11 @@ pub fn show(values: &[f32], bounds: &[(&str, ErrorBound)]) -> Result<String, Ref
         text += &line(name, size, "bit flipped", &flipped);
         text += &line(name, size, "cut short", &cut);
     }
-    text += "bit flipped: each bit in turn; cut short: to each length below its own\n";
+    _ = writeln!(
+        text,
+        "bit flipped: each bit in turn; cut short: to each length below its own\n\
+         told: at the value that was altered or is the first to be missing, up to {NEAR} values behind it, later"
+    );
     Ok(text)
 }
 
@@ -29,5 +33,6 @@ fn line(name: &str, size: usize, altered: &str, outcomes: &Outcomes) -> String {
     for count in outcomes.refused {
         _ = write!(text, " {count:5}");
     }
-    text + "\n"
+    let [there, near, later] = outcomes.told;
+    text + &format!("        {there:5}  {near:5}  {later:5}\n")
 }

@@ -1,28 +1,31 @@
 //! The calls of the choice between the two models.
 
 use super::{PMC_MEAN_WORDS, SWING_WORDS, Words};
+use crate::Fault;
 
 mod c {
+    use crate::Fault;
+
     unsafe extern "C" {
         pub unsafe fn modelardb_model_builder_new(
             kind: u32,
             bound: u32,
             state: *mut u64,
             state_len: usize,
-        ) -> u32;
+        ) -> Fault;
         pub unsafe fn modelardb_model_builder_try_to_update_models(
             state: *mut u64,
             state_len: usize,
             timestamp: i64,
             value: u32,
-        ) -> u32;
+        ) -> Fault;
         pub unsafe fn modelardb_model_builder_finish(
             state: *const u64,
             state_len: usize,
             m: usize,
             out: *mut u64,
             out_len: usize,
-        ) -> u32;
+        ) -> Fault;
         pub unsafe fn modelardb_choose_model(
             timestamps: *const i64,
             timestamps_len: usize,
@@ -33,7 +36,7 @@ mod c {
             m: usize,
             out: *mut u64,
             out_len: usize,
-        ) -> u32;
+        ) -> Fault;
     }
 }
 
@@ -45,34 +48,34 @@ pub const MODEL_BUILDER_WORDS: usize = PMC_MEAN_WORDS + SWING_WORDS;
 /// and of the last value; the bits of the bytes for each value.
 pub const SELECTED_MODEL_WORDS: usize = 5;
 
-/// 0 or the refusal's number; the first twenty words of `state` become a fresh builder's.
-pub fn model_builder_new((kind, bound): Words, state: &mut [u64]) -> u32 {
+/// The first twenty words of `state` become a fresh builder's.
+pub fn model_builder_new((kind, bound): Words, state: &mut [u64]) -> Fault {
     // SAFETY: start and length are those of a slice lent for the call.
     unsafe { c::modelardb_model_builder_new(kind, bound, state.as_mut_ptr(), state.len()) }
 }
 
-/// 0 or the refusal's number; `state` becomes the builder after the point.
-pub fn model_builder_try_to_update_models(state: &mut [u64], timestamp: i64, value: u32) -> u32 {
+/// `state` becomes the builder after the point.
+pub fn model_builder_try_to_update_models(state: &mut [u64], timestamp: i64, value: u32) -> Fault {
     let (start, length) = (state.as_mut_ptr(), state.len());
     // SAFETY: start and length are those of a slice lent for the call.
     unsafe { c::modelardb_model_builder_try_to_update_models(start, length, timestamp, value) }
 }
 
-/// 0 or the refusal's number; the first five words of `out` become the chosen model.
-pub fn model_builder_finish(state: &[u64], m: usize, out: &mut [u64]) -> u32 {
+/// The first five words of `out` become the chosen model.
+pub fn model_builder_finish(state: &[u64], m: usize, out: &mut [u64]) -> Fault {
     let (start, length) = (out.as_mut_ptr(), out.len());
     // SAFETY: each start and length are those of a slice lent for the call, and they do not overlap.
     unsafe { c::modelardb_model_builder_finish(state.as_ptr(), state.len(), m, start, length) }
 }
 
-/// 0 or the refusal's number; the first five words of `out` become the model chosen for the points.
+/// The first five words of `out` become the model chosen for the points.
 pub fn choose_model(
     timestamps: &[i64],
     values: &[u32],
     (kind, bound): Words,
     m: usize,
     out: &mut [u64],
-) -> u32 {
+) -> Fault {
     let (start, length) = (out.as_mut_ptr(), out.len());
     // SAFETY: each start and length are those of a slice lent for the call, and no two overlap.
     unsafe {

@@ -1,8 +1,11 @@
 //! The calls of parameter bytes and segments.
 
 use super::Words;
+use crate::Fault;
 
 mod c {
+    use crate::Fault;
+
     unsafe extern "C" {
         pub unsafe fn modelardb_encode_values_for_pmc_mean(
             value: u32,
@@ -12,7 +15,7 @@ mod c {
             out_len: usize,
             row: *mut u64,
             row_len: usize,
-        ) -> u32;
+        ) -> Fault;
         pub unsafe fn modelardb_encode_values_for_swing(
             first_value: u32,
             last_value: u32,
@@ -22,7 +25,7 @@ mod c {
             out_len: usize,
             row: *mut u64,
             row_len: usize,
-        ) -> u32;
+        ) -> Fault;
         pub unsafe fn modelardb_decode_values_for_pmc_mean(
             min_value: u32,
             max_value: u32,
@@ -30,7 +33,7 @@ mod c {
             values_len: usize,
             out: *mut u32,
             out_len: usize,
-        ) -> u32;
+        ) -> Fault;
         pub unsafe fn modelardb_decode_values_for_swing(
             min_value: u32,
             max_value: u32,
@@ -38,7 +41,7 @@ mod c {
             values_len: usize,
             out: *mut u32,
             out_len: usize,
-        ) -> u32;
+        ) -> Fault;
         pub unsafe fn modelardb_segment_write(
             model: u32,
             first_value: u32,
@@ -53,7 +56,7 @@ mod c {
             residuals_out_len: usize,
             segment: *mut u64,
             segment_len: usize,
-        ) -> u32;
+        ) -> Fault;
         pub unsafe fn modelardb_segment_grid(
             model: u32,
             timestamps: *const i64,
@@ -66,7 +69,7 @@ mod c {
             residuals_len: usize,
             out: *mut u32,
             out_len: usize,
-        ) -> u32;
+        ) -> Fault;
         pub unsafe fn modelardb_segment_sum_by_average(
             model: u32,
             timestamps: *const i64,
@@ -79,7 +82,7 @@ mod c {
             residuals_len: usize,
             out: *mut u32,
             out_len: usize,
-        ) -> u32;
+        ) -> Fault;
         pub unsafe fn modelardb_segment_sum_over(
             model: u32,
             timestamps: *const i64,
@@ -92,7 +95,7 @@ mod c {
             residuals_len: usize,
             out: *mut u32,
             out_len: usize,
-        ) -> u32;
+        ) -> Fault;
     }
 }
 
@@ -123,14 +126,14 @@ pub struct StoredSegment<'a> {
     pub residuals: &'a [u8],
 }
 
-/// 0 or the refusal's number; the front of `out` becomes PMC-Mean's parameter bytes, and `row[0]` how
+/// The front of `out` becomes PMC-Mean's parameter bytes, and `row[0]` how
 /// many they are. The residuals' extremes are both 7FC00000 where there are none.
 pub fn encode_values_for_pmc_mean(
     value: u32,
     (min, max): Pair,
     out: &mut [u8],
     row: &mut [u64],
-) -> u32 {
+) -> Fault {
     let (start, length) = (out.as_mut_ptr(), out.len());
     let (words, room) = (row.as_mut_ptr(), row.len());
     // SAFETY: each start and length are those of a slice lent for the call, and they do not overlap.
@@ -143,7 +146,7 @@ pub fn encode_values_for_swing(
     (min, max): Pair,
     out: &mut [u8],
     row: &mut [u64],
-) -> u32 {
+) -> Fault {
     let (start, length) = (out.as_mut_ptr(), out.len());
     let (words, room) = (row.as_mut_ptr(), row.len());
     // SAFETY: each start and length are those of a slice lent for the call, and they do not overlap.
@@ -152,25 +155,25 @@ pub fn encode_values_for_swing(
     }
 }
 
-/// 0 or the refusal's number; `out[0]` becomes the bits of the value that PMC-Mean's parameter bytes
+/// `out[0]` becomes the bits of the value that PMC-Mean's parameter bytes
 /// give with the segment's extremes.
-pub fn decode_values_for_pmc_mean((min, max): Pair, values: &[u8], out: &mut [u32]) -> u32 {
+pub fn decode_values_for_pmc_mean((min, max): Pair, values: &[u8], out: &mut [u32]) -> Fault {
     let (places, room) = (out.as_mut_ptr(), out.len());
     let (start, length) = (values.as_ptr(), values.len());
     // SAFETY: each start and length are those of a slice lent for the call, and they do not overlap.
     unsafe { c::modelardb_decode_values_for_pmc_mean(min, max, start, length, places, room) }
 }
 
-/// 0 or the refusal's number; `out[0]` and `out[1]` become the bits of the first and the last value
+/// `out[0]` and `out[1]` become the bits of the first and the last value
 /// that Swing's parameter bytes give with the segment's extremes.
-pub fn decode_values_for_swing((min, max): Pair, values: &[u8], out: &mut [u32]) -> u32 {
+pub fn decode_values_for_swing((min, max): Pair, values: &[u8], out: &mut [u32]) -> Fault {
     let (places, room) = (out.as_mut_ptr(), out.len());
     let (start, length) = (values.as_ptr(), values.len());
     // SAFETY: each start and length are those of a slice lent for the call, and they do not overlap.
     unsafe { c::modelardb_decode_values_for_swing(min, max, start, length, places, room) }
 }
 
-/// 0 or the refusal's number; the front of the two outputs become the parameter bytes and the residual
+/// The front of the two outputs become the parameter bytes and the residual
 /// bytes, and the first four words of `segment` the written segment's.
 pub fn segment_write(
     (model, (first, last)): (u32, Pair),
@@ -179,7 +182,7 @@ pub fn segment_write(
     values_out: &mut [u8],
     residuals_out: &mut [u8],
     segment: &mut [u64],
-) -> u32 {
+) -> Fault {
     // SAFETY: each start and length are those of a slice lent for the call, and no two overlap.
     unsafe {
         c::modelardb_segment_write(
@@ -213,10 +216,10 @@ type Reading = unsafe extern "C" fn(
     usize,
     *mut u32,
     usize,
-) -> u32;
+) -> Fault;
 
 /// One of them on slices.
-fn read(call: Reading, segment: StoredSegment, timestamps: &[i64], out: &mut [u32]) -> u32 {
+fn read(call: Reading, segment: StoredSegment, timestamps: &[i64], out: &mut [u32]) -> Fault {
     let (min_value, max_value) = segment.extremes;
     // SAFETY: the call is one of those three; each start and length are those of a slice lent for it,
     // and no two overlap.
@@ -237,20 +240,24 @@ fn read(call: Reading, segment: StoredSegment, timestamps: &[i64], out: &mut [u3
     }
 }
 
-/// 0 or the refusal's number; the front of `out` becomes the segment's values at the timestamps, the
+/// The front of `out` becomes the segment's values at the timestamps, the
 /// model's and then the residuals'.
-pub fn segment_grid(segment: StoredSegment, timestamps: &[i64], out: &mut [u32]) -> u32 {
+pub fn segment_grid(segment: StoredSegment, timestamps: &[i64], out: &mut [u32]) -> Fault {
     read(c::modelardb_segment_grid, segment, timestamps, out)
 }
 
-/// 0 or the refusal's number; `out[0]` becomes the bits of the sum of the segment's values, Swing's by
+/// `out[0]` becomes the bits of the sum of the segment's values, Swing's by
 /// the average of its ends.
-pub fn segment_sum_by_average(segment: StoredSegment, timestamps: &[i64], out: &mut [u32]) -> u32 {
+pub fn segment_sum_by_average(
+    segment: StoredSegment,
+    timestamps: &[i64],
+    out: &mut [u32],
+) -> Fault {
     let call = c::modelardb_segment_sum_by_average;
     read(call, segment, timestamps, out)
 }
 
 /// The same, with Swing's values added up one by one.
-pub fn segment_sum_over(segment: StoredSegment, timestamps: &[i64], out: &mut [u32]) -> u32 {
+pub fn segment_sum_over(segment: StoredSegment, timestamps: &[i64], out: &mut [u32]) -> Fault {
     read(c::modelardb_segment_sum_over, segment, timestamps, out)
 }

@@ -10,7 +10,7 @@ use crate::{Refusal, ffi};
 /// # Errors
 ///
 /// [`Refusal::OverLimit`] for a count above 65,536; [`Refusal::OutputTooShort`]; then what is wrong with
-/// the stream: [`Refusal::EndsEarly`], [`Refusal::NoWindow`], [`Refusal::WindowNotAllowed`] or
+/// the stream and where: [`Refusal::EndsEarly`], [`Refusal::NoWindow`], [`Refusal::WindowNotAllowed`] or
 /// [`Refusal::Leftover`].
 ///
 /// ```
@@ -22,7 +22,7 @@ use crate::{Refusal, ffi};
 /// assert_eq!(out, [1.0, 1.0, 2.0, 1.0, 9.0]);
 ///
 /// let refused = macaque_v::grid(&case_b, 5, Opening::First, &mut out);
-/// assert_eq!(refused, Err(Refusal::EndsEarly));
+/// assert_eq!(refused, Err(Refusal::EndsEarly { value: 4, place: 64 }));
 /// # Ok::<(), Refusal>(())
 /// ```
 pub fn grid(bytes: &[u8], count: usize, opening: Opening, out: &mut [f32]) -> Result<(), Refusal> {
@@ -55,7 +55,8 @@ pub fn grid_bits(
 /// let case_a = [0x3F, 0x80, 0x00, 0x00, 0xB0, 0x91, 0xFE];
 /// assert_eq!(macaque_v::sum(&case_a, 3, Opening::First), Ok(4.0));
 /// assert_eq!(macaque_v::sum(&[0xA0], 2, Opening::On(1.0)), Ok(2.0));
-/// assert_eq!(macaque_v::sum(&[0xA0], 1, Opening::On(1.0)), Err(Refusal::Leftover));
+/// let refused = macaque_v::sum(&[0xA0], 1, Opening::On(1.0));
+/// assert_eq!(refused, Err(Refusal::Leftover { value: 1, place: 2 }));
 /// ```
 pub fn sum(bytes: &[u8], count: usize, opening: Opening) -> Result<f32, Refusal> {
     sum_bits(bytes, count, opening).map(f32::from_bits)

@@ -1,9 +1,9 @@
 //! Reading a stream value by value.
 
 use super::Opening;
-use crate::Refusal;
 use crate::ffi::{self, READER_WORDS};
 use crate::shown::F32;
+use crate::{Fault, Refusal};
 use std::fmt::{self, Debug, Formatter};
 
 /// A reader that keeps hold of the lent stream and its place. It knows no total: its user decides how many
@@ -22,8 +22,9 @@ use std::fmt::{self, Debug, Formatter};
 /// assert_eq!(reader.end(), Ok(()));
 ///
 /// // There is no fifth value, and the reader stays where it is.
-/// assert_eq!(reader.next_value(), Err(Refusal::EndsEarly));
-/// assert_eq!(reader.place(), 64);
+/// let refused = Err(Refusal::EndsEarly { value: 4, place: 64 });
+/// assert_eq!(reader.next_value(), refused);
+/// assert_eq!((reader.length(), reader.place()), (4, 64));
 /// # Ok::<(), Refusal>(())
 /// ```
 #[derive(Clone, PartialEq, Eq)]
@@ -37,8 +38,12 @@ impl<'a> Reader<'a> {
     /// The reader before the first value. Nothing is refused: the stream is judged as it is read.
     pub fn open(stream: &'a [u8], opening: Opening) -> Self {
         let mut row = [0; READER_WORDS];
-        let number = ffi::reader_open(opening.words(), &mut row);
-        assert_eq!(number, 0, "a mode and a row that open a reader");
+        let fault = ffi::reader_open(opening.words(), &mut row);
+        assert_eq!(
+            fault,
+            Fault::ACCEPTED,
+            "a mode and a row that open a reader"
+        );
         Self { stream, row }
     }
 
@@ -47,7 +52,8 @@ impl<'a> Reader<'a> {
     /// # Errors
     ///
     /// [`Refusal::OverLimit`] behind 65,536 values; then what is wrong with the stream at this place:
-    /// [`Refusal::EndsEarly`], [`Refusal::NoWindow`] or [`Refusal::WindowNotAllowed`].
+    /// [`Refusal::EndsEarly`], [`Refusal::NoWindow`] or [`Refusal::WindowNotAllowed`], with this reader's
+    /// [`length`](Reader::length) and [`place`](Reader::place).
     pub fn next_value(&mut self) -> Result<f32, Refusal> {
         self.next_value_bits().map(f32::from_bits)
     }
@@ -59,8 +65,8 @@ impl<'a> Reader<'a> {
     /// Those of [`Reader::next_value`].
     pub fn next_value_bits(&mut self) -> Result<u32, Refusal> {
         let mut out = [0];
-        let number = ffi::reader_next(self.stream, &mut self.row, &mut out);
-        Refusal::judge(number)?;
+        let fault = ffi::reader_next(self.stream, &mut self.row, &mut out);
+        Refusal::judge(fault)?;
         Ok(out[0])
     }
 
@@ -68,14 +74,15 @@ impl<'a> Reader<'a> {
     ///
     /// # Errors
     ///
-    /// [`Refusal::Leftover`] where a padding bit is set or a byte follows.
+    /// [`Refusal::Leftover`] where a padding bit is set or a byte follows, with this reader's
+    /// [`length`](Reader::length) and the place of the first such bit.
     ///
     /// ```
     /// use modelardb_rattle::{Opening, Reader, Refusal};
     ///
     /// let mut reader = Reader::open(&[0xA0], Opening::On(1.0));
     /// reader.next_value()?;
-    /// assert_eq!(reader.end(), Err(Refusal::Leftover));
+    /// assert_eq!(reader.end(), Err(Refusal::Leftover { value: 1, place: 2 }));
     /// reader.next_value()?;
     /// assert_eq!(reader.end(), Ok(()));
     /// # Ok::<(), Refusal>(())
@@ -124,15 +131,18 @@ impl Debug for Reader<'_> {
 ///
 /// # Errors
 ///
-/// [`Refusal::OverLimit`] for a count above 65,536; then what is wrong with the stream:
+/// [`Refusal::OverLimit`] for a count above 65,536; then what is wrong with the stream and where:
 /// [`Refusal::EndsEarly`], [`Refusal::NoWindow`], [`Refusal::WindowNotAllowed`] or [`Refusal::Leftover`].
 ///
 /// ```
-/// use modelardb_rattle::{Opening, macaque_v};
+/// use modelardb_rattle::{Opening, Refusal, macaque_v};
 ///
 /// let case_a = [0x3F, 0x80, 0x00, 0x00, 0xB0, 0x91, 0xFE];
 /// assert_eq!(macaque_v::last_value(&case_a, 3, Opening::First), Ok(2.0));
 /// assert_eq!(macaque_v::last_value(&[], 0, Opening::On(7.0)), Ok(0.0));
+///
+/// let refused = macaque_v::last_value(&case_a[..6], 3, Opening::First);
+/// assert_eq!(refused, Err(Refusal::EndsEarly { value: 2, place: 34 }));
 /// ```
 pub fn last_value(bytes: &[u8], count: usize, opening: Opening) -> Result<f32, Refusal> {
     last_value_bits(bytes, count, opening).map(f32::from_bits)
@@ -145,7 +155,7 @@ pub fn last_value(bytes: &[u8], count: usize, opening: Opening) -> Result<f32, R
 /// Those of [`last_value`].
 pub fn last_value_bits(bytes: &[u8], count: usize, opening: Opening) -> Result<u32, Refusal> {
     let mut out = [0];
-    let number = ffi::reader_last_value(bytes, count, opening.words(), &mut out);
-    Refusal::judge(number)?;
+    let fault = ffi::reader_last_value(bytes, count, opening.words(), &mut out);
+    Refusal::judge(fault)?;
     Ok(out[0])
 }

@@ -3,7 +3,7 @@
 use super::bits::{cut, field, get, number, put};
 use super::models::{ErrorBound, maximum_bits, minimum_bits, within};
 use super::numbers::{NAN_32, bits_of_f32};
-use super::{Answer, MOST_VALUES, judge_count, refusal, refuse_if};
+use super::{Answer, Fault, MOST_VALUES, Read, judge_count, refusal, refuse_if};
 
 /// "With-first mode stores the first value's 32 bits raw. Without-first mode starts from an opening
 /// value, any bits."
@@ -189,7 +189,7 @@ impl MacaqueV {
         k: usize,
         opening: Opening,
         error_bound: ErrorBound,
-    ) -> Answer<Self> {
+    ) -> Read<Self> {
         let fresh = Self::new(error_bound, opening)?;
         judge_count(count)?;
         refuse_if(k > count || used > buffer.len(), refusal::COUNTS)?;
@@ -199,21 +199,6 @@ impl MacaqueV {
         });
         cut(buffer, state.place);
         Ok(state)
-    }
-}
-
-/// Where and why reading a stream was refused: the refusal's number, the number of the value being
-/// read and the bit place where its code begins; for 8 the count, and the first leftover place.
-#[derive(Clone, Copy, Debug, PartialEq)]
-pub struct Fault {
-    pub number: u32,
-    pub value: usize,
-    pub place: usize,
-}
-
-impl From<Fault> for u32 {
-    fn from(fault: Fault) -> u32 {
-        fault.number
     }
 }
 
@@ -264,7 +249,8 @@ impl<'a> Reader<'a> {
         may_be_used(self.place, self.length, self.window, self.stream.len())
     }
 
-    /// Refused at the value that comes next.
+    /// Refused at the value being read: "a reader's next answers its own number of values read and its
+    /// place".
     fn fault(&self, number: u32) -> Fault {
         Fault {
             number,
@@ -274,7 +260,7 @@ impl<'a> Reader<'a> {
     }
 
     /// The `count` bits that begin `from` bits after the place, or 5.
-    fn take(&self, from: usize, count: u32) -> Result<u32, Fault> {
+    fn take(&self, from: usize, count: u32) -> Read<u32> {
         let start = self.place + from;
         let places = start..start + count as usize;
         if places.end > 8 * self.stream.len() {
@@ -285,14 +271,9 @@ impl<'a> Reader<'a> {
     }
 
     /// The next value, and the reader after it. Refusals: 2 3, then 5 to 7, the reader unchanged.
-    pub fn next_value(&self) -> Result<(Row, Self), Fault> {
-        let refused = |number| Fault {
-            number,
-            value: 0,
-            place: 0,
-        };
-        refuse_if(!self.may_be_used(), refusal::STATE).map_err(refused)?;
-        refuse_if(self.length == MOST_VALUES, refusal::LIMIT).map_err(refused)?;
+    pub fn next_value(&self) -> Read<(Row, Self)> {
+        refuse_if(!self.may_be_used(), refusal::STATE)?;
+        refuse_if(self.length == MOST_VALUES, refusal::LIMIT)?;
         let row = self.row()?;
         let next = Self {
             last_value: row.value,
@@ -305,7 +286,7 @@ impl<'a> Reader<'a> {
     }
 
     /// The code at the place.
-    fn row(&self) -> Result<Row, Fault> {
+    fn row(&self) -> Read<Row> {
         if self.length == 0 && self.with_first {
             let value = self.take(0, 32)?;
             return Ok(self.as_row(Kind::Raw, 32, value, self.window));
@@ -320,7 +301,7 @@ impl<'a> Reader<'a> {
     }
 
     /// "A `0` code with no window is 6 at once."
-    fn keep_row(&self) -> Result<Row, Fault> {
+    fn keep_row(&self) -> Read<Row> {
         if self.window == Window::OPENING {
             return Err(self.fault(refusal::NO_WINDOW));
         }
@@ -332,7 +313,7 @@ impl<'a> Reader<'a> {
 
     /// "A `11` header needs 11 more bits (else 5), then 7 is judged, then the meaningful bits are
     /// needed (else 5)."
-    fn new_row(&self) -> Result<Row, Fault> {
+    fn new_row(&self) -> Read<Row> {
         let header = self.take(2, 11)?;
         let (leading, meaningful) = (header >> 6, header & 63);
         if meaningful == 0 || leading + meaningful > 32 {
@@ -356,31 +337,26 @@ impl<'a> Reader<'a> {
         }
     }
 
-    /// Judges what follows the place: "a set padding bit or a further byte". Refusals: 2 8.
-    pub fn end(&self) -> Result<(), Fault> {
-        if !self.may_be_used() {
-            return Err(Fault {
-                number: refusal::STATE,
-                value: 0,
-                place: 0,
-            });
-        }
+    /// Judges what follows the place: "a set padding bit or a further byte". It answers "the number it has
+    /// read", and the place "of the first set padding bit, or of the first extra byte's first bit if no
+    /// padding bit is set". Refusals: 2 8.
+    pub fn end(&self) -> Read<()> {
+        refuse_if(!self.may_be_used(), refusal::STATE)?;
         let whole = self.place.next_multiple_of(8);
         let padding = (self.place..whole).find(|&place| get(self.stream, place));
         let further = (whole < 8 * self.stream.len()).then_some(whole);
         match padding.or(further) {
             None => Ok(()),
             Some(place) => Err(Fault {
-                number: refusal::LEFTOVER,
-                value: self.length,
                 place,
+                ..self.fault(refusal::LEFTOVER)
             }),
         }
     }
 }
 
 /// "Reading takes exactly the stream's bytes and a count; count 0 needs no bytes."
-pub fn read_all(bytes: &[u8], count: usize, opening: Opening) -> Result<Vec<Row>, Fault> {
+pub fn read_all(bytes: &[u8], count: usize, opening: Opening) -> Read<Vec<Row>> {
     let (mut reader, mut rows) = (Reader::open(bytes, opening), vec![]);
     for _ in 0..count {
         let (row, next) = reader.next_value()?;
@@ -392,7 +368,7 @@ pub fn read_all(bytes: &[u8], count: usize, opening: Opening) -> Result<Vec<Row>
 }
 
 /// The values of a stream. Refusals: 3 4, then 5 to 8.
-pub fn grid(bytes: &[u8], count: usize, opening: Opening, out: &mut [u32]) -> Answer<()> {
+pub fn grid(bytes: &[u8], count: usize, opening: Opening, out: &mut [u32]) -> Read<()> {
     judge_count(count)?;
     refuse_if(out.len() < count, refusal::OUTPUT)?;
     let rows = read_all(bytes, count, opening)?;
@@ -404,7 +380,7 @@ pub fn grid(bytes: &[u8], count: usize, opening: Opening, out: &mut [u32]) -> An
 
 /// "Sum adds in f32 from the left: from the first value in with-first mode, else from 0; count 0
 /// gives 0." Refusals: 3, then 5 to 8.
-pub fn sum(bytes: &[u8], count: usize, opening: Opening) -> Answer<u32> {
+pub fn sum(bytes: &[u8], count: usize, opening: Opening) -> Read<u32> {
     judge_count(count)?;
     let rows = read_all(bytes, count, opening)?;
     let values: Vec<f32> = rows.iter().map(|row| f32::from_bits(row.value)).collect();

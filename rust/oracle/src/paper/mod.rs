@@ -1,6 +1,6 @@
 //! Document 01 as a plain program: slow, bit by bit, in the order of the paper's sentences.
-//! Values are the 32 bits of an f32 in a u32. A refused call answers its number and has changed
-//! nothing: states go in by value, and lent memory is written last.
+//! Values are the 32 bits of an f32 in a u32. A refused call answers why and has changed nothing:
+//! states go in by value, and lent memory is written last.
 
 pub mod bits;
 pub mod listing;
@@ -14,6 +14,31 @@ pub mod types;
 
 /// What a call answers: its values, or the number of its refusal.
 pub type Answer<T> = Result<T, u32>;
+
+/// What a call that reads a stream answers: its values, or why and where that was refused.
+pub type Read<T> = Result<T, Fault>;
+
+/// "Refusals 5 to 8 shall carry the number of the value being read, counted from 0, and the bit place
+/// where its code begins; for 8 the value number is the count and the place is that of the first set
+/// padding bit, or of the first extra byte's first bit if no padding bit is set. All callers pass both
+/// on unchanged ...; other numbers ... show 0 and 0."
+#[derive(Clone, Copy, Debug, PartialEq)]
+pub struct Fault {
+    pub number: u32,
+    pub value: usize,
+    pub place: usize,
+}
+
+impl From<u32> for Fault {
+    /// A refusal that carries neither.
+    fn from(number: u32) -> Fault {
+        Fault {
+            number,
+            value: 0,
+            place: 0,
+        }
+    }
+}
 
 /// "At most 65,536 values a call or stream".
 pub const MOST_VALUES: usize = 65_536;

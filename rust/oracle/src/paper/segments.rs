@@ -8,7 +8,7 @@ use super::types::{
     Extremes, PMC_MEAN_ID, SWING_ID, decode_values_for_pmc_mean, decode_values_for_swing,
     pmc_mean_bytes, swing_bytes,
 };
-use super::{Answer, MOST_RESIDUALS, judge_count, judge_times, pmc_mean, refusal, refuse_if};
+use super::{Answer, MOST_RESIDUALS, Read, judge_count, judge_times, pmc_mean, refusal, refuse_if};
 
 /// What writing a segment answers: its minimum and maximum, and how many bytes each output took.
 #[derive(Clone, Copy, Debug, PartialEq)]
@@ -134,8 +134,9 @@ impl<'a> Segment<'a> {
     }
 
     /// All values, the model's and then the residuals', into lent memory. "The reader opens on the
-    /// decoded last value." Refusals: 3 12 4 10 9 11, then 5 to 8.
-    pub fn grid(&self, out: &mut [u32]) -> Answer<()> {
+    /// decoded last value." Refusals: 3 12 4 10 9 11, then 5 to 8: "in a segment, places count from the
+    /// residual stream's first byte".
+    pub fn grid(&self, out: &mut [u32]) -> Read<()> {
         let judged = self.judge(Some(out.len()))?;
         let opening = Opening::On(judged.last_value);
         let rows = read_all(self.stream(), self.residual_count(), opening)?;
@@ -152,17 +153,17 @@ impl<'a> Segment<'a> {
     }
 
     /// The sum by average with the count of owned timestamps. Refusals: 3 12 10 9 11, then 5 to 8.
-    pub fn sum_by_average(&self) -> Answer<u32> {
+    pub fn sum_by_average(&self) -> Read<u32> {
         self.sum(|judged| swing::sum_by_average(judged.line(), judged.owned.len()))
     }
 
     /// The sum over the owned timestamps. Refusals: 3 12 10 9 11, then 5 to 8.
-    pub fn sum_over_times(&self) -> Answer<u32> {
+    pub fn sum_over_times(&self) -> Read<u32> {
         self.sum(|judged| swing::sum_over(judged.line(), judged.owned))
     }
 
     /// The model's sum plus the residuals', in f32; without residuals the model's alone.
-    fn sum(&self, swing_sum: fn(&Judged) -> Answer<u32>) -> Answer<u32> {
+    fn sum(&self, swing_sum: fn(&Judged) -> Answer<u32>) -> Read<u32> {
         let judged = self.judge(None)?;
         let opening = Opening::On(judged.last_value);
         let of_residuals = macaque_v::sum(self.stream(), self.residual_count(), opening)?;

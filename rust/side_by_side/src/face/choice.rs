@@ -1,21 +1,22 @@
 //! The choice: a builder's row is that of PMC-Mean and then that of Swing, the last word of each a flag.
 
 use super::fit::{NO_LENGTH, in_room, metadata, pmc_mean_in, put_pmc_mean, put_swing, swing_in};
-use super::{allowed_bound, judge_words, number};
+use super::{allowed_bound, judge_words, told};
+use modelardb_rattle::Fault;
 use modelardb_rattle::ffi::{MODEL_BUILDER_WORDS, PMC_MEAN_WORDS, SELECTED_MODEL_WORDS, Words};
-use oracle::paper::Answer;
 use oracle::paper::types::{self, Model, ModelBuilder};
+use oracle::paper::{Answer, Read};
 
-pub fn new(bound: Words, row: &mut [u64]) -> u32 {
-    number(|| {
+pub fn new(bound: Words, row: &mut [u64]) -> Fault {
+    told(|| {
         let builder = allowed_bound(bound).and_then(ModelBuilder::new);
         put(row, in_room(builder, MODEL_BUILDER_WORDS, row.len())?);
         Ok(())
     })
 }
 
-pub fn try_to_update_models(row: &mut [u64], timestamp: i64, value: u32) -> u32 {
-    number(|| {
+pub fn try_to_update_models(row: &mut [u64], timestamp: i64, value: u32) -> Fault {
+    told(|| {
         judge_words(row, MODEL_BUILDER_WORDS, &[0, PMC_MEAN_WORDS])?;
         let (_, after) = builder_in(row).try_to_update_models(timestamp, value)?;
         put(row, after);
@@ -23,8 +24,8 @@ pub fn try_to_update_models(row: &mut [u64], timestamp: i64, value: u32) -> u32 
     })
 }
 
-pub fn finish(row: &[u64], m: usize, out: &mut [u64]) -> u32 {
-    number(|| {
+pub fn finish(row: &[u64], m: usize, out: &mut [u64]) -> Fault {
+    told(|| {
         judge_words(row, MODEL_BUILDER_WORDS, &[0, PMC_MEAN_WORDS])?;
         put_model(out, builder_in(row).finish(metadata(m)))
     })
@@ -36,8 +37,8 @@ pub fn choose_model(
     bound: Words,
     m: usize,
     out: &mut [u64],
-) -> u32 {
-    number(|| {
+) -> Fault {
+    told(|| {
         let bound = allowed_bound(bound)?;
         let chosen = types::choose_model(timestamps, values, bound, metadata(m));
         put_model(out, chosen)
@@ -69,7 +70,7 @@ fn put(row: &mut [u64], builder: ModelBuilder) {
 }
 
 /// The chosen model's words to the front of the row.
-fn put_model(out: &mut [u64], model: Answer<Model>) -> Answer<()> {
+fn put_model(out: &mut [u64], model: Answer<Model>) -> Read<()> {
     let model = in_room(model, SELECTED_MODEL_WORDS, out.len())?;
     let words = [
         model.id.into(),

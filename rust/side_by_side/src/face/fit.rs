@@ -1,19 +1,20 @@
 //! PMC-Mean and Swing.
 
-use super::{allowed_bound, judge_words, number};
+use super::{allowed_bound, judge_words, told};
+use modelardb_rattle::Fault;
 use modelardb_rattle::ffi::{Ends, PMC_MEAN_WORDS, SWING_WORDS, Words};
 use oracle::paper::models::ErrorBound::{self, Absolute, Lossless, Relative};
 use oracle::paper::numbers::canonical;
 use oracle::paper::pmc_mean::{self, PMCMean};
 use oracle::paper::refusal::{BOUND, COUNTS, LIMIT, OUTPUT, STATE};
 use oracle::paper::swing::{self, Line, Swing};
-use oracle::paper::{Answer, MOST_VALUES};
+use oracle::paper::{Answer, Fault as Refused, MOST_VALUES, Read};
 
 /// A length that no state may have, for a row that stands for none.
 pub const NO_LENGTH: usize = MOST_VALUES + 1;
 
-pub fn pmc_mean_new(bound: Words, row: &mut [u64]) -> u32 {
-    number(|| {
+pub fn pmc_mean_new(bound: Words, row: &mut [u64]) -> Fault {
+    told(|| {
         let state = allowed_bound(bound).and_then(PMCMean::new);
         let state = in_room(state, PMC_MEAN_WORDS, row.len())?;
         put_pmc_mean(row, state, false);
@@ -21,8 +22,8 @@ pub fn pmc_mean_new(bound: Words, row: &mut [u64]) -> u32 {
     })
 }
 
-pub fn pmc_mean_fit_value(row: &mut [u64], value: u32) -> u32 {
-    number(|| {
+pub fn pmc_mean_fit_value(row: &mut [u64], value: u32) -> Fault {
+    told(|| {
         judge_words(row, PMC_MEAN_WORDS, &[0])?;
         let (fits, state) = pmc_mean_in(row).fit_value(value)?;
         put_pmc_mean(row, state, fits);
@@ -30,26 +31,26 @@ pub fn pmc_mean_fit_value(row: &mut [u64], value: u32) -> u32 {
     })
 }
 
-pub fn pmc_mean_bytes_per_value(row: &[u64], m: usize, out: &mut [u32]) -> u32 {
+pub fn pmc_mean_bytes_per_value(row: &[u64], m: usize, out: &mut [u32]) -> Fault {
     ask(row, PMC_MEAN_WORDS, out, || {
         Ok([pmc_mean_in(row).bytes_per_value(metadata(m))?])
     })
 }
 
-pub fn pmc_mean_model(row: &[u64], out: &mut [u32]) -> u32 {
+pub fn pmc_mean_model(row: &[u64], out: &mut [u32]) -> Fault {
     ask(row, PMC_MEAN_WORDS, out, || Ok([pmc_mean_in(row).model()?]))
 }
 
-pub fn pmc_mean_sum(count: usize, value: u32, out: &mut [u32]) -> u32 {
+pub fn pmc_mean_sum(count: usize, value: u32, out: &mut [u32]) -> Fault {
     ask(&[], 0, out, || Ok([pmc_mean::sum(count, value)?]))
 }
 
-pub fn pmc_mean_grid(value: u32, count: usize, out: &mut [u32]) -> u32 {
-    number(|| pmc_mean::grid(value, count, out))
+pub fn pmc_mean_grid(value: u32, count: usize, out: &mut [u32]) -> Fault {
+    told(|| Ok(pmc_mean::grid(value, count, out)?))
 }
 
-pub fn swing_new(bound: Words, row: &mut [u64]) -> u32 {
-    number(|| {
+pub fn swing_new(bound: Words, row: &mut [u64]) -> Fault {
+    told(|| {
         let state = allowed_bound(bound).and_then(Swing::new);
         let state = in_room(state, SWING_WORDS, row.len())?;
         put_swing(row, state, false);
@@ -57,8 +58,8 @@ pub fn swing_new(bound: Words, row: &mut [u64]) -> u32 {
     })
 }
 
-pub fn swing_fit_data_point(row: &mut [u64], timestamp: i64, value: u32) -> u32 {
-    number(|| {
+pub fn swing_fit_data_point(row: &mut [u64], timestamp: i64, value: u32) -> Fault {
+    told(|| {
         judge_words(row, SWING_WORDS, &[0])?;
         let (fits, state) = swing_in(row).fit_data_point(timestamp, value)?;
         put_swing(row, state, fits);
@@ -66,32 +67,32 @@ pub fn swing_fit_data_point(row: &mut [u64], timestamp: i64, value: u32) -> u32 
     })
 }
 
-pub fn swing_bytes_per_value(row: &[u64], m: usize, out: &mut [u32]) -> u32 {
+pub fn swing_bytes_per_value(row: &[u64], m: usize, out: &mut [u32]) -> Fault {
     ask(row, SWING_WORDS, out, || {
         Ok([swing_in(row).bytes_per_value(metadata(m))?])
     })
 }
 
-pub fn swing_model(row: &[u64], out: &mut [u32]) -> u32 {
+pub fn swing_model(row: &[u64], out: &mut [u32]) -> Fault {
     ask(row, SWING_WORDS, out, || {
         swing_in(row).model().map(|(first, last)| [first, last])
     })
 }
 
-pub fn swing_sum_by_average(ends: Ends, count: usize, out: &mut [u32]) -> u32 {
+pub fn swing_sum_by_average(ends: Ends, count: usize, out: &mut [u32]) -> Fault {
     ask(&[], 0, out, || {
         Ok([swing::sum_by_average(line(ends), count)?])
     })
 }
 
-pub fn swing_sum_over(ends: Ends, timestamps: &[i64], out: &mut [u32]) -> u32 {
+pub fn swing_sum_over(ends: Ends, timestamps: &[i64], out: &mut [u32]) -> Fault {
     ask(&[], 0, out, || {
         Ok([swing::sum_over(line(ends), timestamps)?])
     })
 }
 
-pub fn swing_grid(ends: Ends, timestamps: &[i64], out: &mut [u32]) -> u32 {
-    number(|| swing::grid(line(ends), timestamps, out))
+pub fn swing_grid(ends: Ends, timestamps: &[i64], out: &mut [u32]) -> Fault {
+    told(|| Ok(swing::grid(line(ends), timestamps, out)?))
 }
 
 pub fn line(((start_time, end_time), (first_value, last_value)): Ends) -> Line {
@@ -109,8 +110,8 @@ fn ask<const N: usize>(
     words: usize,
     out: &mut [u32],
     call: impl FnOnce() -> Answer<[u32; N]>,
-) -> u32 {
-    number(|| {
+) -> Fault {
+    told(|| {
         judge_words(row, words, &[0])?;
         let answer = in_room(call(), N, out.len())?;
         out[..N].copy_from_slice(&answer);
@@ -119,11 +120,11 @@ fn ask<const N: usize>(
 }
 
 /// A row too short for the answer is 4, behind 1, 2, 3 and 12 and before the others.
-pub fn in_room<A>(answer: Answer<A>, words: usize, room: usize) -> Answer<A> {
-    match answer {
-        Err(BOUND | STATE | LIMIT | COUNTS) => answer,
-        _ if room < words => Err(OUTPUT),
-        _ => answer,
+pub fn in_room<A>(answer: Result<A, impl Into<Refused>>, words: usize, room: usize) -> Read<A> {
+    match answer.map_err(Into::into) {
+        Err(refused) if matches!(refused.number, BOUND | STATE | LIMIT | COUNTS) => Err(refused),
+        _ if room < words => Err(OUTPUT.into()),
+        answer => answer,
     }
 }
 

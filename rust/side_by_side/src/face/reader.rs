@@ -1,13 +1,14 @@
 //! The reader by document 01, behind rows of words.
 
-use super::{judge_words, number, opening_in};
+use super::{judge_words, opening_in, told};
+use modelardb_rattle::Fault;
 use modelardb_rattle::ffi::{READER_WORDS, Words};
 use oracle::paper::macaque_v::{Reader, Window, read_all};
 use oracle::paper::refusal::{LIMIT, OUTPUT, STATE};
 use oracle::paper::{Answer, MOST_VALUES, judge_count, refuse_if};
 
-pub fn open(opening: Words, row: &mut [u64]) -> u32 {
-    number(|| {
+pub fn open(opening: Words, row: &mut [u64]) -> Fault {
+    told(|| {
         let opening = opening_in(opening)?;
         refuse_if(row.len() < READER_WORDS, OUTPUT)?;
         put(row, &Reader::open(&[], opening));
@@ -16,8 +17,8 @@ pub fn open(opening: Words, row: &mut [u64]) -> u32 {
 }
 
 /// 4 for the output has its place behind 2 and 3.
-pub fn next(bytes: &[u8], row: &mut [u64], out: &mut [u32]) -> u32 {
-    number(|| {
+pub fn next(bytes: &[u8], row: &mut [u64], out: &mut [u32]) -> Fault {
+    told(|| {
         let reader = reader_in(bytes, row)?;
         refuse_if(!reader.may_be_used(), STATE)?;
         refuse_if(reader.length == MOST_VALUES, LIMIT)?;
@@ -29,12 +30,12 @@ pub fn next(bytes: &[u8], row: &mut [u64], out: &mut [u32]) -> u32 {
     })
 }
 
-pub fn end(bytes: &[u8], row: &[u64]) -> u32 {
-    number(|| Ok(reader_in(bytes, row)?.end()?))
+pub fn end(bytes: &[u8], row: &[u64]) -> Fault {
+    told(|| reader_in(bytes, row)?.end())
 }
 
-pub fn last_value(bytes: &[u8], count: usize, opening: Words, out: &mut [u32]) -> u32 {
-    number(|| {
+pub fn last_value(bytes: &[u8], count: usize, opening: Words, out: &mut [u32]) -> Fault {
+    told(|| {
         let opening = opening_in(opening)?;
         judge_count(count)?;
         refuse_if(out.is_empty(), OUTPUT)?;

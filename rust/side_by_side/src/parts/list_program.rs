@@ -14,10 +14,14 @@ const PROGRAM: &str = concat!(env!("CARGO_MANIFEST_DIR"), "/../../target/bin/lis
 /// "At most 32,768 bytes in all."
 const MOST_INPUT: usize = 32_768;
 
+/// Marked case b with its count.
+const CASE_B: [u8; 12] = [4, 0, 0, 0, 0x3F, 0x80, 0, 0, 0xB0, 0x91, 0xFE, 0xFF];
+
 pub fn list_program(context: &mut Context) {
     for (name, input) in limits() {
         both(context, &input, name);
     }
+    broken(context);
     for _ in 0..context.rounds(300) {
         let count = context.inputs.below(40) as usize;
         let values: Vec<u32> = (0..count).map(|_| context.inputs.value()).collect();
@@ -28,16 +32,27 @@ pub fn list_program(context: &mut Context) {
     }
 }
 
+/// Case b with each bit flipped, its count's too, and cut to each length.
+fn broken(context: &mut Context) {
+    for place in 0..8 * CASE_B.len() {
+        let mut flipped = CASE_B;
+        flipped[place / 8] ^= 128 >> (place % 8);
+        both(context, &flipped, "case b with a bit flipped");
+    }
+    for length in 0..CASE_B.len() {
+        both(context, &CASE_B[..length], "case b cut short");
+    }
+}
+
 /// Inputs at the program's limits: their names, and what is handed in.
 fn limits() -> Vec<(&'static str, Vec<u8>)> {
-    let case_b = [4, 0, 0, 0, 0x3F, 0x80, 0, 0, 0xB0, 0x91, 0xFE, 0xFF];
-    let case_a = [&[3], &case_b[1..11]].concat();
+    let case_a = [&[3], &CASE_B[1..11]].concat();
     let mut repeats = written(&vec![ONE; MOST_VALUES], false);
     let rows_of_repeats = repeats.clone();
     repeats[..4].copy_from_slice(&(MOST_VALUES as u32 - 1).to_le_bytes());
     vec![
         ("case a", case_a),
-        ("case b", case_b.to_vec()),
+        ("case b", CASE_B.to_vec()),
         ("nothing", vec![]),
         ("three bytes", vec![0; 3]),
         ("count 0", vec![0; 4]),
@@ -70,7 +85,7 @@ fn written(values: &[u32], rounded: bool) -> Vec<u8> {
     [&count[..], &buffer[..writer.bytes_used()]].concat()
 }
 
-fn both(context: &mut Context, input: &[u8], name: &str) {
+pub fn both(context: &mut Context, input: &[u8], name: &str) {
     let shown = || {
         format!(
             "list on {name}, {} bytes {:02X?}",

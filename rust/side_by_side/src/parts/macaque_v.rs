@@ -3,6 +3,7 @@
 use crate::context::Context;
 use crate::inputs::DOZEN;
 use crate::shape;
+use oracle::paper::Read;
 use oracle::paper::macaque_v::{self, MacaqueV, Opening};
 use oracle::paper::models::ErrorBound::{self, Absolute, Lossless, Relative};
 use oracle::paper::models::is_value_within_error_bound;
@@ -99,7 +100,7 @@ pub fn compare_written(
     }
 }
 
-fn read(bytes: &[u8], count: usize, opening: Opening) -> Result<Vec<u32>, u32> {
+fn read(bytes: &[u8], count: usize, opening: Opening) -> Read<Vec<u32>> {
     let mut out = vec![0; count];
     macaque_v::grid(bytes, count, opening, &mut out).map(|()| out)
 }
@@ -129,9 +130,9 @@ fn compare_reading(context: &mut Context, bytes: &[u8], count: usize, opening: O
             (rust.read)(bytes, count, opening),
             (rust.sum)(bytes, count, opening),
         );
-        match paper {
+        match paper.as_ref().map_err(|refused| refused.number) {
             _ if count == 0 => {}
-            Ok(ref values) => {
+            Ok(values) => {
                 let ours = (Some(values.clone()), sum.ok());
                 context.same(rust.name, ours, theirs, input);
             }

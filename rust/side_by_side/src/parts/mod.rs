@@ -1,6 +1,7 @@
 //! The parts of the comparison.
 
 mod bounds;
+mod broken;
 mod choice;
 mod differences;
 mod library_fit;
@@ -55,6 +56,7 @@ pub const ALL: &[Part] = &[
     Part::new("library: segments damaged", library_segments::damaged),
     Part::new("library: segments' causes", library_segments::causes),
     Part::new("library: segments of a run", library_segments::paths),
+    Part::new("library: broken streams", broken::broken),
     Part::new("parameter bytes", parameters::parameters),
     Part::new("segments", segments::segments),
     Part::new("list", list_program::list_program),

@@ -3,6 +3,7 @@
 use crate::context::Context;
 use crate::parts::swing::{is_no_line, is_regular};
 use crate::shape;
+use oracle::paper::Fault;
 use oracle::paper::macaque_v::Opening;
 use oracle::paper::models::ErrorBound::{self, Lossless};
 use oracle::paper::numbers::{bits_of_f32, canonical};
@@ -139,9 +140,8 @@ fn as_floats(extremes: Extremes) -> [u32; 2] {
     [float(extremes.min_value), float(extremes.max_value)]
 }
 
-/// The number by which a segment of valid times is refused: 12, 10, 9, 11, then 5 to 8 by the shape of
-/// its residual stream.
-pub fn refusal_of(segment: Segment) -> Option<u32> {
+/// How a segment of valid times is refused: 12, 10, 9, 11, then 5 to 8 by the shape of its residual stream.
+pub fn refusal_of(segment: Segment) -> Option<Fault> {
     let count = usize::from(segment.residuals.last().copied().unwrap_or(0));
     let is_swing = segment.model == SWING_ID;
     let Some(owned) = segment
@@ -150,10 +150,10 @@ pub fn refusal_of(segment: Segment) -> Option<u32> {
         .checked_sub(count)
         .filter(|&n| n > 0)
     else {
-        return Some(refusal::COUNTS);
+        return Some(refusal::COUNTS.into());
     };
     if is_swing && owned == 1 {
-        return Some(refusal::TIMES);
+        return Some(refusal::TIMES.into());
     }
     let is_form = match segment.values.len() {
         0 | 1 => true,
@@ -163,12 +163,12 @@ pub fn refusal_of(segment: Segment) -> Option<u32> {
         _ => false,
     };
     if !is_form || (count == 0 && !segment.residuals.is_empty()) {
-        return Some(refusal::FORM);
+        return Some(refusal::FORM.into());
     }
     let ends = decoded(segment.model, segment.extremes, segment.values);
     let (first, last) = ends.expect("parameters of a form");
     if is_swing && is_no_line(first, last) {
-        return Some(refusal::NO_MODEL);
+        return Some(refusal::NO_MODEL.into());
     }
     let stream = &segment.residuals[..segment.residuals.len().saturating_sub(1)];
     shape::refusal_of(stream, count, Opening::On(last))

@@ -2,7 +2,7 @@
 //! before.
 
 use crate::context::Context;
-use crate::face::numbered;
+use crate::face::placed;
 use crate::parts::segments::decoded;
 use crate::parts::swing::{is_no_line, is_regular};
 use modelardb_rattle as library;
@@ -93,8 +93,12 @@ fn read_here(context: &mut Context, old: &Old) {
     let runs_off = old.model.id == SWING_ID && is_no_line(ends.0, ends.1);
     let mut out = vec![0; old.times.len()];
     let ours = of_library(old.model.id, &old.stored);
-    let drawn = numbered(ours.grid_bits(&old.times, &mut out));
-    let listed = if runs_off { Err(NO_MODEL) } else { Ok(()) };
+    let drawn = placed(ours.grid_bits(&old.times, &mut out));
+    let listed = if runs_off {
+        Err(NO_MODEL.into())
+    } else {
+        Ok(())
+    };
     context.same("library", listed, drawn, || old.input());
     if drawn == Ok(()) && !runs_off {
         beside_the_text(context, old, ends, &out);
@@ -187,22 +191,12 @@ fn of_a_stream(context: &mut Context, rust: &Calls) {
     let segment = as_read(MACAQUE_V_ID, &stored, &times);
     let mut out = vec![0; count];
     let refused = of_library(MACAQUE_V_ID, &stored).grid_bits(&times, &mut out);
-    context.same("library", Err(LIMIT), numbered(refused), input);
+    context.same("library", Err(LIMIT.into()), placed(refused), input);
     let (bytes, first) = (&stored.values, library::Opening::First);
     let drawn = library::macaque_v::grid_bits(bytes, count, first, &mut out).map(|()| out);
-    context.same(
-        "stream",
-        numbered(drawn).ok(),
-        (rust.segment_grid)(segment),
-        input,
-    );
+    context.same("stream", drawn.ok(), (rust.segment_grid)(segment), input);
     let sum = library::macaque_v::sum_bits(bytes, count, first);
-    context.same(
-        "stream's sum",
-        numbered(sum).ok(),
-        (rust.segment_sum)(segment),
-        input,
-    );
+    context.same("stream's sum", sum.ok(), (rust.segment_sum)(segment), input);
 }
 
 /// 9: A line of more values than a call takes, drawn in two parts.

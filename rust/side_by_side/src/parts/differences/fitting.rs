@@ -88,10 +88,8 @@ fn minimum_of_zeros() -> Row {
         let state = zeros.into_iter().fold(pmc_mean_under(Lossless), step);
         Some(state.min_value.to_bits())
     };
-    let here = (
-        Ok(paper.min_value.to_bits()),
-        Ok(ours.min_value().to_bits()),
-    );
+    let least: Answer<u32> = Ok(paper.min_value.to_bits());
+    let here = (least, Ok(ours.min_value().to_bits()));
     row(
         "PMC-Mean, Lossless: 0, then −0: the least",
         here,
@@ -292,8 +290,8 @@ fn choices_of_no_model() -> Vec<Row> {
         Ok((model.id, model.length, model.last_value))
     };
     let mut out = [0; 5];
-    let number = library::ffi::model_builder_finish(&builder.row(), 1, &mut out);
-    let ours = match Refusal::from_number(number) {
+    let fault = library::ffi::model_builder_finish(&builder.row(), 1, &mut out);
+    let ours = match Refusal::from_fault(fault) {
         Some(refusal) => Err(refusal),
         None => Ok((out[0] as u32, out[1] as usize, out[3] as u32)),
     };

@@ -123,7 +123,7 @@ fn sum(input: &'static str, line: Line, times: Vec<i64>) -> Row {
     let over = library::swing::sum_over_bits(ours, &times);
     let number = both_forms(numbered(average), numbered(over));
     let library =
-        number.map_err(|number| library::Refusal::from_number(number).expect("a refusal"));
+        number.map_err(|number| library::Refusal::from_fault(number.into()).expect("a refusal"));
     let there = move |rust: &Calls| Some(decimal((rust.swing_sum)(line, &times)));
     row(input, (paper, library), there, |said| said)
 }

@@ -2,13 +2,14 @@
 //! on the smallest ones alone.
 
 use crate::context::Context;
-use crate::face::numbered;
+use crate::face::placed;
 use crate::parts::parameters::any_form;
 use crate::parts::segments::{decoded, refusal_of};
 use crate::parts::swing::is_no_line;
 use crate::shape;
 use modelardb_rattle as library;
 use oracle::builds::ARE_DEBUG;
+use oracle::paper::Fault;
 use oracle::paper::macaque_v::Opening;
 use oracle::paper::numbers::{NAN_32, canonical, rounded, wide};
 use oracle::paper::refusal::{ENDS_EARLY, NO_WINDOW, WINDOW};
@@ -35,14 +36,14 @@ pub fn refused(context: &mut Context) {
             values: &values,
             residuals: &residuals,
         };
-        if let Some(number) = refusal_of(segment) {
-            one(context, segment, number);
+        if let Some(refused) = refusal_of(segment) {
+            one(context, segment, refused);
         }
     }
 }
 
-fn one(context: &mut Context, segment: Segment, number: u32) {
-    let input = || format!("refused {number}: {segment:X?}");
+fn one(context: &mut Context, segment: Segment, refused: Fault) {
+    let input = || format!("{refused:?}: {segment:X?}");
     let ours = library::Segment {
         model_type_id: segment.model,
         min_value_bits: segment.extremes.min_value,
@@ -52,8 +53,8 @@ fn one(context: &mut Context, segment: Segment, number: u32) {
     };
     let mut out = vec![0; segment.timestamps.len()];
     let paper = segment.grid(&mut out);
-    let ours = numbered(ours.grid_bits(segment.timestamps, &mut out));
-    context.same("library", (Err(number), Err(number)), (paper, ours), input);
+    let ours = placed(ours.grid_bits(segment.timestamps, &mut out));
+    context.same("library", [Err(refused); 2], [paper, ours], input);
     let listed = drawn_there(segment);
     for rust in context
         .rust
@@ -93,7 +94,8 @@ fn drawn_there(segment: Segment) -> Option<Theirs> {
         return None;
     }
     if let Some((&count, stream)) = segment.residuals.split_last() {
-        match shape::refusal_of(stream, count.into(), Opening::On(0)) {
+        let refused = shape::refusal_of(stream, count.into(), Opening::On(0));
+        match refused.map(|refused| refused.number) {
             _ if stream.is_empty() => return None,
             Some(ENDS_EARLY) => return None,
             Some(NO_WINDOW | WINDOW) => return Some(Theirs::Anything),

@@ -1,10 +1,10 @@
 //! Answers as the list says them.
 
 use super::table::FAULTS;
-use crate::face::numbered;
+use crate::face::placed;
 use modelardb_rattle::Refusal;
 use oracle::faults::caught;
-use oracle::paper::Answer;
+use oracle::paper::{Fault, Read};
 use oracle::rust::Calls;
 
 /// What a build of the text says, or that it faults.
@@ -29,15 +29,19 @@ impl Row {
 /// A row of which all sides answer an `A`, and how that is said. `None` is a fault.
 pub fn row<A: 'static>(
     input: &'static str,
-    (paper, library): (Answer<A>, Result<A, Refusal>),
+    (paper, library): (Result<A, impl Into<Fault>>, Result<A, Refusal>),
     there: impl Fn(&Calls) -> Option<A> + 'static,
     say: impl Fn(A) -> String + 'static,
 ) -> Row {
-    let said = |answer: Answer<A>| match answer {
+    let (paper, library) = (paper.map_err(Into::into), placed(library));
+    let refused = paper.as_ref().err().copied();
+    // The list tells a refusal by its number. Where the library's value or place is another, all is said.
+    let said = |answer: Read<A>| match answer {
         Ok(answer) => say(answer),
-        Err(number) => format!("refused, {number}"),
+        Err(fault) if Some(fault) == refused => format!("refused, {}", fault.number),
+        Err(fault) => format!("{fault:?}"),
     };
-    let (paper, library) = (said(paper), said(numbered(library)));
+    let (paper, library) = (said(paper), said(library));
     Row {
         input,
         paper,

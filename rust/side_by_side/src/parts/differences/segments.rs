@@ -12,7 +12,7 @@ use oracle::paper::types::{
     Extremes, Model, decode_values_for_pmc_mean, decode_values_for_swing, pmc_mean_bytes,
     swing_bytes,
 };
-use oracle::paper::{Answer, MOST_VALUES};
+use oracle::paper::{Answer, MOST_VALUES, Read};
 use oracle::rust::Calls;
 
 const NONE: Extremes = Extremes {
@@ -93,7 +93,7 @@ impl Stored {
     }
 
     /// The grids of the paper and of the library.
-    fn grids(&self) -> (Answer<Vec<u32>>, Result<Vec<u32>, Refusal>) {
+    fn grids(&self) -> (Read<Vec<u32>>, Result<Vec<u32>, Refusal>) {
         let (mut out, mut ours) = (vec![0; self.times.len()], vec![0; self.times.len()]);
         let paper = self.of_paper().grid(&mut out).map(|()| out);
         let library = self.of_library().grid_bits(&self.times, &mut ours);
@@ -154,9 +154,10 @@ fn parameters() -> [Row; 3] {
     let (min, max) = (four_to_six.min_value, four_to_six.max_value);
     let length = ours::encode_values_for_pmc_mean_bits(NAN_32, min, max, &mut out);
     let library = length.map(|length| read(out[..length].to_vec()));
+    let paper: Answer<Form> = Ok(read(pmc_mean_bytes(NAN_32, four_to_six)));
     let of_pmc_mean = row(
         "parameter bytes of PMC-Mean NaN, residuals 4 to 6",
-        (Ok(read(pmc_mean_bytes(NAN_32, four_to_six))), library),
+        (paper, library),
         move |rust| Some(read((rust.encode_pmc)(NAN_32, four_to_six))),
         form,
     );
@@ -182,7 +183,7 @@ fn of_swing(input: &'static str, (first, last): (u32, u32)) -> Row {
     let mut out = [0; 8];
     let length = ours::encode_values_for_swing_bits(first, last, NAN_32, NAN_32, &mut out);
     let library = length.map(|length| read(out[..length].to_vec()));
-    let paper = Ok(read(swing_bytes(first, last, NONE)));
+    let paper: Answer<Form> = Ok(read(swing_bytes(first, last, NONE)));
     let there = move |rust: &Calls| Some(read((rust.encode_swing)(first, last, NONE)));
     row(input, (paper, library), there, form)
 }

@@ -8,7 +8,7 @@ use oracle::paper::macaque_v::{self, MacaqueV, Opening};
 use oracle::paper::models::ErrorBound::{self, Absolute, Lossless, Relative};
 use oracle::paper::models::is_value_within_error_bound;
 use oracle::paper::numbers::bits_of_f32;
-use oracle::paper::{Answer, MOST_VALUES};
+use oracle::paper::{Answer, Fault, MOST_VALUES};
 use oracle::rust::{Call, Calls};
 
 const ON_ONE: Opening = Opening::On(ONE);
@@ -84,7 +84,8 @@ fn kept_one(input: &'static str, bound: ErrorBound, (last, value): (u32, u32)) -
         let mut out = [0];
         macaque_v::grid(&bytes, 1, opening, &mut out).map(|()| out[0])
     };
-    let paper = by_paper(bound, opening, &[&[value]]).and_then(read);
+    let paper = by_paper(bound, opening, &[&[value]]);
+    let paper = paper.map_err(Fault::from).and_then(read);
     let ours = by_library(bound, opening, &[&[value]]).and_then(|bytes| {
         let mut out = [0];
         library::macaque_v::grid_bits(&bytes, 1, of_library(opening), &mut out).map(|()| out[0])

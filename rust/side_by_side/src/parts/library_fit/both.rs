@@ -1,5 +1,5 @@
-//! Each call of the compiled face and the paper's on the same lent memory: the number and all that is
-//! lent afterwards are compared, and the library's memory stands between guards.
+//! Each call of the compiled face and the paper's on the same lent memory: what is answered, number,
+//! value and place, and all that is lent afterwards are compared, and the library's memory stands between guards.
 
 use super::kinds::{Ask, Kind};
 use super::run::Point;
@@ -8,6 +8,7 @@ use crate::face::{choice, fit};
 use crate::lent::{
     Left, STALE_VALUE, STALE_WORD, TIME_GUARD, VALUE_GUARD, WORD_GUARD, compared, to_read,
 };
+use modelardb_rattle::Fault;
 use modelardb_rattle::ffi::{self, Ends, SELECTED_MODEL_WORDS, Words};
 
 /// A fresh state into the row.
@@ -153,7 +154,7 @@ pub fn average(context: &mut Context, ends: Ends, count: usize, out: &[u32]) -> 
 }
 
 /// A line's sum over a list of times, or its grid.
-pub type Drawing = fn(Ends, &[i64], &mut [u32]) -> u32;
+pub type Drawing = fn(Ends, &[i64], &mut [u32]) -> Fault;
 
 /// The paper's and the library's.
 pub const SUM_OVER: [Drawing; 2] = [fit::swing_sum_over, ffi::swing_sum_over];

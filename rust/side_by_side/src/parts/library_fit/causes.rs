@@ -24,8 +24,8 @@ fn of_new(context: &mut Context) {
         for (bound, cause) in BOUNDS {
             for (length, short) in rooms(kind.words) {
                 let row = vec![STALE_WORD; length];
-                let (number, _) = both::new(context, kind, bound, &row);
-                in_order(context, &[cause, short], number, || {
+                let (fault, _) = both::new(context, kind, bound, &row);
+                in_order(context, &[cause, short], fault, || {
                     format!("{} new {bound:X?} of {length} words", kind.name)
                 });
             }

@@ -2,11 +2,12 @@
 //! library's.
 
 use crate::face::{choice, fit};
+use modelardb_rattle::Fault;
 use modelardb_rattle::ffi::{self, MODEL_BUILDER_WORDS, PMC_MEAN_WORDS, SWING_WORDS, Words};
 
-type New = fn(Words, &mut [u64]) -> u32;
-type Step = fn(&mut [u64], i64, u32) -> u32;
-type Asking = fn(&[u64], usize, &mut [u32]) -> u32;
+type New = fn(Words, &mut [u64]) -> Fault;
+type Step = fn(&mut [u64], i64, u32) -> Fault;
+type Asking = fn(&[u64], usize, &mut [u32]) -> Fault;
 
 pub struct Kind {
     pub name: &'static str,

@@ -7,7 +7,7 @@ use crate::inputs::{ABOUT_MOST, SPECIAL};
 use crate::lent::STALE_VALUE;
 use crate::parts::swing;
 use modelardb_rattle::ffi::Ends;
-use modelardb_rattle::{self as library, Line};
+use modelardb_rattle::{self as library, Fault, Line};
 use oracle::paper::{Answer, MOST_VALUES};
 
 /// None, few, the limit, and what lies beyond it.
@@ -93,7 +93,7 @@ fn by_each_call(context: &mut Context, ends: Ends, times: &[i64]) {
     by_the_safe_calls(context, ends, times, answers);
     let ((start, end), (first, last)) = ends;
     let are_its_own = times.first() == Some(&start) && times.last() == Some(&end);
-    if are_its_own && drew == 0 && !swing::is_no_line(first, last) {
+    if are_its_own && drew == Fault::ACCEPTED && !swing::is_no_line(first, last) {
         let is_regular = swing::is_regular(times);
         let sum = if is_regular { average[0] } else { sum[0] };
         swing::beside_the_rust(context, fit::line(ends), times, (Ok(sum), &grid));
@@ -101,8 +101,11 @@ fn by_each_call(context: &mut Context, ends: Ends, times: &[i64]) {
 }
 
 /// What a call answered.
-fn answer<A>(number: u32, answer: A) -> Answer<A> {
-    if number == 0 { Ok(answer) } else { Err(number) }
+fn answer<A>(fault: Fault, answer: A) -> Answer<A> {
+    match fault.number {
+        0 => Ok(answer),
+        number => Err(number),
+    }
 }
 
 type Answers = (Answer<Vec<u32>>, Answer<u32>, Answer<u32>);

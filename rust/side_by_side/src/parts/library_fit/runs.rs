@@ -9,6 +9,7 @@ use crate::face;
 use crate::inputs::ABOUT_MOST;
 use crate::lent::STALE_WORD;
 use crate::parts::choice;
+use modelardb_rattle::Fault;
 use modelardb_rattle::ffi::SELECTED_MODEL_WORDS;
 use oracle::paper::MOST_VALUES;
 use oracle::paper::judge_times;
@@ -37,7 +38,7 @@ pub fn runs(context: &mut Context) {
 /// Stepped by each kind of state, and by the whole rule.
 fn over(context: &mut Context, run: &Run) {
     let bound = face::bound_words(run.bound);
-    let mut finished = (0, vec![]);
+    let mut finished = (Fault::ACCEPTED, vec![]);
     let points: Vec<Point> = run.points().collect();
     for kind in &KINDS {
         let row = both::stepped(context, kind, bound, &points);
@@ -72,9 +73,9 @@ fn long(context: &mut Context, bound: ErrorBound, count: usize) {
             let row = both::stepped(context, kind, words, &points);
             both::asked(context, kind, &row, 12);
             let next = (400_000, values[0]);
-            let (number, _) = both::step(context, kind, &row, next);
+            let (fault, _) = both::step(context, kind, &row, next);
             let input = || format!("{} of 65,536 values takes no more", kind.name);
-            context.same("library", refusal::LIMIT, number, input);
+            context.same("library", refusal::LIMIT.into(), fault, input);
         }
     }
     // A last value that no model takes; then another first value too.

@@ -1,17 +1,17 @@
-//! Each call of the compiled face and the paper's on the same lent memory: the number and all that is
-//! lent afterwards are compared, and the library's memory stands between guards.
+//! Each call of the compiled face and the paper's on the same lent memory: what is answered, number,
+//! value and place, and all that is lent afterwards are compared, and the library's memory stands between guards.
 
 use super::source::{Outputs, Source};
 use crate::context::Context;
 use crate::face::segments as face;
 use crate::lent::{BYTE_GUARD, Left, Lent, TIME_GUARD, VALUE_GUARD, WORD_GUARD, compared, to_read};
-use modelardb_rattle::Segment;
 use modelardb_rattle::ffi::{self, Pair, StoredSegment};
+use modelardb_rattle::{Fault, Segment};
 use oracle::paper::{MOST_RESIDUALS, refusal};
 
-type Encode = fn(Pair, Pair, &mut [u8], &mut [u64]) -> u32;
-type Decode = fn(Pair, &[u8], &mut [u32]) -> u32;
-type Read = fn(StoredSegment, &[i64], &mut [u32]) -> u32;
+type Encode = fn(Pair, Pair, &mut [u8], &mut [u64]) -> Fault;
+type Decode = fn(Pair, &[u8], &mut [u32]) -> Fault;
+type Read = fn(StoredSegment, &[i64], &mut [u32]) -> Fault;
 
 /// Parameter bytes of each model, written by the paper and by the library. PMC-Mean has one parameter.
 const ENCODE: [[Encode; 2]; 2] = [
@@ -40,17 +40,17 @@ pub const GRID: [Read; 2] = [face::segment_grid, ffi::segment_grid];
 pub const BY_AVERAGE: [Read; 2] = [face::segment_sum_by_average, ffi::segment_sum_by_average];
 pub const OVER: [Read; 2] = [face::segment_sum_over, ffi::segment_sum_over];
 
-/// Parameter bytes of a model into `out`, and how many they are into `row`: the number, and both.
+/// Parameter bytes of a model into `out`, and how many they are into `row`: what is answered, and both.
 pub fn encoded(
     context: &mut Context,
     (model, ends): (u32, Pair),
     residuals: Pair,
     out: &[u8],
     row: &[u64],
-) -> (u32, Vec<u8>, Vec<u64>) {
+) -> (Fault, Vec<u8>, Vec<u64>) {
     let [paper, library] = ENCODE[model as usize];
     let (mut bytes, mut words) = (out.to_vec(), row.to_vec());
-    let number = paper(ends, residuals, &mut bytes, &mut words);
+    let fault = paper(ends, residuals, &mut bytes, &mut words);
     let mut lent_out = Lent::new(out, BYTE_GUARD);
     let mut lent_row = Lent::new(row, WORD_GUARD);
     let ours = library(ends, residuals, lent_out.lend(), lent_row.lend());
@@ -58,12 +58,12 @@ pub fn encoded(
     let left = (ours, bytes_left.as_deref(), words_left.as_deref());
     let input =
         || format!("parameters of {model} {ends:08X?}, {residuals:08X?} into {out:X?} {row:X?}");
-    if ours != 0 {
+    if ours != Fault::ACCEPTED {
         context.same("a refusal", (ours, Some(out), Some(row)), left, input);
     }
-    let expected = (number, Some(&bytes[..]), Some(&words[..]));
+    let expected = (fault, Some(&bytes[..]), Some(&words[..]));
     context.same("library", expected, left, input);
-    (number, bytes, words)
+    (fault, bytes, words)
 }
 
 /// What parameter bytes of a model give with a segment's extremes into `out`.
@@ -91,11 +91,11 @@ pub fn decoded(
     left
 }
 
-/// A segment into the outputs: the number, and what they hold afterwards.
-pub fn written(context: &mut Context, source: &Source, outputs: &Outputs) -> (u32, Outputs) {
+/// A segment into the outputs: what is answered, and what they hold afterwards.
+pub fn written(context: &mut Context, source: &Source, outputs: &Outputs) -> (Fault, Outputs) {
     let (mut values, mut residuals, mut row) = outputs.clone();
     let (model, bound) = ((source.model, source.ends), source.bound);
-    let number = face::segment_write(
+    let fault = face::segment_write(
         model,
         bound,
         &source.residuals,
@@ -103,7 +103,7 @@ pub fn written(context: &mut Context, source: &Source, outputs: &Outputs) -> (u3
         &mut residuals,
         &mut row,
     );
-    let paper = (number, (values, residuals, row));
+    let paper = (fault, (values, residuals, row));
     written_as(context, &paper, source, outputs);
     paper
 }
@@ -111,7 +111,7 @@ pub fn written(context: &mut Context, source: &Source, outputs: &Outputs) -> (u3
 /// The library alone: it must leave what is given.
 pub fn written_as(
     context: &mut Context,
-    (number, expected): &(u32, Outputs),
+    (fault, expected): &(Fault, Outputs),
     source: &Source,
     outputs: &Outputs,
 ) {
@@ -128,10 +128,10 @@ pub fn written_as(
     let contents = values.zip(residuals).zip(row);
     let contents = contents.map(|((values, residuals), row)| (values, residuals, row));
     let input = || format!("written {source} into {outputs:X?}");
-    if ours != 0 {
+    if ours != Fault::ACCEPTED {
         context.same("a refusal", Some(outputs), contents.as_ref(), input);
     }
-    let expected = (*number, Some(expected), true);
+    let expected = (*fault, Some(expected), true);
     context.same(
         "library",
         expected,
@@ -142,13 +142,13 @@ pub fn written_as(
 
 /// The segment as both wrote it; over 255 residuals are 3.
 pub fn segment_of(context: &mut Context, source: &Source) -> Option<Segment> {
-    let (number, (mut values, mut residuals, row)) = written(context, source, &source.outputs());
+    let (fault, (mut values, mut residuals, row)) = written(context, source, &source.outputs());
     let is_over = source.residuals.len() > MOST_RESIDUALS;
-    let expected = if is_over { refusal::LIMIT } else { 0 };
-    context.same("255 residuals", expected, number, || source.to_string());
+    let expected = Fault::from(if is_over { refusal::LIMIT } else { 0 });
+    context.same("255 residuals", expected, fault, || source.to_string());
     values.truncate(row[2] as usize);
     residuals.truncate(row[3] as usize);
-    (number == 0).then_some(Segment {
+    (fault == Fault::ACCEPTED).then_some(Segment {
         model_type_id: source.model,
         min_value_bits: row[0] as u32,
         max_value_bits: row[1] as u32,

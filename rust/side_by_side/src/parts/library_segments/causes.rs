@@ -39,8 +39,8 @@ fn of_encoding(context: &mut Context) {
                 for (room, short) in sizes_about(length) {
                     let model = (model, (FIVE, FIVE));
                     let (out, row) = (vec![STALE; room], vec![STALE_WORD; words]);
-                    let (number, ..) = both::encoded(context, model, residuals, &out, &row);
-                    in_order(context, &[short_row, short], number, || {
+                    let (fault, ..) = both::encoded(context, model, residuals, &out, &row);
+                    in_order(context, &[short_row, short], fault, || {
                         format!("parameters of {model:X?} {residuals:X?}, room {room}, {words}")
                     });
                 }
@@ -64,8 +64,8 @@ fn of_decoding(context: &mut Context) {
             let cause = if cause == FORM { FORM } else { 0 };
             for (room, short) in rooms(1 + model as usize) {
                 let out = vec![STALE_VALUE; room];
-                let (number, _) = both::decoded(context, model, segment, values, &out);
-                in_order(context, &[cause, short], number, || {
+                let (fault, _) = both::decoded(context, model, segment, values, &out);
+                in_order(context, &[cause, short], fault, || {
                     format!("parameters {values:02X?} of {model}, room {room}")
                 });
             }
@@ -112,9 +112,9 @@ fn in_every_room(context: &mut Context, source: &Source, causes: [u32; 3]) {
                     vec![STALE; residuals],
                     vec![STALE_WORD; words],
                 );
-                let (number, _) = both::written(context, source, &outputs);
+                let (fault, _) = both::written(context, source, &outputs);
                 let short = [short_values, short_residuals, short_row];
-                in_order(context, &[causes, short].concat(), number, || {
+                in_order(context, &[causes, short].concat(), fault, || {
                     format!("{source}, rooms {values} {residuals} {words}")
                 });
             }

@@ -4,12 +4,12 @@
 use super::both;
 use super::source::Source;
 use crate::context::Context;
-use crate::face::segments as face;
+use crate::face::{fault as fault_of, segments as face};
 use crate::inputs::SPECIAL;
 use crate::lent::STALE_VALUE;
 use crate::parts::segments::refusal_of;
-use modelardb_rattle::Segment;
 use modelardb_rattle::ffi::StoredSegment;
+use modelardb_rattle::{Fault, Segment};
 use oracle::paper::judge_times;
 
 pub fn damaged(context: &mut Context) {
@@ -170,13 +170,14 @@ fn changed(context: &mut Context, (segment, times): &Sound, change: impl FnOnce(
 /// the bits alone.
 fn used_as_it_is(context: &mut Context, segment: &Segment, times: &[i64]) {
     let (stored, out) = (StoredSegment::from(segment), vec![STALE_VALUE; times.len()]);
-    let (number, _) = both::read(context, both::GRID, stored, times, &out);
+    let (fault, _) = both::read(context, both::GRID, stored, times, &out);
     for sum in [both::BY_AVERAGE, both::OVER] {
         both::read(context, sum, stored, times, &[STALE_VALUE]);
     }
     if segment.model_type_id < 2 && judge_times(times).is_ok() {
-        let refusal = refusal_of(face::read(stored, times)).unwrap_or(0);
+        let refusal = refusal_of(face::read(stored, times)).map(fault_of);
         let input = || format!("reading {segment:X?} at {times:?}");
-        context.same("the segment's shape", refusal, number, input);
+        let refusal = refusal.unwrap_or(Fault::ACCEPTED);
+        context.same("the segment's shape", refusal, fault, input);
     }
 }

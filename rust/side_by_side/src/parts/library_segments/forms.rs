@@ -7,6 +7,7 @@ use crate::face::segments::extremes;
 use crate::inputs::{DOZEN, SPECIAL};
 use crate::lent::{STALE, STALE_VALUE, STALE_WORD};
 use crate::parts::parameters::any_form;
+use modelardb_rattle::Fault;
 use modelardb_rattle::ffi::Pair;
 use oracle::paper::numbers::canonical;
 use oracle::paper::refusal;
@@ -44,16 +45,16 @@ pub fn parameter_bytes(context: &mut Context) {
 /// Written with places to spare, with just enough room and with a byte less; read back bit for bit.
 fn written(context: &mut Context, (model, ends): (u32, Pair), residuals: Pair) {
     let (out, row) = ([STALE; 10], [STALE_WORD; 2]);
-    let (number, bytes, words) = both::encoded(context, (model, ends), residuals, &out, &row);
+    let (fault, bytes, words) = both::encoded(context, (model, ends), residuals, &out, &row);
     let input = || format!("parameters of {model} {ends:08X?}, {residuals:08X?}");
-    context.same("room", 0, number, input);
+    context.same("room", Fault::ACCEPTED, fault, input);
     let length = words[0] as usize;
     let bytes = &bytes[..length];
     both::encoded(context, (model, ends), residuals, &out[..length], &row[..1]);
     if length > 0 {
         let short = &out[..length - 1];
-        let (number, ..) = both::encoded(context, (model, ends), residuals, short, &row);
-        context.same("a byte less", refusal::OUTPUT, number, input);
+        let (fault, ..) = both::encoded(context, (model, ends), residuals, short, &row);
+        context.same("a byte less", refusal::OUTPUT.into(), fault, input);
     }
     read_back(context, (model, ends), residuals, bytes);
 }
@@ -67,7 +68,7 @@ fn read_back(context: &mut Context, (model, ends): (u32, Pair), residuals: Pair,
     let (mut left, count) = (vec![STALE_VALUE; 3], ENDS[model as usize]);
     let read = both::decoded(context, model, segment, bytes, &left);
     left[..count].copy_from_slice(&[first, last][..count]);
-    context.same("read back", (0, left), read, || {
+    context.same("read back", (Fault::ACCEPTED, left), read, || {
         format!("parameters {bytes:02X?} of {model} {ends:08X?}, {residuals:08X?}")
     });
     safe::parameters(context, (model, ends), [residuals, segment], bytes);

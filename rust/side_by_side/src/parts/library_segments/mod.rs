@@ -1,7 +1,7 @@
 //! Parameter bytes and segments as compiled from the proved crates, called through their C face, beside
 //! the paper's program and, along the whole path, the Rust's text.
 
-mod both;
+pub mod both;
 mod causes;
 mod damaged;
 mod forms;

@@ -10,7 +10,7 @@ use crate::lent::{STALE_VALUE, STALE_WORD};
 use crate::parts::library_fit::{Run, choose};
 use crate::parts::segments::{compare_reading, compare_writing};
 use modelardb_rattle::ffi::{SELECTED_MODEL_WORDS, StoredSegment};
-use modelardb_rattle::{self as library, Segment};
+use modelardb_rattle::{self as library, Fault, Segment};
 use oracle::paper::MOST_VALUES;
 use oracle::paper::models::ErrorBound::{self, Absolute, Lossless, Relative};
 use oracle::paper::refusal;
@@ -79,7 +79,8 @@ fn parameters_come_back(context: &mut Context, source: &Source, segment: &Segmen
     };
     let out = vec![STALE_VALUE; ends.len()];
     let read = both::decoded(context, model, extremes, values, &out);
-    context.same("read back", (0, ends), read, || source.to_string());
+    let accepted = (Fault::ACCEPTED, ends);
+    context.same("read back", accepted, read, || source.to_string());
 }
 
 /// Drawn and summed; each residual is within the bound of its value, and lossless it is that value.
@@ -87,14 +88,14 @@ fn residuals_are_kept(context: &mut Context, run: &Run, segment: &Segment, times
     let (total, stored) = (times.len(), StoredSegment::from(segment));
     let count = segment.residuals.last().map_or(0, |&count| count.into());
     let out = vec![STALE_VALUE; total];
-    let (number, drawn) = both::read(context, both::GRID, stored, times, &out);
+    let (fault, drawn) = both::read(context, both::GRID, stored, times, &out);
     for sum in [both::BY_AVERAGE, both::OVER] {
         let (summed, _) = both::read(context, sum, stored, times, &[STALE_VALUE]);
-        context.same("one verdict", number, summed, || {
+        context.same("one verdict", fault, summed, || {
             format!("{segment:X?} at {times:?}")
         });
     }
-    if number != 0 {
+    if fault != Fault::ACCEPTED {
         return;
     }
     let (owned, bound) = (total - count, face::safe_bound(run.bound));
@@ -145,9 +146,9 @@ fn at_the_limit(context: &mut Context, bound: ErrorBound) {
         for (total, refusal) in ABOUT_MOST.into_iter().zip([0, 0, refusal::LIMIT]) {
             let (times, out) = (&times[..total], vec![STALE_VALUE; total]);
             for call in [both::GRID, both::BY_AVERAGE, both::OVER] {
-                let (number, _) = both::read(context, call, stored, times, &out);
+                let (fault, _) = both::read(context, call, stored, times, &out);
                 let input = || format!("{total} timestamps of {source}");
-                context.same("the limit", refusal, number, input);
+                context.same("the limit", refusal.into(), fault, input);
             }
         }
     }

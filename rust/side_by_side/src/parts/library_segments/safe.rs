@@ -2,8 +2,8 @@
 
 use super::source::Source;
 use crate::context::Context;
-use crate::face::numbered;
 use crate::face::segments as face;
+use crate::face::{numbered, placed};
 use crate::parts::segments::decoded;
 use modelardb_rattle::ErrorBound::{Absolute, Lossless, Relative};
 use modelardb_rattle::ffi::{Pair, StoredSegment};
@@ -89,9 +89,9 @@ pub fn read(context: &mut Context, segment: &Segment, times: &[i64]) {
     );
     let said = (
         numbered(segment.model().map(ends_of)),
-        numbered(segment.grid_bits(times, &mut drawn)).map(|()| drawn),
-        numbered(segment.sum_by_average_bits(times)),
-        numbered(segment.sum_over_bits(times)),
+        placed(segment.grid_bits(times, &mut drawn)).map(|()| drawn),
+        placed(segment.sum_by_average_bits(times)),
+        placed(segment.sum_over_bits(times)),
     );
     context.same("safe segment", paper, said, || {
         format!("safe reading {segment:X?} at {times:?}")

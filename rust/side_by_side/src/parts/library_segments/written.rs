@@ -7,8 +7,8 @@ use crate::context::Context;
 use crate::inputs::{DOZEN, SPECIAL};
 use crate::lent::{STALE, STALE_VALUE, STALE_WORD};
 use crate::parts::macaque_v::short_lists;
-use modelardb_rattle::Segment;
 use modelardb_rattle::ffi::{SEGMENT_WORDS, StoredSegment};
+use modelardb_rattle::{Fault, Segment};
 use oracle::paper::models::ErrorBound::{Absolute, Lossless, Relative};
 use oracle::paper::refusal;
 use oracle::paper::types::{PMC_MEAN_ID, SWING_ID};
@@ -82,14 +82,14 @@ fn just_enough(context: &mut Context, source: &Source, segment: &Segment) {
         vec![STALE; residuals.len()],
         vec![STALE_WORD; SEGMENT_WORDS],
     );
-    let full = (0, (values.clone(), residuals.clone(), row));
+    let full = (Fault::ACCEPTED, (values.clone(), residuals.clone(), row));
     both::written_as(context, &full, source, &room);
     let mut short = [room.clone(), room.clone(), room.clone()];
     short[0].0.pop();
     short[1].1.pop();
     short[2].2.pop();
     for memory in short.into_iter().filter(|memory| *memory != room) {
-        let refused = (refusal::OUTPUT, memory.clone());
+        let refused = (refusal::OUTPUT.into(), memory.clone());
         both::written_as(context, &refused, source, &memory);
     }
 }
@@ -98,8 +98,8 @@ fn just_enough(context: &mut Context, source: &Source, segment: &Segment) {
 fn read_back(context: &mut Context, source: &Source, segment: &Segment, times: &[i64]) {
     let (total, stored) = (times.len(), StoredSegment::from(segment));
     let out = vec![STALE_VALUE; total + 2];
-    let (number, drawn) = both::read(context, both::GRID, stored, times, &out);
-    if number == 0 && source.bound.0 == 0 {
+    let (fault, drawn) = both::read(context, both::GRID, stored, times, &out);
+    if fault == Fault::ACCEPTED && source.bound.0 == 0 {
         let owned = total - source.residuals.len();
         let input = || format!("read back {source} at {times:?}");
         let residuals = &drawn[owned..total];

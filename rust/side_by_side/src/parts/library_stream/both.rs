@@ -1,13 +1,14 @@
-//! Each call of the compiled face and the paper's on the same lent memory: the number and all that is
-//! lent afterwards are compared, and the library's memory stands between guards.
+//! Each call of the compiled face and the paper's on the same lent memory: what is answered, number,
+//! value and place, and all that is lent afterwards are compared, and the library's memory stands between guards.
 
 use crate::context::Context;
 use crate::face;
 use crate::lent::{BYTE_GUARD, Lent, VALUE_GUARD, WORD_GUARD};
+use modelardb_rattle::Fault;
 use modelardb_rattle::ffi::{self, Words};
 
-/// What a call on a writer's row leaves: its number, the row and the buffer.
-pub type Left = (u32, Vec<u64>, Vec<u8>);
+/// What a call on a writer's row leaves: what it answers, the row and the buffer.
+pub type Left = (Fault, Vec<u64>, Vec<u8>);
 
 /// What is handed to a reopening besides its buffer.
 #[derive(Clone, Copy, Debug)]
@@ -19,21 +20,26 @@ pub struct At {
     pub bound: Words,
 }
 
-pub fn opened(context: &mut Context, bound: Words, opening: Words, row: &[u64]) -> (u32, Vec<u64>) {
+pub fn opened(
+    context: &mut Context,
+    bound: Words,
+    opening: Words,
+    row: &[u64],
+) -> (Fault, Vec<u64>) {
     let mut paper = row.to_vec();
-    let number = face::new(bound, opening, &mut paper);
+    let fault = face::new(bound, opening, &mut paper);
     let mut lent = Lent::new(row, WORD_GUARD);
     let ours = ffi::macaque_v_new(bound, opening, lent.lend());
-    let (expected, left) = ((number, Some(paper.clone())), (ours, lent.content()));
+    let (expected, left) = ((fault, Some(paper.clone())), (ours, lent.content()));
     let input = || format!("new {bound:X?} {opening:X?} into {row:X?}");
     context.same("library", expected, left, input);
-    (number, paper)
+    (fault, paper)
 }
 
 pub fn written(context: &mut Context, row: &[u64], values: &[u32], buffer: &[u8]) -> Left {
     let (mut after, mut bytes) = (row.to_vec(), buffer.to_vec());
-    let number = face::compress_values(&mut after, values, &mut bytes);
-    let paper = (number, after, bytes);
+    let fault = face::compress_values(&mut after, values, &mut bytes);
+    let paper = (fault, after, bytes);
     written_as(context, &paper, row, values, buffer);
     paper
 }
@@ -41,7 +47,7 @@ pub fn written(context: &mut Context, row: &[u64], values: &[u32], buffer: &[u8]
 /// The library alone: it must leave what is given.
 pub fn written_as(
     context: &mut Context,
-    (number, after, bytes): &Left,
+    (fault, after, bytes): &Left,
     row: &[u64],
     values: &[u32],
     buffer: &[u8],
@@ -53,7 +59,7 @@ pub fn written_as(
         ffi::macaque_v_compress_values(lent_row.lend(), lent_values.lend(), lent_buffer.lend());
     let (row_left, values_left) = (lent_row.content(), lent_values.content());
     let left = (ours, row_left, lent_buffer.content());
-    let expected = (*number, Some(after.clone()), Some(bytes.clone()));
+    let expected = (*fault, Some(after.clone()), Some(bytes.clone()));
     let input = || format!("written {row:X?} {values:08X?} into {buffer:02X?}");
     context.same("library", expected, left, input);
     let is_kept = values_left.as_deref() == Some(values);
@@ -69,40 +75,40 @@ pub fn reopened(context: &mut Context, buffer: &[u8], at: At, row: &[u64]) -> Le
         bound,
     } = at;
     let (mut after, mut bytes) = (row.to_vec(), buffer.to_vec());
-    let number = face::reopen(&mut bytes, used, (count, k), opening, bound, &mut after);
+    let fault = face::reopen(&mut bytes, used, (count, k), opening, bound, &mut after);
     let mut lent_row = Lent::new(row, WORD_GUARD);
     let mut lent_buffer = Lent::new(buffer, BYTE_GUARD);
     let (to, state) = (lent_buffer.lend(), lent_row.lend());
     let ours = ffi::macaque_v_reopen(to, used, (count, k), opening, bound, state);
     let left = (ours, lent_row.content(), lent_buffer.content());
-    let expected = (number, Some(after.clone()), Some(bytes.clone()));
+    let expected = (fault, Some(after.clone()), Some(bytes.clone()));
     let input = || format!("reopened {at:X?} of {buffer:02X?} into {row:X?}");
     context.same("library", expected, left, input);
-    (number, after, bytes)
+    (fault, after, bytes)
 }
 
 /// Reading into an output.
-type Read = fn(&[u8], usize, Words, &mut [u32]) -> u32;
+type Read = fn(&[u8], usize, Words, &mut [u32]) -> Fault;
 
 /// The paper's and the library's.
 pub const GRID: [Read; 2] = [face::grid, ffi::macaque_v_grid];
 pub const SUM: [Read; 2] = [face::sum, ffi::macaque_v_sum];
 
-/// Reads into `out`; the number and what is there afterwards.
+/// Reads into `out`; what is answered, and what is there afterwards.
 pub fn read(
     context: &mut Context,
     [paper, library]: [Read; 2],
     (bytes, count, opening): (&[u8], usize, Words),
     out: &[u32],
-) -> (u32, Vec<u32>) {
+) -> (Fault, Vec<u32>) {
     let mut after = out.to_vec();
-    let number = paper(bytes, count, opening, &mut after);
+    let fault = paper(bytes, count, opening, &mut after);
     let mut lent = Lent::new(out, VALUE_GUARD);
     let mut stream = Lent::new(bytes, BYTE_GUARD);
     let ours = library(stream.lend(), count, opening, lent.lend());
     let left = (ours, lent.content(), stream.content());
-    let expected = (number, Some(after.clone()), Some(bytes.to_vec()));
+    let expected = (fault, Some(after.clone()), Some(bytes.to_vec()));
     let input = || format!("read {count} of {bytes:02X?} {opening:X?} into {out:X?}");
     context.same("library", expected, left, input);
-    (number, after)
+    (fault, after)
 }

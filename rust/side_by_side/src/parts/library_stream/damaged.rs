@@ -5,6 +5,7 @@ use super::both::At;
 use super::{Stream, both, room_for};
 use crate::context::Context;
 use crate::lent::{STALE, STALE_VALUE, STALE_WORD};
+use modelardb_rattle::Fault;
 use modelardb_rattle::ffi::STATE_WORDS;
 
 pub fn damaged(context: &mut Context) {
@@ -103,8 +104,8 @@ pub(super) fn used_as_it_is(context: &mut Context, bytes: &[u8], at: At) {
     let k = context.inputs.below(at.count as u64 + 1) as usize;
     let buffer = [bytes, &[STALE; 3]].concat();
     let row = [STALE_WORD; STATE_WORDS];
-    let (number, row, buffer) = both::reopened(context, &buffer, At { k, ..at }, &row);
-    if number == 0 {
+    let (fault, row, buffer) = both::reopened(context, &buffer, At { k, ..at }, &row);
+    if fault == Fault::ACCEPTED {
         written_on(context, &row, buffer, k, at);
     }
 }
@@ -116,12 +117,12 @@ fn written_on(context: &mut Context, row: &[u64], mut buffer: Vec<u8>, k: usize,
     let (_, row, buffer) = both::written(context, row, &values, &buffer);
     let used = row[8].div_ceil(8) as usize;
     let out = vec![STALE_VALUE; k + 2];
-    let (number, _) = both::read(
+    let (fault, _) = both::read(
         context,
         both::GRID,
         (&buffer[..used], k + 2, at.opening),
         &out,
     );
     let input = || format!("written on at {k}: {at:X?} {buffer:02X?}");
-    context.same("read back", 0, number, input);
+    context.same("read back", Fault::ACCEPTED, fault, input);
 }

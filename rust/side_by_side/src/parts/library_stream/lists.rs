@@ -7,7 +7,7 @@ use crate::face;
 use crate::inputs::DOZEN;
 use crate::lent::STALE_VALUE;
 use crate::parts::macaque_v::{self, BOUNDS};
-use modelardb_rattle as library;
+use modelardb_rattle::{self as library, Fault};
 use oracle::paper::MOST_VALUES;
 use oracle::paper::macaque_v::Opening;
 use oracle::paper::models::ErrorBound::{self, Absolute, Lossless, Relative};
@@ -89,14 +89,14 @@ fn written_and_read(
     let stream = Stream::new(context, bound, opening, values);
     let (bytes, count) = (&stream.bytes, values.len());
     let out = vec![STALE_VALUE; count + 1];
-    let (number, drawn) = both::read(context, both::GRID, (bytes, count, stream.opening), &out);
+    let (fault, drawn) = both::read(context, both::GRID, (bytes, count, stream.opening), &out);
     let (_, sum) = both::read(
         context,
         both::SUM,
         (bytes, count, stream.opening),
         &[STALE_VALUE; 2],
     );
-    if number == 0 {
+    if fault == Fault::ACCEPTED {
         if bound == Lossless {
             let input = || format!("read back {opening:X?} {values:08X?}");
             context.same("the inputs", &drawn[..count], values, input);
@@ -139,7 +139,7 @@ fn beside_the_rust(
 /// In a buffer of the stream's own size, and in one of a byte less.
 fn just_enough(context: &mut Context, stream: &Stream) {
     let used = stream.bytes.len();
-    let full = (0, stream.row.clone(), stream.bytes.clone());
+    let full = (Fault::ACCEPTED, stream.row.clone(), stream.bytes.clone());
     both::written_as(
         context,
         &full,
@@ -149,9 +149,9 @@ fn just_enough(context: &mut Context, stream: &Stream) {
     );
     if used > 0 {
         let short = vec![0xFF; used - 1];
-        let (number, ..) = both::written(context, &stream.fresh, &stream.values, &short);
+        let (fault, ..) = both::written(context, &stream.fresh, &stream.values, &short);
         let input = || format!("a byte less: {:08X?}", stream.values);
-        context.same("a byte less", refusal::OUTPUT, number, input);
+        context.same("a byte less", refusal::OUTPUT.into(), fault, input);
     }
 }
 

@@ -4,6 +4,7 @@ use super::both;
 use crate::context::Context;
 use crate::inputs::{ONE, TWO};
 use crate::lent::{STALE, STALE_VALUE};
+use modelardb_rattle::Fault;
 use modelardb_rattle::ffi::{STATE_WORDS, Words};
 
 const FIRST: Words = (0, 0);
@@ -12,21 +13,30 @@ const ON_ONE: Words = (1, ONE);
 const CASE_A: &[u8] = &[0x3F, 0x80, 0x00, 0x00, 0xB0, 0x91, 0xFE];
 const CASE_B: &[u8] = &[0x3F, 0x80, 0x00, 0x00, 0xB0, 0x91, 0xFE, 0xFF];
 
-/// A case that is read: its letter, bytes and count, and the values or the refusal's number.
-type Case = (char, &'static [u8], usize, Result<&'static [u32], u32>);
+/// A case that is read: its letter, bytes and count, and the values or the refusal.
+type Case = (char, &'static [u8], usize, Result<&'static [u32], Fault>);
 
 const CASES: [Case; 10] = [
     ('c', &[0x80], 1, Ok(&[ONE])),
     ('d', &[0xA0], 2, Ok(&[ONE, ONE])),
     ('e', &[0xFE, 0x0C], 1, Ok(&[0x3F80_0001])),
-    ('f', &[0x00], 1, Err(6)),
-    ('g', &[0x80], 2, Err(6)),
-    ('h', &[0xFE, 0x10], 1, Err(7)),
-    ('i', &[0xC0, 0x00], 1, Err(7)),
-    ('j', &[0xC0], 1, Err(5)),
-    ('k', &[0xA0], 1, Err(8)),
-    ('l', &[0x80, 0x00], 1, Err(8)),
+    ('f', &[0x00], 1, refused(6, 0, 0)),
+    ('g', &[0x80], 2, refused(6, 1, 2)),
+    ('h', &[0xFE, 0x10], 1, refused(7, 0, 0)),
+    ('i', &[0xC0, 0x00], 1, refused(7, 0, 0)),
+    ('j', &[0xC0], 1, refused(5, 0, 0)),
+    ('k', &[0xA0], 1, refused(8, 1, 2)),
+    ('l', &[0x80, 0x00], 1, refused(8, 1, 8)),
 ];
+
+/// Refused at a value and a place.
+const fn refused(number: u32, value: u32, place: usize) -> Result<&'static [u32], Fault> {
+    Err(Fault {
+        number,
+        value,
+        place,
+    })
+}
 
 pub fn marked(context: &mut Context) {
     let values = [ONE, ONE, TWO, ONE];
@@ -41,9 +51,10 @@ pub fn marked(context: &mut Context) {
     // b: "then 1.0", behind case a.
     let (_, row) = both::opened(context, (0, 0), FIRST, &[0; STATE_WORDS]);
     let (_, row, buffer) = both::written(context, &row, &values[..3], &[STALE; 8]);
-    let (number, _, buffer) = both::written(context, &row, &values[3..], &buffer);
+    let (fault, _, buffer) = both::written(context, &row, &values[3..], &buffer);
     let input = || "marked case b behind a".to_string();
-    context.same("library", (0, CASE_B), (number, &buffer[..]), input);
+    let accepted = (Fault::ACCEPTED, CASE_B);
+    context.same("library", accepted, (fault, &buffer[..]), input);
     for case in CASES {
         read(context, case, ON_ONE);
     }
@@ -51,24 +62,25 @@ pub fn marked(context: &mut Context) {
 
 fn written(context: &mut Context, letter: char, values: &[u32], bytes: &[u8]) {
     let (_, row) = both::opened(context, (0, 0), FIRST, &[0; STATE_WORDS]);
-    let (number, row, buffer) = both::written(context, &row, values, &[STALE; 16]);
+    let (fault, row, buffer) = both::written(context, &row, values, &[STALE; 16]);
     let used = row[8].div_ceil(8) as usize;
     let input = || format!("marked case {letter} written");
-    context.same("library", (0, bytes), (number, &buffer[..used]), input);
+    let accepted = (Fault::ACCEPTED, bytes);
+    context.same("library", accepted, (fault, &buffer[..used]), input);
 }
 
 /// The case is drawn, summed and reopened at its end as the paper says.
 fn read(context: &mut Context, (letter, bytes, count, answer): Case, opening: Words) {
-    let (number, values) = both::read(
+    let (fault, values) = both::read(
         context,
         both::GRID,
         (bytes, count, opening),
         &vec![STALE_VALUE; count],
     );
-    let drawn = if number == 0 {
+    let drawn = if fault == Fault::ACCEPTED {
         Ok(&values[..])
     } else {
-        Err(number)
+        Err(fault)
     };
     let input = || format!("marked case {letter}");
     context.same("library", answer, drawn, input);
@@ -81,6 +93,6 @@ fn read(context: &mut Context, (letter, bytes, count, answer): Case, opening: Wo
         bound: (0, 0),
     };
     let (reopened, ..) = both::reopened(context, bytes, at, &[0; STATE_WORDS]);
-    let refusal = answer.err().unwrap_or(0);
+    let refusal = answer.err().unwrap_or(Fault::ACCEPTED);
     context.same("library", (refusal, refusal), (sum, reopened), input);
 }

@@ -1,12 +1,12 @@
 //! MacaqueV as compiled from the proved crates, called through its C face, beside the paper's program
 //! and, where it is at hand, the Rust's text.
 
-mod both;
+pub mod both;
 mod causes;
 mod damaged;
 mod lists;
 mod marked;
-mod reading;
+pub mod reading;
 mod repeats;
 mod resumed;
 mod states;
@@ -34,18 +34,18 @@ fn room_for(count: usize) -> usize {
 }
 
 /// A stream as the library and the paper both wrote it in one go.
-struct Stream {
+pub struct Stream {
     bound: Words,
     opening: Words,
     values: Vec<u32>,
     /// The writer's row before any value, and after them all.
     fresh: Vec<u64>,
     row: Vec<u64>,
-    bytes: Vec<u8>,
+    pub bytes: Vec<u8>,
 }
 
 impl Stream {
-    fn new(context: &mut Context, bound: ErrorBound, opening: Opening, values: &[u32]) -> Self {
+    pub fn new(context: &mut Context, bound: ErrorBound, opening: Opening, values: &[u32]) -> Self {
         let bound = face::bound_words(bound);
         let opening = face::opening_words(opening);
         let (_, fresh) = both::opened(context, bound, opening, &[STALE_WORD; STATE_WORDS]);

@@ -6,8 +6,9 @@ use crate::context::Context;
 use crate::face;
 use crate::inputs::ONE;
 use crate::lent::{
-    BYTE_GUARD, Lent, STALE_VALUE, STALE_WORD, VALUE_GUARD, WORD_GUARD, compared, to_read,
+    BYTE_GUARD, Left, Lent, STALE_VALUE, STALE_WORD, VALUE_GUARD, WORD_GUARD, compared, to_read,
 };
+use modelardb_rattle::Fault;
 use modelardb_rattle::ffi::{self, READER_WORDS, Words};
 use oracle::paper::MOST_VALUES;
 
@@ -53,18 +54,18 @@ fn read_through(context: &mut Context, bytes: &[u8], count: usize, opening: Word
         );
         let input = || format!("read {read} of {bytes:02X?} {opening:X?}");
         context.same("grid", drawn, end, input);
-        if end == 0 {
+        if end == Fault::ACCEPTED {
             context.same("grid", &all, &values, input);
         }
-        let (number, after, out) = next(context, bytes, &row, &[STALE_VALUE]);
-        if number != 0 {
+        let (fault, after, out) = next(context, bytes, &row, &[STALE_VALUE]);
+        if fault != Fault::ACCEPTED {
             let (drawn, _) = both::read(
                 context,
                 both::GRID,
                 (bytes, read + 1, opening),
                 &vec![0; read + 1],
             );
-            context.same("grid", drawn, number, input);
+            context.same("grid", drawn, fault, input);
             break;
         }
         values.push(out[0]);
@@ -86,7 +87,7 @@ fn most_values(context: &mut Context) {
     last(context, &stream, MOST_VALUES, (1, ONE), &[STALE_VALUE]);
 }
 
-fn opened(context: &mut Context, opening: Words, row: &[u64]) -> (u32, Vec<u64>) {
+pub fn opened(context: &mut Context, opening: Words, row: &[u64]) -> Left<u64> {
     compared(
         context,
         (row, WORD_GUARD),
@@ -96,49 +97,56 @@ fn opened(context: &mut Context, opening: Words, row: &[u64]) -> (u32, Vec<u64>)
     )
 }
 
-/// The number, and what the row and the output hold afterwards.
-fn next(
+/// What is answered, and what the row and the output hold afterwards.
+pub fn next(
     context: &mut Context,
     bytes: &[u8],
     row: &[u64],
     out: &[u32],
-) -> (u32, Vec<u64>, Vec<u32>) {
+) -> (Fault, Vec<u64>, Vec<u32>) {
     let (mut after, mut value) = (row.to_vec(), out.to_vec());
-    let number = face::reader::next(bytes, &mut after, &mut value);
+    let fault = face::reader::next(bytes, &mut after, &mut value);
     let mut stream = Lent::new(bytes, BYTE_GUARD);
     let mut lent_row = Lent::new(row, WORD_GUARD);
     let mut lent_out = Lent::new(out, VALUE_GUARD);
     let ours = ffi::reader_next(stream.lend(), lent_row.lend(), lent_out.lend());
     let is_kept = stream.content().as_deref() == Some(bytes);
     let left = (ours, lent_row.content(), lent_out.content(), is_kept);
-    let expected = (number, Some(after.clone()), Some(value.clone()), true);
+    let expected = (fault, Some(after.clone()), Some(value.clone()), true);
     let input = || format!("next of {row:X?} in {bytes:02X?} into {out:X?}");
     context.same("library", expected, left, input);
-    (number, after, value)
+    (fault, after, value)
 }
 
-fn ended(context: &mut Context, bytes: &[u8], row: &[u64]) -> u32 {
+pub fn ended(context: &mut Context, bytes: &[u8], row: &[u64]) -> Fault {
     let (mut row_is_kept, mut bytes_are_kept) = (false, false);
     let ours = to_read((row, WORD_GUARD), &mut row_is_kept, |row| {
         to_read((bytes, BYTE_GUARD), &mut bytes_are_kept, |bytes| {
             ffi::reader_end(bytes, row)
         })
     });
-    let number = face::reader::end(bytes, row);
+    let fault = face::reader::end(bytes, row);
     let input = || format!("end of {row:X?} in {bytes:02X?}");
-    let (expected, left) = ((number, true, true), (ours, row_is_kept, bytes_are_kept));
+    let (expected, left) = ((fault, true, true), (ours, row_is_kept, bytes_are_kept));
     context.same("library", expected, left, input);
-    number
+    fault
 }
 
-fn last(context: &mut Context, bytes: &[u8], count: usize, opening: Words, out: &[u32]) {
+pub fn last(
+    context: &mut Context,
+    bytes: &[u8],
+    count: usize,
+    opening: Words,
+    out: &[u32],
+) -> Fault {
     compared(
         context,
         (out, VALUE_GUARD),
         |out| face::reader::last_value(bytes, count, opening, out),
         |out| ffi::reader_last_value(bytes, count, opening, out),
         || format!("last of {count} in {bytes:02X?} {opening:X?}"),
-    );
+    )
+    .0
 }
 
 /// Some bytes, and a reader in them, with none to two of its words changed.

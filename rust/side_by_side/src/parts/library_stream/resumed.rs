@@ -3,6 +3,7 @@
 use super::{Stream, both};
 use crate::context::Context;
 use crate::lent::{STALE, STALE_WORD};
+use modelardb_rattle::Fault;
 use modelardb_rattle::ffi::STATE_WORDS;
 use oracle::paper::MOST_VALUES;
 
@@ -54,7 +55,8 @@ fn at_value(context: &mut Context, stream: &Stream, k: usize) -> Vec<u64> {
     let row = [STALE_WORD; STATE_WORDS + 1];
     let (_, mut row, cut) = both::reopened(context, &buffer, stream.at(k), &row);
     let end = [&stream.row[..], &[STALE_WORD]].concat();
-    both::written_as(context, &(0, end, buffer), &row, &stream.values[k..], &cut);
+    let whole = (Fault::ACCEPTED, end, buffer);
+    both::written_as(context, &whole, &row, &stream.values[k..], &cut);
     row.truncate(STATE_WORDS);
     row
 }

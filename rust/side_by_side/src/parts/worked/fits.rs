@@ -18,7 +18,7 @@ pub const EXAMPLES: &[Example] = &[
     (
         "PMC-Mean: value number 65,537 is refused, 3",
         || average(&[1.0; MOST_VALUES + 1]),
-        Err(3),
+        Err((3, 0, 0)),
     ),
     (
         "Swing, Absolute(1): 0 at 0, 5 at 10: last value 6",
@@ -33,17 +33,17 @@ pub const EXAMPLES: &[Example] = &[
     (
         "Swing: a second point at the first one's time: 10",
         || line_of(Lossless, &[(0, 1.0), (0, 1.0)]),
-        Err(10),
+        Err((10, 0, 0)),
     ),
     (
         "Swing: a second point at 2^52 + 1: 10",
         || line_of(Lossless, &[(0, 1.0), (TIME_LIMIT + 1, 1.0)]),
-        Err(10),
+        Err((10, 0, 0)),
     ),
     (
         "Swing: 1 at the least i64: 10",
         || line_of(Lossless, &[(i64::MIN, 1.0), (i64::MAX, 2.0)]),
-        Err(10),
+        Err((10, 0, 0)),
     ),
     (
         "a Swing state of length 1 must keep the time limits too: 2",
@@ -53,7 +53,7 @@ pub const EXAMPLES: &[Example] = &[
             row[11] = 1;
             left(ffi::swing_model(&row, &mut out), vec![])
         },
-        Err(2),
+        Err((2, 0, 0)),
     ),
     // The choice.
     (
@@ -64,17 +64,17 @@ pub const EXAMPLES: &[Example] = &[
     (
         "an empty list is 11",
         || chosen(&[], &[], Lossless),
-        Err(11),
+        Err((11, 0, 0)),
     ),
     (
         "unequal lengths are 12",
         || chosen(&[0], &[], Lossless),
-        Err(12),
+        Err((12, 0, 0)),
     ),
     (
         "65,537 timestamps and one value: 12",
         || chosen(&Vec::from_iter(0..=MOST_VALUES as i64), &[1.0], Lossless),
-        Err(12),
+        Err((12, 0, 0)),
     ),
     (
         "both models failed: a later timestamp may go back, and does not fit",
@@ -84,7 +84,7 @@ pub const EXAMPLES: &[Example] = &[
     (
         "both models failed: the timestamp's own limits are judged: 10",
         || after_failing(TIME_LIMIT + 1),
-        Err(10),
+        Err((10, 0, 0)),
     ),
     (
         "a choice with PMC of length 1 and a fresh Swing: 11",
@@ -92,14 +92,14 @@ pub const EXAMPLES: &[Example] = &[
             let (row, mut out) = (row_of(1, [0, 0]), [0; SELECTED_MODEL_WORDS]);
             left(ffi::model_builder_finish(&row, 12, &mut out), out.to_vec())
         },
-        Err(11),
+        Err((11, 0, 0)),
     ),
     (
         "a failed PMC-Mean with a bound of kind 7: the step goes on, the bound is Absolute(NaN)",
         || {
             let mut row = row_of(0, [7, 0]);
-            let number = ffi::model_builder_try_to_update_models(&mut row, 0, ONE);
-            left(number, row[..2].to_vec())
+            let fault = ffi::model_builder_try_to_update_models(&mut row, 0, ONE);
+            left(fault, row[..2].to_vec())
         },
         Ok(&[1, 0x7FC0_0000]),
     ),
@@ -107,22 +107,22 @@ pub const EXAMPLES: &[Example] = &[
     (
         "the line from 1 at 0 to 2 at 10, drawn at 5 and 5: 10",
         || drawn((0, 10), (1.0, 2.0), &[5, 5]),
-        Err(10),
+        Err((10, 0, 0)),
     ),
     (
         "a line from 1 to infinity: 11, also over an empty list",
         || drawn((0, 10), (1.0, f32::INFINITY), &[]),
-        Err(11),
+        Err((11, 0, 0)),
     ),
     (
         "start and end of a Swing grid keep the limits: 10",
         || drawn((-TIME_LIMIT - 1, 10), (1.0, 2.0), &[]),
-        Err(10),
+        Err((10, 0, 0)),
     ),
     (
         "a line that ends where it starts: 10, also over an empty list",
         || drawn((10, 10), (1.0, 2.0), &[]),
-        Err(10),
+        Err((10, 0, 0)),
     ),
 ];
 

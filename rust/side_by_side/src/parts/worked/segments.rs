@@ -87,12 +87,12 @@ pub const EXAMPLES: &[Example] = &[
     (
         "3 parameter bytes of PMC: 9",
         || pmc_mean_in((1.0, 2.0), &[1, 2, 3]),
-        Err(9),
+        Err((9, 0, 0)),
     ),
     (
         "flag 4 of Swing: 9",
         || swing_in((1.0, 2.0), &[4, 0, 0, 0, 0]),
-        Err(9),
+        Err((9, 0, 0)),
     ),
     // Our readings.
     (
@@ -128,56 +128,64 @@ pub const EXAMPLES: &[Example] = &[
     (
         "room for the parameters and none for one residual: 4",
         || written((0, ONE, ONE), LOSSLESS, &[ONE], (8, 0)),
-        Err(4),
+        Err((4, 0, 0)),
     ),
     (
         "a model above 1 is 3",
         || written((2, ONE, ONE), LOSSLESS, &[], (8, 8)),
-        Err(3),
+        Err((3, 0, 0)),
     ),
     (
         "writing a segment: 1, 3, 4: all three of them give 1",
         || written((2, ONE, ONE), (1, 0), &[ONE; 256], (0, 0)),
-        Err(1),
+        Err((1, 0, 0)),
     ),
     (
         "256 residuals: 3",
         || residuals(PMCMean(1.0), &[ONE; 256]),
-        Err(3),
+        Err((3, 0, 0)),
     ),
-    ("no timestamps at all: 12", || stored(0, &[], &[]), Err(12)),
+    (
+        "no timestamps at all: 12",
+        || stored(0, &[], &[]),
+        Err((12, 0, 0)),
+    ),
     (
         "a count byte above the total: 12",
         || stored(0, &[0x80, 2], &[5]),
-        Err(12),
+        Err((12, 0, 0)),
     ),
     (
         "a Swing segment that owns one timestamp: 10",
         || stored(1, &[0x80, 1], &[5, 6]),
-        Err(10),
+        Err((10, 0, 0)),
     ),
     (
         "all timestamps handed in are judged, with PMC and for residuals too: 10",
         || stored(0, &[0x80, 1], &[5, 5]),
-        Err(10),
+        Err((10, 0, 0)),
     ),
     (
         "a residual count byte 0 is 9",
         || stored(0, &[0x80, 0], &[5, 6]),
-        Err(9),
+        Err((9, 0, 0)),
     ),
     (
         "12, which comes first, takes it as 0 residuals",
         || stored(0, &[0x80, 0], &[]),
-        Err(12),
+        Err((12, 0, 0)),
     ),
     (
         "10, which comes first, takes it as 0 residuals",
         || stored(1, &[0x80, 0], &[5]),
-        Err(10),
+        Err((10, 0, 0)),
     ),
-    ("a segment of model 2: 3", || stored(2, &[], &[5]), Err(3)),
-    ("model 3: 3", || stored(3, &[], &[5]), Err(3)),
+    (
+        "a segment of model 2: 3",
+        || stored(2, &[], &[5]),
+        Err((3, 0, 0)),
+    ),
+    ("model 3: 3", || stored(3, &[], &[5]), Err((3, 0, 0))),
     (
         "without residuals the model's sum alone: -0 stays -0",
         || sums(PMCMean(-0.0), &[], &[5]),
@@ -250,9 +258,9 @@ fn written(
 ) -> Said {
     let (mut values, mut stream) = (vec![0; rooms.0], vec![0; rooms.1]);
     let (model, mut row) = ((model, (first, last)), [0; SEGMENT_WORDS]);
-    let number = ffi::segment_write(model, bound, list, &mut values, &mut stream, &mut row);
+    let fault = ffi::segment_write(model, bound, list, &mut values, &mut stream, &mut row);
     stream.truncate(row[3] as usize);
-    left(number, stream.into_iter().map(u64::from).collect())
+    left(fault, stream.into_iter().map(u64::from).collect())
 }
 
 /// All values of a segment, written and drawn.

@@ -16,12 +16,12 @@ pub const EXAMPLES: &[Example] = &[
     (
         "Absolute(0), 1, 1: refused with 1, though the values are equal",
         || within(Absolute(0.0), 1.0, 1.0),
-        Err(1),
+        Err((1, 0, 0)),
     ),
     (
         "Relative(NaN) is not allowed",
         || within(Relative(f32::NAN), 1.0, 1.0),
-        Err(1),
+        Err((1, 0, 0)),
     ),
     (
         "deviation of Relative(50), NaN: 7FF8000000000000",
@@ -118,7 +118,7 @@ pub const EXAMPLES: &[Example] = &[
     (
         "1 byte, place 9: 2",
         || from_row((NAN, ONE), (9, 4), &[], 1),
-        Err(2),
+        Err((2, 0, 0)),
     ),
     (
         "Absolute(0), no values: 1",
@@ -129,7 +129,7 @@ pub const EXAMPLES: &[Example] = &[
                 vec![],
             )
         },
-        Err(1),
+        Err((1, 0, 0)),
     ),
     // Reopening.
     (
@@ -140,12 +140,12 @@ pub const EXAMPLES: &[Example] = &[
     (
         "k = 70,000, n = 1: 12",
         || reopened(&[0x80], (1, 70_000), ON_ONE),
-        Err(12),
+        Err((12, 0, 0)),
     ),
     (
         "n above 65,536 is 3",
         || reopened(&[0x80], (MOST_VALUES + 1, 0), ON_ONE),
-        Err(3),
+        Err((3, 0, 0)),
     ),
     (
         "case b reopened behind 2 values: the bits after its place 34 are zeroed in the byte that this cuts",
@@ -171,19 +171,19 @@ pub const EXAMPLES: &[Example] = &[
     (
         "count 0 with bytes is 8: `00`, 0",
         || read(&[0x00], 0),
-        Err(8),
+        Err((8, 0, 0)),
     ),
-    ("no bytes, 1: 5", || read(&[], 1), Err(5)),
-    ("`C8 00`, 1: 7", || read(&[0xC8, 0x00], 1), Err(7)),
+    ("no bytes, 1: 5", || read(&[], 1), Err((5, 0, 0))),
+    ("`C8 00`, 1: 7", || read(&[0xC8, 0x00], 1), Err((7, 0, 0))),
     (
         "`00 00 00 00 40`, 1: no window, 33 bits at hand: 6",
         || read(&[0x00, 0x00, 0x00, 0x00, 0x40], 1),
-        Err(6),
+        Err((6, 0, 0)),
     ),
     (
         "mode 2, count 0, no bytes: 3",
         || left(ffi::macaque_v_grid(&[], 0, (2, 0), &mut []), vec![]),
-        Err(3),
+        Err((3, 0, 0)),
     ),
 ];
 
@@ -242,9 +242,9 @@ fn from_row(
     row[2..5].copy_from_slice(&values_kept);
     row[5..].copy_from_slice(&[255, 0, 1, place, length]);
     let mut buffer = vec![0xFF; room];
-    let number = ffi::macaque_v_compress_values(&mut row, values, &mut buffer);
+    let fault = ffi::macaque_v_compress_values(&mut row, values, &mut buffer);
     let bytes = buffer.into_iter().map(u64::from);
-    left(number, [row[2]].into_iter().chain(bytes).collect())
+    left(fault, [row[2]].into_iter().chain(bytes).collect())
 }
 
 /// The last value of a stream that is reopened behind k of its values.

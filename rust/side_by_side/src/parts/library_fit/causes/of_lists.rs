@@ -45,11 +45,11 @@ pub fn choices(context: &mut Context) {
                 for (m, of_size) in metadata::judged().into_iter().step_by(3) {
                     for (room, short) in rooms(SELECTED_MODEL_WORDS) {
                         let out = vec![STALE_WORD; room];
-                        let (number, _) = both::choose(context, (&at, &list), (bound, m), &out);
+                        let (fault, _) = both::choose(context, (&at, &list), (bound, m), &out);
                         let others = [of_bound, of_size, short, of_times];
                         let causes = [&of_lengths[..], &others].concat();
                         let lengths = (times, values);
-                        in_order(context, &causes, number, || {
+                        in_order(context, &causes, fault, || {
                             format!("choice {lengths:?} {last:?} {bound:X?} M {m} room {room}")
                         });
                     }
@@ -109,9 +109,9 @@ pub fn lines(context: &mut Context) {
             ] {
                 for (room, short) in [(0, OUTPUT), (1, 0), (2, 0)] {
                     let out = vec![STALE_VALUE; room];
-                    let (number, _) = both::average(context, ends, count, &out);
+                    let (fault, _) = both::average(context, ends, count, &out);
                     let causes = [of_times, of_values, over, short];
-                    in_order(context, &causes, number, || {
+                    in_order(context, &causes, fault, || {
                         format!("average of {ends:X?} for {count}, room {room}")
                     });
                 }
@@ -125,13 +125,13 @@ fn over_list(context: &mut Context, ends: Ends, times: &[i64], causes: &[u32]) {
     let input = |room| move || format!("line {ends:X?}, {count} times, room {room}");
     for (room, short) in [(0, OUTPUT), (1, 0), (2, 0)] {
         let out = vec![STALE_VALUE; room];
-        let (number, _) = both::drawn(context, SUM_OVER, ends, times, &out);
-        in_order(context, &[causes, &[short]].concat(), number, input(room));
+        let (fault, _) = both::drawn(context, SUM_OVER, ends, times, &out);
+        in_order(context, &[causes, &[short]].concat(), fault, input(room));
     }
     for room in [count.saturating_sub(1), count, count + 2] {
         let short = if room < count { OUTPUT } else { 0 };
         let out = vec![STALE_VALUE; room];
-        let (number, _) = both::drawn(context, GRID, ends, times, &out);
-        in_order(context, &[causes, &[short]].concat(), number, input(room));
+        let (fault, _) = both::drawn(context, GRID, ends, times, &out);
+        in_order(context, &[causes, &[short]].concat(), fault, input(room));
     }
 }

@@ -119,9 +119,9 @@ pub fn steps(context: &mut Context) {
 fn step(context: &mut Context, kind: &Kind, row: Vec<u64>, time: i64, causes: &[u32]) {
     for length in lengths(kind.words) {
         let row = resized(&row, length);
-        let (number, _) = both::step(context, kind, &row, (time, ONE));
+        let (fault, _) = both::step(context, kind, &row, (time, ONE));
         let causes = of_row(length, kind.words, causes);
-        in_order(context, &causes, number, || {
+        in_order(context, &causes, fault, || {
             format!("{} step at {time} of {row:X?}", kind.name)
         });
     }
@@ -156,10 +156,10 @@ fn ask(context: &mut Context, kind: &Kind, row: Vec<u64>, causes: &[u32]) {
                 for length in lengths(kind.words) {
                     let row = resized(&row, length);
                     let out = vec![STALE_VALUE; room];
-                    let (number, _) = both::ask(context, ask, &row, m, &out);
+                    let (fault, _) = both::ask(context, ask, &row, m, &out);
                     let causes = [causes, &[over, short_out]].concat();
                     let causes = of_row(length, kind.words, &causes);
-                    in_order(context, &causes, number, || {
+                    in_order(context, &causes, fault, || {
                         format!("{} of {row:X?}, M {m}, room {room}", ask.name)
                     });
                 }
@@ -224,15 +224,15 @@ fn builder(
         step.extend(swing_step);
         step.push(of_time(time));
         choice.extend(swing_choice);
-        let (number, _) = both::step(context, &BUILDER, &row, (time, ONE));
+        let (fault, _) = both::step(context, &BUILDER, &row, (time, ONE));
         let input = || format!("builder {row:X?} at {time}");
-        in_order(context, &step, number, input);
+        in_order(context, &step, fault, input);
         let m = if time == 6 { metadata::MOST + 1 } else { 12 };
         choice.push(if m > metadata::MOST { LIMIT } else { 0 });
         for (room, short) in [(4, OUTPUT), (5, 0), (6, 0)] {
-            let (number, _) = both::finish(context, &row, m, &vec![STALE_WORD; room]);
+            let (fault, _) = both::finish(context, &row, m, &vec![STALE_WORD; room]);
             let causes = [&choice[..], &[short]].concat();
-            in_order(context, &causes, number, input);
+            in_order(context, &causes, fault, input);
         }
     }
     // A row too short stands for no builder; the bounds that are in it are judged, whatever failed.
@@ -240,12 +240,12 @@ fn builder(
         let of_other = if length < 9 { 0 } else { of_other };
         let causes = of_row(length, 20, &[of_bound.max(of_other)]);
         let row = &row[..length];
-        let (number, _) = both::step(context, &BUILDER, row, (7, ONE));
-        in_order(context, &causes, number, || {
+        let (fault, _) = both::step(context, &BUILDER, row, (7, ONE));
+        in_order(context, &causes, fault, || {
             format!("builder of {length} words")
         });
-        let (number, _) = both::finish(context, row, 0, &[STALE_WORD; 5]);
-        in_order(context, &causes, number, || {
+        let (fault, _) = both::finish(context, row, 0, &[STALE_WORD; 5]);
+        in_order(context, &causes, fault, || {
             format!("choice of {length} words")
         });
     }

@@ -113,8 +113,8 @@ fn of_segment(
         for room in rooms {
             let short = if room < needed { OUTPUT } else { 0 };
             let out = vec![STALE_VALUE; room];
-            let (number, _) = both::read(context, call, segment, times, &out);
-            in_order(context, &[&causes[..], &[short]].concat(), number, || {
+            let (fault, _) = both::read(context, call, segment, times, &out);
+            in_order(context, &[&causes[..], &[short]].concat(), fault, || {
                 format!("reading {segment:X?} at {total} times, room {room}")
             });
         }
