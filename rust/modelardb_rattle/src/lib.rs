@@ -47,3 +47,8 @@ pub use refusal::{Fault, Refusal};
 pub use segments::{Model, Segment};
 pub use swing::{Line, Swing};
 pub use types::{ModelBuilder, SelectedModel, choose_model, choose_model_bits};
+
+/// The Rust that docs/BROKEN-UPLOADS.md shows, run as a test.
+#[cfg(doctest)]
+#[doc = include_str!("../../../docs/BROKEN-UPLOADS.md")]
+pub struct BrokenUploads;
