@@ -23,38 +23,34 @@ number TimesNotAllowed = 10
 number NoModel = 11
 number CountsDisagree = 12
 
--- the number of the value that was being read, and the bit place: a stream's own refusals have them, and the others show 0 and 0
-abbrev pub valueAt : Refusal → ℕ
-valueAt BoundNotAllowed = 0
-valueAt StateNotAllowed = 0
-valueAt OverLimit = 0
-valueAt OutputTooShort = 0
-valueAt (EndsEarly value place) = value
-valueAt (NoWindow value place) = value
-valueAt (WindowNotAllowed value place) = value
-valueAt (Leftover value place) = value
-valueAt FormNotAllowed = 0
-valueAt TimesNotAllowed = 0
-valueAt NoModel = 0
-valueAt CountsDisagree = 0
+-- where in a stream: the number of the value that was being read, and the bit place. "Other numbers .. show 0 and 0."
+pub record Where : Type 0 where
+  pub value : ℕ
+  pub place : ℕ
 
-abbrev pub placeAt : Refusal → ℕ
-placeAt BoundNotAllowed = 0
-placeAt StateNotAllowed = 0
-placeAt OverLimit = 0
-placeAt OutputTooShort = 0
-placeAt (EndsEarly value place) = place
-placeAt (NoWindow value place) = place
-placeAt (WindowNotAllowed value place) = place
-placeAt (Leftover value place) = place
-placeAt FormNotAllowed = 0
-placeAt TimesNotAllowed = 0
-placeAt NoModel = 0
-placeAt CountsDisagree = 0
+abbrev pub at : ℕ → ℕ → Where
+at value place = record { value = value; place = place }
+
+abbrev pub nowhere : Where
+nowhere = at 0 0
+
+abbrev pub whereOf : Refusal → Where
+whereOf BoundNotAllowed = nowhere
+whereOf StateNotAllowed = nowhere
+whereOf OverLimit = nowhere
+whereOf OutputTooShort = nowhere
+whereOf (EndsEarly value place) = at value place
+whereOf (NoWindow value place) = at value place
+whereOf (WindowNotAllowed value place) = at value place
+whereOf (Leftover value place) = at value place
+whereOf FormNotAllowed = nowhere
+whereOf TimesNotAllowed = nowhere
+whereOf NoModel = nowhere
+whereOf CountsDisagree = nowhere
 
 -- the fault that a refusal's answer says
 abbrev pub faultOf : Refusal → Fault
-faultOf r = faultIn (number r) (valueAt r) (placeAt r)
+faultOf r = faultIn (number r) (whereOf r .value) (whereOf r .place)
 
 -- the causes in the order of their numbers, those of a stream at a value and a place
 abbrev causes : ℕ → ℕ → List Refusal
