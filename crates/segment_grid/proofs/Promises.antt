@@ -74,7 +74,7 @@ module _ (model : ℕ) (ts : List ℤ) (ends : Said Ends) (residuals out : List 
       )
 
   -- one whose residual stream is refused: the same fault, its value and place counted in that stream, and the output as it was
-  pub grid-says-where : (f : Fault) → verdict (gridCauses model ts ends residuals (length out)) ≡ answered tt → residualsIn residuals (given ends .1) ≡ refused f
+  pub grid-says-where : (f : Fault) → verdict (gridCauses model ts ends residuals (length out)) ≡ answered tt → valuesIn (streamBytes residuals) (countIn residuals) (On (given ends .1)) ≡ refused f
       → (gridAnswer model ts ends residuals (length out) ≡ refused f) × (gridMemory model ts ends residuals out ≡ out)
   unfolding gridAnswer gridMemory
   grid-says-where f free broken =
@@ -256,6 +256,6 @@ module _ (model : ℕ) (ts : List ℤ) (ends : Said Ends) (residuals : List ℕ)
       sym (summed-with average) ∙ ap₂ (withResiduals (countIn residuals)) (the-model-has-a-sum average .1) (residuals-summed ∙ ap (stream.summed false) reads)
 
   -- where their stream is refused, so is the sum, in either form: the same fault, its value and place counted in that stream
-  pub sum-says-where : (average : Bool) (f : Fault) → residualsIn residuals (given ends .1) ≡ refused f → sumAnswer average model ts ends residuals ≡ refused f
+  pub sum-says-where : (average : Bool) (f : Fault) → valuesIn (streamBytes residuals) (countIn residuals) (On (given ends .1)) ≡ refused f → sumAnswer average model ts ends residuals ≡ refused f
   sum-says-where average f broken =
       sym (summed-with average) ∙ ap₂ (withResiduals (countIn residuals)) (the-model-has-a-sum average .1) (residuals-summed ∙ ap (stream.summed false) broken)
