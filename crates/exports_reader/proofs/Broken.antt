@@ -26,12 +26,9 @@ use Rattle.exports_reader.proofs.Promises.{next-refused-with, each-of-t
 
 -- opened into a row
 module _ (mode opening : ℕ) (row out : List ℕ) (one : mode ≤ 1) (words : readerLength ≤ length row) (room : 1 ≤ length out) (h : openingValue (openingOf mode opening) < 2 ^ 32) where
-  abbrev opened : List ℕ
-  opened = openRow mode opening row
-
   -- what a reader reads is read through the row
-  through-a-row : (bytes : List ℕ) (f : Fault) → ReadsUntil bytes (openingOf mode opening) f → RowReadsUntil bytes opened out f
-  through-a-row bytes f R =
+  until-through-a-row : (bytes : List ℕ) (f : Fault) → ReadsUntil bytes (openingOf mode opening) f → RowReadsUntil bytes (openRow mode opening row) out f
+  until-through-a-row bytes f R =
       record {
         values = R .run .values;
         long = R .long;
@@ -44,20 +41,20 @@ module _ (mode opening : ℕ) (row out : List ℕ) (one : mode ≤ 1) (words : r
             });
       }
 
-  sent-through-a-row : (bytes : List ℕ) (f : Fault) (sent : List ℕ) → ReadsAsSent bytes (openingOf mode opening) f sent → RowReadsAsSent bytes opened out f sent
-  unfolding through-a-row
-  sent-through-a-row bytes f sent R = record { until = through-a-row bytes f (R .until); asSent = R .asSent }
+  sent-through-a-row : (bytes : List ℕ) (f : Fault) (sent : List ℕ) → ReadsAsSent bytes (openingOf mode opening) f sent → RowReadsAsSent bytes (openRow mode opening row) out f sent
+  unfolding until-through-a-row
+  sent-through-a-row bytes f sent R = record { until = until-through-a-row bytes f (R .until); asSent = R .asSent }
 
   -- ---- the promises: of bytes that reading a count refuses
 
   module _ (bytes : List ℕ) (n : ℕ) (few : n ≤ mostValues) (f : Fault) (e : valuesIn bytes n (openingOf mode opening) ≡ refused f) where
     -- as many nexts as the fault says answer 0 and a value; behind them the next answers the fault and changes nothing or, where it is 8, the end answers it
-    pub until-it-broke-through-a-row : RowReadsUntil bytes opened out f
-    until-it-broke-through-a-row = through-a-row bytes f (call.until-it-broke bytes (openingOf mode opening) h n few f e)
+    pub until-it-broke-through-a-row : RowReadsUntil bytes (openRow mode opening row) out f
+    until-it-broke-through-a-row = until-through-a-row bytes f (call.until-it-broke bytes (openingOf mode opening) h n few f e)
 
     -- where the bits before its place are those of a stream that was sent, the values that come through are the first of those that were sent
     pub as-it-was-sent-through-a-row : (whole : List ℕ) (n₀ : ℕ) (sent : List ℕ) → valuesIn whole n₀ (openingOf mode opening) ≡ answered sent → f .value ≤ n₀
-        → take (f .place) (bitsOf bytes) ≡ take (f .place) (bitsOf whole) → RowReadsAsSent bytes opened out f sent
+        → take (f .place) (bitsOf bytes) ≡ take (f .place) (bitsOf whole) → RowReadsAsSent bytes (openRow mode opening row) out f sent
     as-it-was-sent-through-a-row whole n₀ sent acc le same =
         sent-through-a-row bytes f sent (call.as-it-was-sent bytes (openingOf mode opening) h n few f e whole n₀ sent acc le same)
 
@@ -73,12 +70,12 @@ module _ (mode opening : ℕ) (row out : List ℕ) (one : mode ≤ 1) (words : r
 
   module _ (bytes : List ℕ) (n : ℕ) (few : n ≤ mostValues) (sent : List ℕ) (acc : valuesIn bytes n (openingOf mode opening) ≡ answered sent) where
     -- only the first m bytes arrived: 5, and before it the nexts hand out the first of the values that were sent
-    pub a-cut-is-5-through-a-row : (m : ℕ) → m < length bytes → (f : Fault) × (f .number ≡ 5) × RowReadsAsSent (take m bytes) opened out f sent
+    pub a-cut-is-5-through-a-row : (m : ℕ) → m < length bytes → (f : Fault) × (f .number ≡ 5) × RowReadsAsSent (take m bytes) (openRow mode opening row) out f sent
     a-cut-is-5-through-a-row m less =
         let C = call.a-cut-is-5 bytes (openingOf mode opening) h n few sent acc m less in
         (C .fault, C .five, sent-through-a-row (take m bytes) (C .fault) sent (C .reads))
 
     -- further bytes follow: the nexts hand out all values that were sent, and then the end answers 8, at the first bit of these bytes
-    pub two-run-together-through-a-row : (more : List ℕ) → 0 < length more → RowReadsAsSent (bytes ++ more) opened out (faultIn 8 n (8 * length bytes)) sent
+    pub two-run-together-through-a-row : (more : List ℕ) → 0 < length more → RowReadsAsSent (bytes ++ more) (openRow mode opening row) out (faultIn 8 n (8 * length bytes)) sent
     two-run-together-through-a-row more any =
         sent-through-a-row (bytes ++ more) (faultIn 8 n (8 * length bytes)) sent (call.two-run-together bytes (openingOf mode opening) h n few sent acc more any .1)
