@@ -1,4 +1,5 @@
--- The promise of the calls together: start reading here. What a caller prints by them (`printed`) is the listing of 01. Assumes nothing.
+-- The promise of the calls together: start reading here. What a caller prints by them (`printed`) is the listing of 01; of a stream that breaks off it is
+-- the one line of its fault. Assumes nothing.
 use mathlib.Core.Path.{_≡_, refl, sym, ap, ap₂, _∙_}
 use mathlib.Core.Bool.{Bool, true, false, false≢true}
 use mathlib.Core.List.{List, [], _∷_, _++_, append-assoc}
