@@ -86,6 +86,10 @@ module _ {A : Type 0} (words : A → List ℕ) (need : ℕ) (row : List ℕ) whe
   roomy-row (answered x) (inr h) = absurd (false≢true h)
   roomy-row (refused f) (inr h) = same (leb need (length row)) row
 
+  -- so a refusal is told as it is, whatever its number, and leaves the row
+  pub refused-with-room : (said : Said A) (f : Fault) → said ≡ refused f → need ≤ length row → (faultSaid need (length row) said ≡ f) × (rowAfter need words row said ≡ row)
+  refused-with-room said f e h = (roomy-fault said (inl h) ∙ ap plainFault e, roomy-row said (inl h) ∙ ap (rowIn words row) e)
+
 -- words that were put into a row that holds them
 pub put-plain : {A : Type 0} (words : A → List ℕ) (need : ℕ) (row : List ℕ) (said : Said A) (v : Verdict) (ws : List ℕ) → need ≤ length row → length ws ≡ need → wordsSaid v ws ≡ worded words said
     → {told : Fault} {after : List ℕ} → Faced wholeRow (length ws) row (wordsSaid v ws) told after → (told ≡ plainFault said) × (after ≡ rowIn words row said)

@@ -16,7 +16,6 @@ use Rattle.models.specs.Limits.{mostValues}
 use Rattle.models.specs.declared.ErrorBound.{ErrorBound}
 use Rattle.models.specs.declared.ErrorBound.the-variants.{Lossless}
 use Rattle.models.proofs.Judged.{accepted-on, not-answered, not-answered-on, same-answer, same-answer-on}
-use Rattle.models.proofs.Tests.{or-right}
 use Rattle.stream.specs.Format.{macaque, Window, windowIn, rawNext, bare}
 use Rattle.stream.specs.Read as stream
 use Rattle.stream.specs.Read.{Step, got, stepAt, ended, endedBy, leftover}
@@ -30,19 +29,20 @@ use Rattle.macaque_v.specs.Made.{keptOf}
 use Rattle.macaque_v.specs.declared.Opening.{Opening}
 use Rattle.macaque_v.specs.declared.Opening.the-variants.{First, On}
 use Rattle.macaque_v.proofs.Promises.{values-read-back, lossless-keeps-the-inputs}
-use Rattle.exports.specs.Face.{beforeShort, refusalFault, faultSaid, rowAfter, plainFault}
+use Rattle.exports.specs.Face.{refusalFault, faultSaid, rowAfter, plainFault}
+use Rattle.exports.proofs.Rows.{refused-with-room}
 use Rattle.exports_stream.proofs.Numbers.{judged-so}
 use Rattle.exports_stream.proofs.Promises.{place-word, length-word}
 use Rattle.exports_stream.specs.Row.{writerIn, bytesInUse, lengthWord}
 use Rattle.exports_stream.specs.Calls.{openingOf, gridFault, gridOut, RowMade}
 use Rattle.reader.specs.Calls.{openedAt, Taken, nextCauses, handed, nextRead, nextAnswer, endAnswer}
-use Rattle.reader.specs.Run.{also, andThen, nexts, ifEnded, andEnd}
+use Rattle.reader.specs.Run.{Run, also, andThen, nexts, ifEnded, andEnd}
 use Rattle.reader.specs.declared.position.Position.{Position}
-use Rattle.reader.proofs.Promises.{cons, also-cons, n-nexts-and-the-end, as-the-grid}
+use Rattle.reader.proofs.Promises.{n-nexts-and-the-end, as-the-grid}
 use Rattle.exports_reader.specs.Row.{readerLength, standsForReader, positionIn}
-use Rattle.exports_reader.specs.Calls.{openFault, openRow, nextRow, endFault}
-use Rattle.exports_reader.specs.Run.{nextFault, nextMoved, nextOut, unless, ifZero, andLater, readThrough, EachAnswersZero}
-use Rattle.exports_reader.proofs.Faces.{short-stands-for-none, no-reader, small-words, a-reader, no-reader-next, no-reader-end, position-back}
+use Rattle.exports_reader.specs.Calls.{openFault, openRow, oneValue, nextRow, endFault}
+use Rattle.exports_reader.specs.Run.{nextFault, nextMoved, nextOut, unless, ifZero, andLater, readThrough, EachNextZero, EachAnswersZero}
+use Rattle.exports_reader.proofs.Faces.{short-stands-for-none, no-reader, small-words, a-reader, next-refused, no-reader-next, no-reader-end, position-back}
 
 -- ---- a reader whose words are of 32 bits is read back from its row, and its next leads to such a one
 
@@ -139,14 +139,20 @@ module _ (bytes : List ℕ) where
   ends (answered u) h = refl
   ends (refused f) h = told f (answered []) h
 
-  same-later : (v : ℕ) (a : Said (List ℕ)) → andLater v a ≡ cons v a
-  same-later v (answered vs) = refl
-  same-later v (refused f) = refl
+  also-later : (v : ℕ) (q : SaidOn Position Run) → andEnd bytes (also v q) ≡ andLater v (andEnd bytes q)
+  also-later v (answeredOn r) = go (endAnswer bytes (r .after))
+    where
+      go : (a : Said Done) → ifEnded (v ∷ r .values) a ≡ andLater v (ifEnded (r .values) a)
+      go (answered u) = refl
+      go (refused n) = refl
+  also-later v (refusedOn n p) = refl
 
-  -- a refused next, with an output of one place or more
-  next-refused-with : (row out : List ℕ) → 1 ≤ length out → (f : Fault) (p : Position) → nextAnswer bytes (positionIn row) ≡ refusedOn f p → nextFault bytes row out ≡ f
-  unfolding faultSaid refusalFault
-  next-refused-with row out room f p e = rw (e, le-leb 1 (length out) room, or-right (beforeShort (f .number)) true refl)
+  -- a refused next, with an output of one place or more: its fault, and the row and the output as they were
+  pub next-refused-with : (row out : List ℕ) → 1 ≤ length out → (f : Fault) (p : Position) → nextAnswer bytes (positionIn row) ≡ refusedOn f p
+      → (nextFault bytes row out ≡ f) × (nextMoved bytes row out ≡ row) × (nextOut bytes row out ≡ out)
+  next-refused-with row out room f p e =
+      let r = refused-with-room oneValue 1 out (stateless (nextAnswer bytes (positionIn row))) f (ap stateless e) room in
+      (r .0, sym (next-refused row out (nextAnswer bytes (positionIn row)) f p e .1), r .1)
 
   -- through whatever row, with an output of one place or more: n nexts and the end hand over what the reader reads that the row stands for, or answer
   -- its refusal
@@ -165,53 +171,81 @@ module _ (bytes : List ℕ) where
           let later = ih (nextMoved bytes row out) (nextOut bytes row out) long ∙ ap (λ (p : Position). andEnd bytes (nexts bytes n p)) (m .2) in
           ap (λ (k : Fault). ifZero k (andLater (getD (nextOut bytes row out) 0 0) (readThrough bytes n (nextMoved bytes row out) (nextOut bytes row out)))) (m .0)
           ∙ ap₂ andLater (ap (λ (l : List ℕ). getD l 0 0) (m .1)) later
-          ∙ same-later (t .value) (andEnd bytes (nexts bytes n (t .after)))
-          ∙ sym (also-cons bytes (t .value) (nexts bytes n (t .after)))
+          ∙ sym (also-later (t .value) (nexts bytes n (t .after)))
       go (refusedOn f p) e ih =
-          ap (λ (k : Fault). ifZero k (andLater (getD (nextOut bytes row out) 0 0) (readThrough bytes n (nextMoved bytes row out) (nextOut bytes row out)))) (next-refused-with row out room f p e)
+          ap (λ (k : Fault). ifZero k (andLater (getD (nextOut bytes row out) 0 0) (readThrough bytes n (nextMoved bytes row out) (nextOut bytes row out)))) (next-refused-with row out room f p e .0)
           ∙ told f _ (subst (λ (q : SaidOn Position Taken). Numbered (stateless q)) e (next-numbered bytes (positionIn row)))
 
-  -- the same, call by call
-  each : (n : ℕ) (row out : List ℕ) (vs : List ℕ) → readThrough bytes n row out ≡ answered vs → EachAnswersZero bytes row out vs
-  unfolding readThrough
-  each zero row out vs e = ended-so ((endFault bytes row) .number) refl e
+  -- ---- the same, call by call
+
+  module _ (then : List ℕ → List ℕ → Type 0) where
+    -- behind nexts of the reader that are answered, `then` is to be shown of every row that stands for it there, and of every output
+    abbrev Each : List ℕ → List ℕ → SaidOn Position Run → Type 0
+    Each row out (answeredOn r) = ((after left : List ℕ) → 1 ≤ length left → positionIn after ≡ r .after → then after left) → EachNextZero bytes row out (r .values) then
+    Each row out (refusedOn f p) = Unit
+
+    each-also : (row out : List ℕ) (v : ℕ) (q : SaidOn Position Run) → (nextFault bytes row out) .number ≡ 0 → getD (nextOut bytes row out) 0 0 ≡ v
+        → Each (nextMoved bytes row out) (nextOut bytes row out) q → Each row out (also v q)
+    each-also row out v (answeredOn r) z is k = λ h. (z, is, k h)
+    each-also row out v (refusedOn f p) z is k = tt
+
+    each-next : (n : ℕ) (row out : List ℕ) → 1 ≤ length out → Each row out (nexts bytes n (positionIn row))
+    unfolding nexts
+    each-next zero row out room = λ h. h row out room refl
+    each-next (suc n) row out room = go (nextAnswer bytes (positionIn row)) refl (λ row′ out′ room′. each-next n row′ out′ room′)
+      where
+        go : (q : SaidOn Position Taken) → nextAnswer bytes (positionIn row) ≡ q → ((row′ out′ : List ℕ) → 1 ≤ length out′ → Each row′ out′ (nexts bytes n (positionIn row′)))
+            → Each row out (andThen q (λ t. also (t .value) (nexts bytes n (t .after))))
+        go (refusedOn f p) e ih = tt
+        go (answeredOn t) e ih =
+            let m = a-row-moves bytes row out room t e in
+            let long : 1 ≤ length (nextOut bytes row out) = subst (λ (l : List ℕ). 1 ≤ length l) (sym (m .1)) (omega arith) in
+            each-also row out (t .value) (nexts bytes n (t .after)) (ap (λ (f : Fault). f .number) (m .0)) (ap (λ (l : List ℕ). getD l 0 0) (m .1))
+            (subst (λ (p : Position). Each (nextMoved bytes row out) (nextOut bytes row out) (nexts bytes n p)) (m .2) (ih (nextMoved bytes row out) (nextOut bytes row out) long))
+
+  -- the values of nexts and an end that are answered
+  answered-run : (q : SaidOn Position Run) (vs : List ℕ) → andEnd bytes q ≡ answered vs → (r : Run) × (q ≡ answeredOn r) × (r .values ≡ vs) × (endAnswer bytes (r .after) ≡ answered tt)
+  answered-run (refusedOn f p) vs e = absurd (not-answered e)
+  answered-run (answeredOn r) vs e = let g = go (endAnswer bytes (r .after)) e in (r, refl, g .0, g .1)
     where
-      ended-so : (k : ℕ) → (endFault bytes row) .number ≡ k → unless k (endFault bytes row) (answered []) ≡ answered vs → EachAnswersZero bytes row out vs
-      ended-so zero z e = subst (EachAnswersZero bytes row out) (same-answer e) z
-      ended-so (suc k) z e = absurd (not-answered e)
-  each (suc n) row out vs e = go ((nextFault bytes row out) .number) refl (readThrough bytes n (nextMoved bytes row out) (nextOut bytes row out)) refl e (λ us r. each n (nextMoved bytes row out) (nextOut bytes row out) us r)
-    where
-      go : (k : ℕ) → (nextFault bytes row out) .number ≡ k → (q : Said (List ℕ)) → readThrough bytes n (nextMoved bytes row out) (nextOut bytes row out) ≡ q
-          → unless k (nextFault bytes row out) (andLater (getD (nextOut bytes row out) 0 0) q) ≡ answered vs
-          → ((us : List ℕ) → readThrough bytes n (nextMoved bytes row out) (nextOut bytes row out) ≡ answered us → EachAnswersZero bytes (nextMoved bytes row out) (nextOut bytes row out) us)
-          → EachAnswersZero bytes row out vs
-      go zero z (answered us) r e ih = subst (EachAnswersZero bytes row out) (same-answer e) (z, refl, ih us r)
-      go zero z (refused f) r e ih = absurd (not-answered e)
-      go (suc k) z q r e ih = absurd (not-answered e)
+      go : (a : Said Done) → ifEnded (r .values) a ≡ answered vs → (r .values ≡ vs) × (a ≡ answered tt)
+      go (answered u) e = (same-answer e, refl)
+      go (refused f) e = absurd (not-answered e)
 
   -- ---- opened into a row, read n times and ended through it
 
-  module _ (mode opening : ℕ) (row out : List ℕ) (one : mode ≤ 1) (words : readerLength ≤ length row) (room : 1 ≤ length out) (h : openingValue (openingOf mode opening) < 2 ^ 32)
-      (n : ℕ) (few : n ≤ mostValues) where
-    -- the open is 0, and the nexts and the end hand over the values that reading takes of a count of n, or answer its refusal, 5 to 8
-    pub n-nexts-and-the-end-through-a-row : (openFault mode row ≡ noFault) × (readThrough bytes n (openRow mode opening row) out ≡ valuesIn bytes n (openingOf mode opening))
-    n-nexts-and-the-end-through-a-row =
-        let o = an-opened-row mode opening row one words h in
-        (o .0, through-a-row n (openRow mode opening row) out room ∙ ap (λ (p : Position). andEnd bytes (nexts bytes n p)) (o .1) ∙ n-nexts-and-the-end bytes (openingOf mode opening) h n few)
+  module _ (mode opening : ℕ) (row out : List ℕ) (one : mode ≤ 1) (words : readerLength ≤ length row) (room : 1 ≤ length out) (h : openingValue (openingOf mode opening) < 2 ^ 32) where
+    -- nexts that the opened reader answers are 0 and hand over its values, and the row behind them stands for the reader behind them
+    pub each-of-the-nexts : (k : ℕ) (run : Run) → nexts bytes k (openedAt (openingOf mode opening)) ≡ answeredOn run
+        → (then : List ℕ → List ℕ → Type 0) → ((after left : List ℕ) → 1 ≤ length left → positionIn after ≡ run .after → then after left)
+        → EachNextZero bytes (openRow mode opening row) out (run .values) then
+    each-of-the-nexts k run e then =
+        subst (Each then (openRow mode opening row) out) (ap (nexts bytes k) (an-opened-row mode opening row one words h .1) ∙ e) (each-next then k (openRow mode opening row) out room)
 
-    -- as the grid of the C face answers and draws them, where it has room
-    pub as-the-grid-through-a-row : (grid : List ℕ) → n ≤ length grid
-        → (gridFault bytes n mode opening grid ≡ plainFault (drawn (readThrough bytes n (openRow mode opening row) out)))
-        × (gridOut bytes n mode opening grid ≡ drawnIn grid (readThrough bytes n (openRow mode opening row) out))
-    unfolding gridFault gridOut
-    as-the-grid-through-a-row grid fits =
-        let g = as-the-grid bytes (openingOf mode opening) h n few grid fits in
-        let same = n-nexts-and-the-end bytes (openingOf mode opening) h n few ∙ sym (n-nexts-and-the-end-through-a-row .1) in
-        rw (le-leb mode 1 one) (ap plainFault (g .0) ∙ ap (λ (q : Said (List ℕ)). plainFault (drawn q)) same, g .1 ∙ ap (drawnIn grid) same)
+    module _ (n : ℕ) (few : n ≤ mostValues) where
+      -- the open is 0, and the nexts and the end hand over the values that reading takes of a count of n, or answer its refusal, 5 to 8
+      pub n-nexts-and-the-end-through-a-row : (openFault mode row ≡ noFault) × (readThrough bytes n (openRow mode opening row) out ≡ valuesIn bytes n (openingOf mode opening))
+      n-nexts-and-the-end-through-a-row =
+          let o = an-opened-row mode opening row one words h in
+          (o .0, through-a-row n (openRow mode opening row) out room ∙ ap (λ (p : Position). andEnd bytes (nexts bytes n p)) (o .1) ∙ n-nexts-and-the-end bytes (openingOf mode opening) h n few)
 
-    -- so of a stream that reads as n values each next answers 0 and the next of them, and the end answers 0
-    pub each-answers-0 : (vs : List ℕ) → valuesIn bytes n (openingOf mode opening) ≡ answered vs → EachAnswersZero bytes (openRow mode opening row) out vs
-    each-answers-0 vs e = each n (openRow mode opening row) out vs (n-nexts-and-the-end-through-a-row .1 ∙ e)
+      -- as the grid of the C face answers and draws them, where it has room
+      pub as-the-grid-through-a-row : (grid : List ℕ) → n ≤ length grid
+          → (gridFault bytes n mode opening grid ≡ plainFault (drawn (readThrough bytes n (openRow mode opening row) out)))
+          × (gridOut bytes n mode opening grid ≡ drawnIn grid (readThrough bytes n (openRow mode opening row) out))
+      unfolding gridFault gridOut
+      as-the-grid-through-a-row grid fits =
+          let g = as-the-grid bytes (openingOf mode opening) h n few grid fits in
+          let same = n-nexts-and-the-end bytes (openingOf mode opening) h n few ∙ sym (n-nexts-and-the-end-through-a-row .1) in
+          rw (le-leb mode 1 one) (ap plainFault (g .0) ∙ ap (λ (q : Said (List ℕ)). plainFault (drawn q)) same, g .1 ∙ ap (drawnIn grid) same)
+
+      -- so of a stream that reads as n values each next answers 0 and the next of them, and the end answers 0
+      pub each-answers-0 : (vs : List ℕ) → valuesIn bytes n (openingOf mode opening) ≡ answered vs → EachAnswersZero bytes (openRow mode opening row) out vs
+      each-answers-0 vs e =
+          let a = answered-run (nexts bytes n (openedAt (openingOf mode opening))) vs (n-nexts-and-the-end bytes (openingOf mode opening) h n few ∙ e) in
+          subst (EachAnswersZero bytes (openRow mode opening row) out) (a .2)
+          (each-of-the-nexts n (a .0) (a .1) (λ after left. (endFault bytes after) .number ≡ 0)
+          (λ after left long is. ap (λ (p : Position). (plainFault (endAnswer bytes p)) .number) is ∙ ap (λ (x : Said Done). (plainFault x) .number) (a .3)))
 
 -- ---- demand 2, from a writer's row to a reader's: what was written through the one reads back through the other as the kept values
 

@@ -41,10 +41,16 @@ readThrough bytes (suc n) row out =
     ifZero (nextFault bytes row out)
     (andLater (getD (nextOut bytes row out) 0 0) (readThrough bytes n (nextMoved bytes row out) (nextOut bytes row out)))
 
--- the same, call by call: each next answers the number 0 and puts its value into out[0], and behind them the end answers 0
-abbrev pub EachAnswersZero : List ℕ → List ℕ → List ℕ → List ℕ → Type 0
-EachAnswersZero bytes row out [] = (endFault bytes row) .number ≡ 0
-EachAnswersZero bytes row out (v ∷ vs) =
+-- ---- the same, call by call
+
+-- each next answers the number 0 and puts its value into out[0], and `then` is so of the row and the output behind them
+abbrev pub EachNextZero : List ℕ → List ℕ → List ℕ → List ℕ → (List ℕ → List ℕ → Type 0) → Type 0
+EachNextZero bytes row out [] then = then row out
+EachNextZero bytes row out (v ∷ vs) then =
     ((nextFault bytes row out) .number ≡ 0)
     × (getD (nextOut bytes row out) 0 0 ≡ v)
-    × EachAnswersZero bytes (nextMoved bytes row out) (nextOut bytes row out) vs
+    × EachNextZero bytes (nextMoved bytes row out) (nextOut bytes row out) vs then
+
+-- and behind them the end answers 0
+abbrev pub EachAnswersZero : List ℕ → List ℕ → List ℕ → List ℕ → Type 0
+EachAnswersZero bytes row out vs = EachNextZero bytes row out vs (λ after left. (endFault bytes after) .number ≡ 0)

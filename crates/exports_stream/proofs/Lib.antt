@@ -3,4 +3,5 @@ pub mod Words
 pub mod Faces
 pub mod Numbers
 pub mod Promises
+pub mod Broken
 pub mod Causes

@@ -1,4 +1,5 @@
--- The promise of the calls together: start reading here. What a caller prints by them (`printed`) is the listing of 01. Assumes nothing.
+-- The promise of the calls together: start reading here. What a caller prints by them (`printed`) is the listing of 01; of a stream that breaks off it is
+-- the one line of its fault. Assumes nothing.
 use mathlib.Core.Path.{_≡_, refl, sym, ap, ap₂, _∙_}
 use mathlib.Core.Bool.{Bool, true, false, false≢true}
 use mathlib.Core.List.{List, [], _∷_, _++_, append-assoc}
@@ -6,13 +7,14 @@ use Prim.Native.Nat.{ℕ, zero, suc, _+_, _*_, _≤_, _<_}
 use native.Mathlib.Nat.{add-zero, zero-add}
 use native.Mathlib.Numerals.{add-one}
 use native.Mathlib.Omega.{arith}
-use borrow.Author.Tests.{ltb-false, lt-leb}
+use borrow.Author.Tests.{ltb-false, lt-leb, le-ltb, lt-ltb}
 use lib.ListN.{length, drop}
 use lib.Seq.{drop-drop, length-sets}
 use Rattle.bits.specs.Bits.{bitsOf}
 use Rattle.models.specs.Answers.{Said, answered, refused, Cause, _when_, judge, fault, NoneHolds}
 use Rattle.models.specs.declared.Fault.{Fault}
 use Rattle.models.specs.Limits.{mostValues}
+use Rattle.models.proofs.Judged.{accepted, not-refused, same-fault}
 use Rattle.stream.specs.Format.{Window, State, isRaw, advance, windowIn}
 use Rattle.stream.specs.Calls.{faultAt}
 use Rattle.stream.specs.Read as stream
@@ -20,12 +22,12 @@ use Rattle.stream.specs.Read.{Step, Reading, done, stopped, push, follow, ended
 use Rattle.coding.proofs.Words.{read-of-45}
 use Rattle.macaque_v.specs.ReadRun.{stateAt, ahead}
 use Rattle.macaque_v.specs.inner.ReadRun.{ReadableAt}
-use Rattle.macaque_v.specs.Read.{startOf}
+use Rattle.macaque_v.specs.Read.{startOf, valuesRead, valuesIn}
 use Rattle.macaque_v.specs.declared.Opening.the-variants.{First}
 use Rattle.macaque_v.specs.declared.read_run.Cursor.{Cursor}
 use Rattle.macaque_v.proofs.ReadingRun.{used-most, readable-next}
-use Rattle.macaque_v.proofs.ReadingAll.{start-readable}
-use Rattle.listing.specs.Text.{headerText, rowText, totalText, refusedText, laid}
+use Rattle.macaque_v.proofs.ReadingAll.{start-readable, same-values}
+use Rattle.listing.specs.Text.{digitText, digitsOf, placesUpTo, headerText, rowText, totalText, refusedText, laid}
 use Rattle.listing.specs.Rows.{listed, rowOf, rowsBy, rowsFrom, totalBits, rowsText}
 use Rattle.listing.specs.Listing.{countIn, streamIn, inputCauses, start, readWhole, textBy, streamText, listingText}
 use Rattle.listing.specs.Calls.{counted, judgeAnswer, foundBy, rowFound, RowLine, lineOf, lineIn, rowAnswer, rowMemory}
@@ -175,7 +177,24 @@ module _ (input line : List ℕ) (e : length line ≡ 80) where
       by-causes (printedBy (streamIn input) line) refusal-printed (counted (countIn input) (readWhole (countIn input) (streamIn input))) (streamText (countIn input) (streamIn input)) (inputCauses input)
       (λ fine. stream-printed (streamIn input) (countIn input) (ltb-false mostValues (countIn input) (fine .1 .1 .0)))
 
-  -- "On a refusal the only line is as `refused 5`."
+  -- "On a refusal the only line is as `refused 5`", and behind that number are the value and the place
   pub one-line : (f : Fault) → judgeAnswer input ≡ refused f → listingText input ≡ refusedText f
   unfolding printed
   one-line f h = sym the-listing ∙ ap (printedBy (streamIn input) line) h ∙ refusal-printed f
+
+  -- a stream that breaks off is said to break where every call that reads it says so: all that is printed is the line of that fault
+  pub the-listing-says-where : (f : Fault) → NoneHolds (inputCauses input) → valuesIn (streamIn input) (countIn input) First ≡ refused f → printed input line ≡ refusedText f
+  unfolding listingText
+  the-listing-says-where f fine broken =
+      the-listing ∙ sym (accepted refusedText _ (inputCauses input) fine)
+      ∙ go (readWhole (countIn input) (streamIn input)) (sym (same-values (streamIn input) First (countIn input)) ∙ broken)
+    where
+      go : (q : Reading Unit) → valuesRead q ≡ refused f → textBy (rowsFrom (countIn input) start (bitsOf (streamIn input))) q ≡ refusedText f
+      go (done vs s rest) b = absurd (not-refused b)
+      go (stopped r) b = ap refusedText (same-fault b)
+
+  -- "fewer than 4 with 5": an input that has no whole count breaks off at its start, `refused 5 0 0`
+  pub no-whole-count : length input < 4
+      → printed input line ≡ 114 ∷ 101 ∷ 102 ∷ 117 ∷ 115 ∷ 101 ∷ 100 ∷ 32 ∷ 53 ∷ 32 ∷ 48 ∷ 32 ∷ 48 ∷ 10 ∷ []
+  unfolding listingText judge refusedText digitsOf placesUpTo digitText
+  no-whole-count few = the-listing ∙ rw (le-ltb 32768 (length input) (omega arith), lt-ltb (length input) 4 few)

@@ -11,4 +11,5 @@ pub mod ReadingTally
 pub mod ReadingEnd
 pub mod ReadingAll
 pub mod Drawing
+pub mod Broken
 pub mod Causes

@@ -1,75 +1,37 @@
--- A reader on a stream that breaks off: it hands out the values before the break, says the same refusal where it stands, and its values are those that
--- were sent where the bits before the break are. Assumes nothing.
+-- A reader on a stream that breaks off: it hands out the values before the break, says the same refusal where it stands, as every other call does, and
+-- its values are those that were sent where the bits before the break are. Assumes nothing.
 use mathlib.Core.Path.{_≡_, refl, sym, ap, ap₂, _∙_, subst}
 use mathlib.Core.Bool.{Bool}
 use mathlib.Core.List.{List, [], _++_}
 use mathlib.Core.Option.{Option}
-use Prim.Native.Nat.{ℕ, zero, suc, _+_, _*_, _^_, _≤_, _<_}
+use Prim.Native.Nat.{ℕ, _*_, _^_, _≤_, _<_}
 use native.Mathlib.Omega.{arith}
-use lib.ListN.{length, take, drop}
+use borrow.Author.Tests.{le-ltb}
+use lib.ListN.{length, take}
 use lib.Seq.{take-all}
 use Rattle.bits.specs.Bits.{bitsOf}
-use Rattle.models.specs.Answers.{answered, refused, SaidOn, answeredOn, refusedOn, judge, faultIn}
+use Rattle.models.specs.Answers.{answered, refused, answeredOn, refusedOn, judge, faultIn}
 use Rattle.models.specs.Limits.{mostValues}
 use Rattle.models.specs.declared.Fault.{Fault}
+use Rattle.models.proofs.Judged.{same-answer-on}
 use Rattle.models.proofs.Tests.{never}
-use Rattle.stream.specs.Format.{Stream, State, fresh, advance, bare}
-use Rattle.stream.specs.Read as stream
-use Rattle.stream.specs.Read.{StreamRefusal, Step, got, Reading, done, stopped, push, follow, stepAt, readN, leftover, endedBy, ended, readAll}
+use Rattle.stream.specs.Format.{Stream, State, fresh, bare}
+use Rattle.stream.specs.Read.{StreamRefusal, Step, Reading, done, stopped, stepAt, readN, leftover, endedBy, ended, readAll}
 use Rattle.stream.specs.Calls.{faultAt}
 use Rattle.stream.specs.Broken.{BrokenAt, CutShort}
 use Rattle.stream.proofs.Formats.{macaque-good}
-use Rattle.stream.proofs.Steps.{rest-at}
-use Rattle.stream.proofs.Writing.{fresh-small}
 use Rattle.stream.proofs.Broken as theory
 use Rattle.macaque_v.specs.State.{modeOf, isFirst, openingValue}
-use Rattle.macaque_v.specs.ReadRun.{stateAt, ahead, movedBy, endSaid}
-use Rattle.macaque_v.specs.inner.ReadRun.{readFrom}
+use Rattle.macaque_v.specs.ReadRun.{movedBy, endSaid}
 use Rattle.macaque_v.specs.Read.{valuesRead, valuesIn, drawn}
 use Rattle.macaque_v.specs.declared.Opening.{Opening}
-use Rattle.macaque_v.specs.declared.read_run.Cursor.{Cursor}
 use Rattle.macaque_v.proofs.ReadingAll.{same-values}
-use Rattle.reader.specs.Calls.{openedAt, Taken, movedTo, handed, nextRead, endAnswer}
-use Rattle.reader.specs.Run.{Run, also, andThen, nexts}
-use Rattle.reader.specs.Broken.{ReadsUntil, ReadsAsSent, CutUpload}
+use Rattle.macaque_v.proofs.Broken.{grid-says-where, sum-says-where, reopening-says-where}
+use Rattle.reader.specs.Calls.{openedAt, handed, nextRead, endAnswer}
+use Rattle.reader.specs.Run.{Run, nexts, lastOf, lastAnswer}
+use Rattle.reader.specs.Broken.{ReadsUntil, EveryCallSays, ReadsAsSent, CutUpload}
 use Rattle.reader.specs.declared.position.Position.{Position}
-use Rattle.reader.proofs.Promises.{Going, allowed, goes-on, same-place, accepted, Led, nexts-led, start-goes}
-
--- where the theory's reading stands, as a reader holds it
-abbrev cursorOf : State Unit → Cursor
-cursorOf t = record { last = t .last; lead = t .win .lead; trail = t .win .trail; place = t .place; count = t .count }
-
--- the values that were read, and the reader behind them
-abbrev runOf : Bool → List ℕ → State Unit → Run
-runOf first vs t = record { values = vs; after = record { «with_first» = first; at = cursorOf t } }
-
--- what nexts answer where the theory reads so: its values, or its refusal
-abbrev NextsSay : Bool → SaidOn Position Run → Reading Unit → Type 0
-NextsSay first a (done vs t rest) = a ≡ answeredOn (runOf first vs t)
-NextsSay first a (stopped r) = (q : Position) × (a ≡ refusedOn (faultAt r) q)
-
-also-say : (first : Bool) (v : ℕ) (a : SaidOn Position Run) (q : Reading Unit) → NextsSay first a q → NextsSay first (also v a) (push v q)
-also-say first v a (done vs t rest) e = ap (also v) e
-also-say first v a (stopped r) e = (e .0, ap (also v) (e .1))
-
-module _ (bytes : List ℕ) where
-  nexts-say : (n : ℕ) (p : Position) → Going bytes (p .at) → p .at .count + n ≤ mostValues → NextsSay (p .«with_first») (nexts bytes n p) (readFrom (p .«with_first») bytes (p .at) n)
-  unfolding nexts nextRead readN
-  nexts-say zero p g few = refl
-  nexts-say (suc n) p g few =
-      subst (λ (a : SaidOn Position Taken). NextsSay (p .«with_first») (andThen a (λ t. also (t .value) (nexts bytes n (t .after)))) (readFrom (p .«with_first») bytes (p .at) (suc n))) (sym (accepted bytes p g (omega arith)))
-      (go (stepAt (bare (modeOf (p .«with_first»))) (stateAt (p .at)) (ahead bytes (p .at))) refl (λ p′ g′ few′. nexts-say n p′ g′ few′))
-    where
-      go : (q : Step) → stepAt (bare (modeOf (p .«with_first»))) (stateAt (p .at)) (ahead bytes (p .at)) ≡ q
-          → ((p′ : Position) → Going bytes (p′ .at) → p′ .at .count + n ≤ mostValues → NextsSay (p′ .«with_first») (nexts bytes n p′) (readFrom (p′ .«with_first») bytes (p′ .at) n))
-          → NextsSay (p .«with_first») (andThen (handed p (movedBy (p .at) q)) (λ t. also (t .value) (nexts bytes n (t .after))))
-          (follow (stateAt (p .at)) q (λ v win used. push v (readN (bare (modeOf (p .«with_first»))) n (advance (bare (modeOf (p .«with_first»))) (stateAt (p .at)) v win used) (drop used (ahead bytes (p .at))))))
-      go (stream.halt m) e ih = (p, refl)
-      go (got v win used) e ih =
-          let to : Position = movedTo p (record { last = v; lead = win .lead; trail = win .trail; place = p .at .place + used; count = p .at .count + 1 }) in
-          also-say (p .«with_first») v (nexts bytes n to)
-          (readN (bare (modeOf (p .«with_first»))) n (advance (bare (modeOf (p .«with_first»))) (stateAt (p .at)) v win used) (drop used (ahead bytes (p .at))))
-          (subst (NextsSay (p .«with_first») (nexts bytes n to)) (sym (same-place bytes (p .«with_first») (p .at) g v win used e n)) (ih to (goes-on bytes (p .«with_first») (p .at) g v win used e) (omega arith)))
+use Rattle.reader.proofs.Promises.{cursorOf, runOf, HandsOut, NextsSay, nexts-say, allowed, accepted, start-goes}
 
 -- ---- reading a count, by the theory: a stream that gathers nothing
 
@@ -93,13 +55,9 @@ module _ (bytes : List ℕ) (o : Opening) (h : openingValue o < 2 ^ 32) where
   abbrev start : State Unit
   start = fresh (plain o) (openingValue o)
 
-  -- so many values are read by nexts, and reading stands behind them
-  nexts-hand-out : (k : ℕ) → k ≤ mostValues → (vs : List ℕ) (t : State Unit) (rest : List Bool) → readN (plain o) k start (bitsOf bytes) ≡ done vs t rest
-      → nexts bytes k (openedAt o) ≡ answeredOn (runOf (isFirst o) vs t)
-  nexts-hand-out k few vs t rest e = subst (NextsSay (isFirst o) (nexts bytes k (openedAt o))) e (nexts-say bytes k (openedAt o) (start-goes bytes o h) (omega arith))
-
-  behind-them : (k : ℕ) → k ≤ mostValues → (vs : List ℕ) (t : State Unit) (rest : List Bool) → readN (plain o) k start (bitsOf bytes) ≡ done vs t rest → Going bytes (cursorOf t)
-  behind-them k few vs t rest e = subst (Led bytes (0 + k)) (nexts-hand-out k few vs t rest e) (nexts-led bytes k (openedAt o) (start-goes bytes o h) (omega arith)) .0
+  -- k values are read by nexts, and the reader stands behind them
+  as-the-theory : (k : ℕ) → k ≤ mostValues → {q : Reading Unit} → readN (plain o) k start (bitsOf bytes) ≡ q → NextsSay bytes (isFirst o) k (nexts bytes k (openedAt o)) q
+  as-the-theory k few e = subst (NextsSay bytes (isFirst o) k (nexts bytes k (openedAt o))) e (nexts-say bytes k k (openedAt o) (start-goes bytes o h) (omega arith) few)
 
   module _ (n : ℕ) (few : n ≤ mostValues) where
     -- what the theory says of the refusal, of the reader
@@ -108,17 +66,17 @@ module _ (bytes : List ℕ) (o : Opening) (h : openingValue o < 2 ^ 32) where
     reads-until r B =
         record {
           run = runOf (isFirst o) (B .values) t;
-          accepts = nexts-hand-out (r .value) most (B .values) t (B .rest) (B .reads);
+          accepts = says .answers;
           long = B .long;
           next = λ other.
               let I = B .inside other in
-              accepted bytes here going (omega (arith, I .wanted, B .counted))
-              ∙ ap (λ (q : Step). handed here (movedBy (cursorOf t) q)) (ap (stepAt (plain o) t) (sym ahead-is) ∙ I .halts)
+              accepted bytes here (says .going) (omega (arith, I .wanted, B .counted))
+              ∙ ap (λ (q : Step). handed here (movedBy (cursorOf t) q)) (ap (stepAt (plain o) t) (sym (says .left)) ∙ I .halts)
               ∙ ap₂ (λ (c p : ℕ). refusedOn (faultIn (r .no) c p) here) (B .counted) (I .begins);
           end = λ eight.
               let E = B .behind eight in
-              rw (allowed bytes (cursorOf t) going (omega (arith, B .counted)))
-              (ap (λ (z : List Bool). drawn (valuesRead (endedBy [] t z (leftover (t .place) z)))) (sym ahead-is)
+              rw (allowed bytes (cursorOf t) (says .going) (omega (arith, B .counted)))
+              (ap (λ (z : List Bool). drawn (valuesRead (endedBy [] t z (leftover (t .place) z)))) (sym (says .left))
               ∙ ap (λ (z : Option ℕ). drawn (valuesRead (endedBy [] t (B .rest) z))) (E .left)
               ∙ ap₂ (λ (m c : ℕ). refused (faultIn m c (r .place))) (sym eight) (B .counted));
         }
@@ -126,25 +84,16 @@ module _ (bytes : List ℕ) (o : Opening) (h : openingValue o < 2 ^ 32) where
         t : State Unit
         t = B .state
 
-        most : r .value ≤ mostValues
-        most = omega (arith, B .few)
-
         here : Position
         here = record { «with_first» = isFirst o; at = cursorOf t }
 
-        going : Going bytes (cursorOf t)
-        going = behind-them (r .value) most (B .values) t (B .rest) (B .reads)
-
-        ahead-is : B .rest ≡ drop (t .place) (bitsOf bytes)
-        ahead-is =
-            rest-at (plain o) macaque-good (r .value) start (bitsOf bytes) (fresh-small (plain o) 32 (openingValue o) h) refl (B .values) t (B .rest) (B .reads)
+        says : HandsOut bytes (isFirst o) (r .value) (nexts bytes (r .value) (openedAt o)) (B .values) t (B .rest)
+        says = as-the-theory (r .value) (omega (arith, B .few)) (B .reads)
 
     -- and the values that it hands out are those that the theory reads
     reads-as : (r : StreamRefusal) (B : BrokenAt (plain o) (openingValue o) n (bitsOf bytes) r) (sent : List ℕ) → take (r .value) sent ≡ B .values → ReadsAsSent bytes o (faultAt r) sent
-    reads-as r B sent same =
-        let R : ReadsUntil bytes o (faultAt r) = reads-until r B in
-        let out = nexts-hand-out (r .value) (omega (arith, B .few)) (B .values) (B .state) (B .rest) (B .reads) in
-        record { until = R; asSent = cc (R .accepts, out) }
+    unfolding reads-until
+    reads-as r B sent same = record { until = reads-until r B; asSent = sym same }
 
     module _ (f : Fault) (e : valuesIn bytes n o ≡ refused f) where
       theirs : (r : StreamRefusal) × (allRead bytes n o ≡ stopped r) × (faultAt r ≡ f)
@@ -158,6 +107,18 @@ module _ (bytes : List ℕ) (o : Opening) (h : openingValue o < 2 ^ 32) where
       -- as many nexts as the fault says are accepted; behind them the next is refused by the same fault or, where it is 8, the end is
       pub until-it-broke : ReadsUntil bytes o f
       until-it-broke = subst (ReadsUntil bytes o) (theirs .2) (reads-until (theirs .0) broken)
+
+      -- and every other call that reads them says the same fault
+      pub every-call-says-where : EveryCallSays bytes n o f
+      unfolding lastAnswer judge
+      every-call-says-where =
+          record {
+            grid = grid-says-where n o f bytes few e;
+            sum = sum-says-where n o f bytes few e;
+            last = rw (le-ltb mostValues n few) (ap (lastOf 0) e);
+            reopen = λ b buf used k is free. reopening-says-where n o f b buf used k free (ap (λ (z : List ℕ). valuesIn z n o) is ∙ e);
+            reader = until-it-broke;
+          }
 
       -- where the bits before its place are those of a stream that was sent, what the nexts hand out are the first values of those that were sent
       pub as-it-was-sent : (whole : List ℕ) (n₀ : ℕ) (sent : List ℕ) → valuesIn whole n₀ o ≡ answered sent → f .value ≤ n₀
@@ -175,16 +136,16 @@ module _ (bytes : List ℕ) (o : Opening) (h : openingValue o < 2 ^ 32) where
           → (k : ℕ) → k ≤ n → (run : Run) → nexts whole k (openedAt o) ≡ answeredOn run → run .after .at .place ≤ d
           → (k ≤ f .value) × (nexts bytes k (openedAt o) ≡ answeredOn run)
       never-before-the-damage whole d same k le run out at =
-          go (readN (plain o) k start (bitsOf whole)) refl (nexts-say whole k (openedAt o) (start-goes whole o h) (omega arith))
+          go (readN (plain o) k start (bitsOf whole)) refl (nexts-say whole k k (openedAt o) (start-goes whole o h) (omega arith) (omega arith))
         where
-          go : (q : Reading Unit) → readN (plain o) k start (bitsOf whole) ≡ q → NextsSay (isFirst o) (nexts whole k (openedAt o)) q
+          go : (q : Reading Unit) → readN (plain o) k start (bitsOf whole) ≡ q → NextsSay whole (isFirst o) k (nexts whole k (openedAt o)) q
               → (k ≤ f .value) × (nexts bytes k (openedAt o) ≡ answeredOn run)
           go (stopped r) rd s = absurd (let z = s .1 in never (cc))
           go (done ws w x) rd s =
-              let is : runOf (isFirst o) ws w ≡ run = cc in
+              let is : runOf (isFirst o) ws w ≡ run = same-answer-on (sym (s .answers) ∙ out) in
               let p : w .place ≤ d = subst (λ (z : Run). z .after .at .place ≤ d) (sym is) at in
               let t = theory.never-before-the-damage (plain o) macaque-good (openingValue o) h d (bitsOf whole) (bitsOf bytes) same k ws w x rd p n le (theirs .0) (theirs .1) in
-              (subst (λ (g : Fault). k ≤ g .value) (theirs .2) (t .0), nexts-hand-out k (omega arith) ws w (drop (w .place) (bitsOf bytes)) (t .1) ∙ ap answeredOn is)
+              (subst (λ (g : Fault). k ≤ g .value) (theirs .2) (t .0), as-the-theory k (omega arith) (t .1) .answers ∙ ap answeredOn is)
 
 -- ---- and of a stream that was sent, n values of a count that is allowed
 

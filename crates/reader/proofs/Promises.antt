@@ -3,7 +3,7 @@
 use mathlib.Core.Path.{_≡_, refl, sym, ap, ap₂, _∙_, subst}
 use mathlib.Core.Logic.{inl}
 use mathlib.Core.Bool.{Bool, true}
-use mathlib.Core.List.{List, [], _∷_}
+use mathlib.Core.List.{List, []}
 use mathlib.Core.Option.{Option, none, some}
 use Prim.Native.Nat.{ℕ, zero, suc, _+_, _*_, _^_, _≤_, _<_}
 use native.Mathlib.Numerals.{add-one}
@@ -12,9 +12,10 @@ use borrow.Author.Tests.{ne-eqb, eq-eqb, le-ltb}
 use lib.ListN.{length, drop}
 use lib.Seq.{drop-drop}
 use Rattle.bits.specs.Bits.{bitsOf}
-use Rattle.models.specs.Answers.{Said, Done, answered, refused, SaidOn, answeredOn, refusedOn, judge, fault}
+use Rattle.models.specs.Answers.{SaidOn, answeredOn, refusedOn, judge, fault}
 use Rattle.models.specs.Limits.{mostValues}
-use Rattle.stream.specs.Format.{macaque, Window, advance, rawNext, windowIn, bare}
+use Rattle.models.proofs.Judged.{not-answered-on, same-answer-on}
+use Rattle.stream.specs.Format.{macaque, Window, State, advance, rawNext, windowIn, bare}
 use Rattle.stream.specs.Read as stream
 use Rattle.stream.specs.Read.{Step, got, Reading, done, stopped, push, follow, stepAt, readN, leftover, endedBy, ended}
 use Rattle.stream.specs.Calls.{faultAt}
@@ -22,7 +23,7 @@ use Rattle.stream.proofs.Formats.{macaque-good}
 use Rattle.stream.proofs.OwnBits.{own}
 use Rattle.stream.proofs.Rule.{Ruled, advance-ruled, usable-if}
 use Rattle.coding.proofs.Words.{read-of-45}
-use Rattle.macaque_v.specs.State.{modeOf, openingValue}
+use Rattle.macaque_v.specs.State.{modeOf, isFirst, openingValue}
 use Rattle.macaque_v.specs.Calls.{lentBytes}
 use Rattle.macaque_v.specs.ReadRun.{stateAt, ahead, movedBy, endSaid}
 use Rattle.macaque_v.specs.inner.ReadRun.{ReadableAt, readFrom}
@@ -42,10 +43,20 @@ pub record Going (bytes : List ℕ) (at : Cursor) : Type 0 where
   pub near : at .place ≤ 45 * at .count
   pub ruled : Ruled macaque (stateAt at)
 
--- a value before others
-abbrev pub cons : ℕ → Said (List ℕ) → Said (List ℕ)
-cons v (answered vs) = answered (v ∷ vs)
-cons v (refused n) = refused n
+-- where the theory's reading stands, as a reader holds it
+abbrev pub cursorOf : State Unit → Cursor
+cursorOf t = record { last = t .last; lead = t .win .lead; trail = t .win .trail; place = t .place; count = t .count }
+
+-- the values that were read, and the reader behind them
+abbrev pub runOf : Bool → List ℕ → State Unit → Run
+runOf first vs t = record { values = vs; after = record { «with_first» = first; at = cursorOf t } }
+
+-- nexts answer a where the theory reads vs and then stands at t: these values, and the reader behind them, at value k and with the same bits ahead
+pub record HandsOut (bytes : List ℕ) (first : Bool) (k : ℕ) (a : SaidOn Position Run) (vs : List ℕ) (t : State Unit) (rest : List Bool) : Type 0 where
+  pub answers : a ≡ answeredOn (runOf first vs t)
+  pub going : Going bytes (cursorOf t)
+  pub counted : t .count ≡ k
+  pub left : rest ≡ drop (t .place) (bitsOf bytes)
 
 module _ (bytes : List ℕ) where
   pub allowed : (at : Cursor) → Going bytes at → at .count ≤ mostValues → mayUse (length bytes) at ≡ true
@@ -77,84 +88,56 @@ module _ (bytes : List ℕ) where
 
   -- ---- n values, and the end
 
-  end-reads : (p : Position) → Going bytes (p .at) → p .at .count ≤ mostValues → andEnd bytes (nexts bytes 0 p) ≡ valuesRead (ended (readFrom (p .«with_first») bytes (p .at) 0))
-  unfolding nexts endAnswer endSaid judge readN ended
-  end-reads p g few = rw (allowed (p .at) g few) (go (leftover (p .at .place) (ahead bytes (p .at))))
-    where
-      go : (o : Option ℕ) → ifEnded [] (drawn (valuesRead (endedBy [] (stateAt (p .at)) (ahead bytes (p .at)) o))) ≡ valuesRead (endedBy [] (stateAt (p .at)) (ahead bytes (p .at)) o)
-      go none = refl
-      go (some q) = refl
-
-  pub also-cons : (v : ℕ) (q : SaidOn Position Run) → andEnd bytes (also v q) ≡ cons v (andEnd bytes q)
-  also-cons v (answeredOn r) = go (endAnswer bytes (r .after))
-    where
-      go : (a : Said Done) → ifEnded (v ∷ r .values) a ≡ cons v (ifEnded (r .values) a)
-      go (answered u) = refl
-      go (refused n) = refl
-  also-cons v (refusedOn n p) = refl
-
-  push-cons : (v : ℕ) (q : Reading Unit) → valuesRead (ended (push v q)) ≡ cons v (valuesRead (ended q))
-  unfolding ended
-  push-cons v (done vs s r) = go (leftover (s .place) r)
-    where
-      go : (o : Option ℕ) → valuesRead (endedBy (v ∷ vs) s r o) ≡ cons v (valuesRead (endedBy vs s r o))
-      go none = refl
-      go (some q) = refl
-  push-cons v (stopped f) = refl
-
-  stops : (f : stream.StreamRefusal) → refused (faultAt f) ≡ valuesRead {A = Unit} (ended (stopped f))
-  unfolding ended
-  stops f = refl
-
   pub accepted : (p : Position) → Going bytes (p .at) → p .at .count < mostValues → nextAnswer bytes p ≡ nextRead bytes p
   unfolding nextAnswer judge
   accepted p g few =
       let no : ¬ (p .at .count ≡ mostValues) = λ e. omega arith in
       rw (allowed (p .at) g (omega arith), ne-eqb (p .at .count) mostValues no)
 
-  nexts-read : (n : ℕ) (p : Position) → Going bytes (p .at) → p .at .count + n ≤ mostValues → andEnd bytes (nexts bytes n p) ≡ valuesRead (ended (readFrom (p .«with_first») bytes (p .at) n))
+  -- what nexts answer where the theory reads so: its values, or its refusal
+  abbrev pub NextsSay : Bool → ℕ → SaidOn Position Run → Reading Unit → Type 0
+  NextsSay first k a (done vs t rest) = HandsOut bytes first k a vs t rest
+  NextsSay first k a (stopped r) = (q : Position) × (a ≡ refusedOn (faultAt r) q)
+
+  also-say : (first : Bool) (k v : ℕ) (a : SaidOn Position Run) (q : Reading Unit) → NextsSay first k a q → NextsSay first k (also v a) (push v q)
+  also-say first k v a (done vs t rest) s = record { answers = ap (also v) (s .answers); going = s .going; counted = s .counted; left = s .left }
+  also-say first k v a (stopped r) s = (s .0, ap (also v) (s .1))
+
+  pub nexts-say : (n k : ℕ) (p : Position) → Going bytes (p .at) → p .at .count + n ≡ k → k ≤ mostValues → NextsSay (p .«with_first») k (nexts bytes n p) (readFrom (p .«with_first») bytes (p .at) n)
   unfolding nexts nextRead readN
-  nexts-read zero p g few = end-reads p g (omega arith)
-  nexts-read (suc n) p g few =
-      ap (λ (a : SaidOn Position Taken). andEnd bytes (andThen a (λ t. also (t .value) (nexts bytes n (t .after))))) (accepted p g (omega arith))
-      ∙ go (stepAt (bare (modeOf (p .«with_first»))) (stateAt (p .at)) (ahead bytes (p .at))) refl (λ p′ g′ few′. nexts-read n p′ g′ few′)
+  nexts-say zero k p g is few = record { answers = refl; going = g; counted = omega arith; left = refl }
+  nexts-say (suc n) k p g is few =
+      subst (λ (a : SaidOn Position Taken). NextsSay first k (andThen a (λ t. also (t .value) (nexts bytes n (t .after)))) (readFrom first bytes (p .at) (suc n))) (sym (accepted p g (omega arith)))
+      (go (stepAt (bare (modeOf first)) (stateAt (p .at)) (ahead bytes (p .at))) refl (λ p′ g′ is′. nexts-say n k p′ g′ is′ few))
     where
-      go : (q : Step) → stepAt (bare (modeOf (p .«with_first»))) (stateAt (p .at)) (ahead bytes (p .at)) ≡ q
-          → ((p′ : Position) → Going bytes (p′ .at) → p′ .at .count + n ≤ mostValues → andEnd bytes (nexts bytes n p′) ≡ valuesRead (ended (readFrom (p′ .«with_first») bytes (p′ .at) n)))
-          → andEnd bytes (andThen (handed p (movedBy (p .at) q)) (λ t. also (t .value) (nexts bytes n (t .after))))
-          ≡ valuesRead (ended (follow (stateAt (p .at)) q (λ v win used. push v (readN (bare (modeOf (p .«with_first»))) n (advance (bare (modeOf (p .«with_first»))) (stateAt (p .at)) v win used) (drop used (ahead bytes (p .at)))))))
+      first : Bool
+      first = p .«with_first»
+
+      go : (q : Step) → stepAt (bare (modeOf first)) (stateAt (p .at)) (ahead bytes (p .at)) ≡ q
+          → ((p′ : Position) → Going bytes (p′ .at) → p′ .at .count + n ≡ k → NextsSay (p′ .«with_first») k (nexts bytes n p′) (readFrom (p′ .«with_first») bytes (p′ .at) n))
+          → NextsSay first k (andThen (handed p (movedBy (p .at) q)) (λ t. also (t .value) (nexts bytes n (t .after))))
+          (follow (stateAt (p .at)) q (λ v win used. push v (readN (bare (modeOf first)) n (advance (bare (modeOf first)) (stateAt (p .at)) v win used) (drop used (ahead bytes (p .at))))))
+      go (stream.halt m) e ih = (p, refl)
       go (got v win used) e ih =
           let to : Position = movedTo p (record { last = v; lead = win .lead; trail = win .trail; place = p .at .place + used; count = p .at .count + 1 }) in
-          also-cons v (nexts bytes n to)
-          ∙ ap (cons v) (ih to (goes-on (p .«with_first») (p .at) g v win used e) (omega arith))
-          ∙ ap (λ (q : Reading Unit). cons v (valuesRead (ended q))) (sym (same-place (p .«with_first») (p .at) g v win used e n))
-          ∙ sym (push-cons v (readN (bare (modeOf (p .«with_first»))) n (advance (bare (modeOf (p .«with_first»))) (stateAt (p .at)) v win used) (drop used (ahead bytes (p .at)))))
-      go (stream.halt m) e ih = stops (record { no = m; value = p .at .count; place = p .at .place })
+          also-say first k v (nexts bytes n to) (readN (bare (modeOf first)) n (advance (bare (modeOf first)) (stateAt (p .at)) v win used) (drop used (ahead bytes (p .at))))
+          (subst (NextsSay first k (nexts bytes n to)) (sym (same-place first (p .at) g v win used e n)) (ih to (goes-on first (p .at) g v win used e) (omega arith)))
 
-  -- where the nexts lead
-  abbrev pub Led : ℕ → SaidOn Position Run → Type 0
-  Led k (answeredOn r) = Going bytes (r .after .at) × (r .after .at .count ≡ k)
-  Led k (refusedOn m q) = Unit
-
-  also-led : (v k : ℕ) (q : SaidOn Position Run) → Led k q → Led k (also v q)
-  also-led v k (answeredOn r) l = l
-  also-led v k (refusedOn m p) l = tt
-
-  pub nexts-led : (n : ℕ) (p : Position) → Going bytes (p .at) → p .at .count + n ≤ mostValues → Led (p .at .count + n) (nexts bytes n p)
-  unfolding nexts nextRead
-  nexts-led zero p g few = (g, omega arith)
-  nexts-led (suc n) p g few =
-      subst (λ (a : SaidOn Position Taken). Led (p .at .count + suc n) (andThen a (λ t. also (t .value) (nexts bytes n (t .after))))) (sym (accepted p g (omega arith)))
-      (go (stepAt (bare (modeOf (p .«with_first»))) (stateAt (p .at)) (ahead bytes (p .at))) refl (λ p′ g′ few′. nexts-led n p′ g′ few′))
+  -- and so the end behind them
+  end-reads : (first : Bool) (vs : List ℕ) (t : State Unit) → Going bytes (cursorOf t) → t .count ≤ mostValues
+      → andEnd bytes (answeredOn (runOf first vs t)) ≡ valuesRead (ended (done vs t (drop (t .place) (bitsOf bytes))))
+  unfolding endAnswer endSaid judge ended
+  end-reads first vs t g few = rw (allowed (cursorOf t) g few) (go (leftover (t .place) (drop (t .place) (bitsOf bytes))))
     where
-      go : (q : Step) → stepAt (bare (modeOf (p .«with_first»))) (stateAt (p .at)) (ahead bytes (p .at)) ≡ q
-          → ((p′ : Position) → Going bytes (p′ .at) → p′ .at .count + n ≤ mostValues → Led (p′ .at .count + n) (nexts bytes n p′))
-          → Led (p .at .count + suc n) (andThen (handed p (movedBy (p .at) q)) (λ t. also (t .value) (nexts bytes n (t .after))))
-      go (got v win used) e ih =
-          let to : Position = movedTo p (record { last = v; lead = win .lead; trail = win .trail; place = p .at .place + used; count = p .at .count + 1 }) in
-          let k : to .at .count + n ≡ p .at .count + suc n = omega arith in
-          also-led v (p .at .count + suc n) (nexts bytes n to) (subst (λ (m : ℕ). Led m (nexts bytes n to)) k (ih to (goes-on (p .«with_first») (p .at) g v win used e) (omega arith)))
-      go (stream.halt m) e ih = tt
+      go : (o : Option ℕ) → ifEnded vs (drawn (valuesRead (endedBy [] t (drop (t .place) (bitsOf bytes)) o))) ≡ valuesRead (endedBy vs t (drop (t .place) (bitsOf bytes)) o)
+      go none = refl
+      go (some q) = refl
+
+  nexts-read : (first : Bool) (k : ℕ) (a : SaidOn Position Run) (q : Reading Unit) → k ≤ mostValues → NextsSay first k a q → andEnd bytes a ≡ valuesRead (ended q)
+  unfolding ended
+  nexts-read first k a (done vs t rest) few s =
+      ap (andEnd bytes) (s .answers) ∙ end-reads first vs t (s .going) (omega (arith, s .counted)) ∙ ap (λ (z : List Bool). valuesRead (ended (done vs t z))) (sym (s .left))
+  nexts-read first k a (stopped r) few s = ap (andEnd bytes) (s .1)
 
   pub start-goes : (o : Opening) → openingValue o < 2 ^ 32 → Going bytes (startOf o)
   start-goes o h =
@@ -173,7 +156,7 @@ module _ (bytes : List ℕ) where
   module _ (o : Opening) (h : openingValue o < 2 ^ 32) (n : ℕ) (few : n ≤ mostValues) where
     -- opened, read n times and ended: the values that reading takes of a count of n, or its refusal, 5 to 8
     pub n-nexts-and-the-end : readBy bytes n o ≡ valuesIn bytes n o
-    n-nexts-and-the-end = nexts-read n (openedAt o) (start-goes o h) (omega arith) ∙ sym (same-values bytes o n)
+    n-nexts-and-the-end = nexts-read (isFirst o) n _ _ few (nexts-say n n (openedAt o) (start-goes o h) (omega arith) few) ∙ sym (same-values bytes o n)
 
     -- the last of them, as `last_value` answers it
     pub last-of-the-nexts : lastOf 0 (readBy bytes n o) ≡ lastOf 0 (valuesIn bytes n o)
@@ -190,6 +173,10 @@ module _ (bytes : List ℕ) where
   -- "a next at 65,536 is 3": behind as many values
   pub one-too-many : (o : Opening) → openingValue o < 2 ^ 32 → (r : Run) → nexts bytes mostValues (openedAt o) ≡ answeredOn r → nextAnswer bytes (r .after) ≡ refusedOn (fault 3) (r .after)
   unfolding nextAnswer judge
-  one-too-many o h r e =
-      let l = subst (Led mostValues) e (nexts-led mostValues (openedAt o) (start-goes o h) (omega arith)) in
-      rw (allowed (r .after .at) (l .0) (omega (arith, l .1)), eq-eqb (r .after .at .count) mostValues (l .1))
+  one-too-many o h r e = go (readFrom (isFirst o) bytes (startOf o) mostValues) (nexts-say mostValues mostValues (openedAt o) (start-goes o h) (omega arith) (omega arith))
+    where
+      go : (q : Reading Unit) → NextsSay (isFirst o) mostValues (nexts bytes mostValues (openedAt o)) q → nextAnswer bytes (r .after) ≡ refusedOn (fault 3) (r .after)
+      go (done vs t rest) s =
+          subst (λ (x : Run). nextAnswer bytes (x .after) ≡ refusedOn (fault 3) (x .after)) (same-answer-on (sym (s .answers) ∙ e))
+          (rw (allowed (cursorOf t) (s .going) (omega (arith, s .counted)), eq-eqb (t .count) mostValues (s .counted)))
+      go (stopped f) s = absurd (not-answered-on (sym (s .1) ∙ e))

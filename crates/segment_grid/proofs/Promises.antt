@@ -3,7 +3,7 @@
 use mathlib.Core.Path.{_≡_, refl, sym, ap, ap₂, _∙_, subst}
 use mathlib.Core.Bool.{Bool, true, false, cond, not, _&&_}
 use mathlib.Core.List.{List, [], _∷_, _++_, append-assoc}
-use Prim.Native.Nat.{ℕ, _+_, _-_, _^_, _<_}
+use Prim.Native.Nat.{ℕ, _-_, _^_, _<_}
 use native.Mathlib.Omega.{arith}
 use borrow.Author.Tests.{le-ltb, eqb-false, ne-eqb}
 use lib.Dec.{eqb, ltb}
@@ -16,6 +16,7 @@ use Rattle.models.specs.Answers.{Said, answered, refused, Cause, _when_, judge,
 use Rattle.models.specs.Limits.{mostValues}
 use Rattle.models.specs.declared.ErrorBound.{ErrorBound}
 use Rattle.models.specs.declared.ErrorBound.the-variants.{Lossless}
+use Rattle.models.specs.declared.Fault.{Fault}
 use Rattle.models.proofs.Judged.{none, answered-only, passed, not-answered}
 use Rattle.models.proofs.Tests.{and-both, and-false, and-past, neither}
 use Rattle.models.proofs.Judged as judging
@@ -70,6 +71,17 @@ module _ (model : ℕ) (ts : List ℤ) (ends : Said Ends) (residuals out : List 
         sym (judging.accepted refused (drawn (segmentValues model ts (given ends) residuals)) causes (none causes free)) ∙ ap drawn all,
         sym (judging.accepted (keeping out) (drawnIn out (segmentValues model ts (given ends) residuals)) causes (none causes free))
             ∙ ap (drawnIn out) all ∙ ap (λ (n : ℕ). (ms ++ vs) ++ drop n out) many,
+      )
+
+  -- one whose residual stream is refused: the same fault, its value and place counted in that stream, and the output as it was
+  pub grid-says-where : (f : Fault) → verdict (gridCauses model ts ends residuals (length out)) ≡ answered tt → valuesIn (streamBytes residuals) (countIn residuals) (On (given ends .1)) ≡ refused f
+      → (gridAnswer model ts ends residuals (length out) ≡ refused f) × (gridMemory model ts ends residuals out ≡ out)
+  unfolding gridAnswer gridMemory
+  grid-says-where f free broken =
+      let causes : List Cause = gridCauses model ts ends residuals (length out) in
+      let all : segmentValues model ts (given ends) residuals ≡ refused f = ap (behind (modelValues model (ownedTimes ts residuals) (given ends))) broken in (
+        sym (judging.accepted refused (drawn (segmentValues model ts (given ends) residuals)) causes (none causes free)) ∙ ap drawn all,
+        sym (judging.accepted (keeping out) (drawnIn out (segmentValues model ts (given ends) residuals)) causes (none causes free)) ∙ ap (drawnIn out) all,
       )
 
   module _ (h : gridAnswer model ts ends residuals (length out) ≡ answered tt) where
@@ -227,14 +239,23 @@ module _ (model : ℕ) (ts : List ℤ) (ends : Said Ends) (residuals : List ℕ)
           let l = a-swing-has-a-line e in
           has-an-answer (swing.sumCauses a b times) _ (few, (ap not (and-both (inTime a b) (inOrder times) (l .0) ordered), (l .1, tt)))
 
+  -- the residuals are summed as their stream is
+  residuals-summed : residualSum residuals (given ends .1) ≡ stream.summed false (residualsIn residuals (given ends .1))
+  unfolding stream.sumAnswer judge
+  residuals-summed = rw (le-ltb mostValues (countIn residuals) (omega (arith, asked .few, asked .some)))
+
+  summed-with : (average : Bool) → segmentSum average model ts (given ends) residuals ≡ sumAnswer average model ts ends residuals
+  unfolding sumAnswer
+  summed-with average = judging.accepted refused (segmentSum average model ts (given ends) residuals) (sumCauses model ts ends residuals) (none (sumCauses model ts ends residuals) h)
+
   -- the residuals that are added are those that a grid draws, from the left, from 0; without any, the model's sum stays as it is
   pub a-segments-sum : (average : Bool) (vs : List ℕ) → residualsIn residuals (given ends .1) ≡ answered vs
       → sumAnswer average model ts ends residuals
       ≡ answered (cond (eqb (countIn residuals) 0) (the-model-has-a-sum average .0) (plus (the-model-has-a-sum average .0) (stream.sumOf false vs)))
-  unfolding sumAnswer stream.sumAnswer judge
   a-segments-sum average vs reads =
-      let causes : List Cause = sumCauses model ts ends residuals in
-      let count : ltb mostValues (countIn residuals) ≡ false = le-ltb mostValues (countIn residuals) (omega (arith, asked .few, asked .some)) in
-      let rest : residualSum residuals (given ends .1) ≡ answered (stream.sumOf false vs) = rw count (ap (stream.summed false) reads) in
-      sym (judging.accepted refused (segmentSum average model ts (given ends) residuals) causes (none causes h))
-      ∙ ap₂ (withResiduals (countIn residuals)) (the-model-has-a-sum average .1) rest
+      sym (summed-with average) ∙ ap₂ (withResiduals (countIn residuals)) (the-model-has-a-sum average .1) (residuals-summed ∙ ap (stream.summed false) reads)
+
+  -- where their stream is refused, so is the sum, in either form: the same fault, its value and place counted in that stream
+  pub sum-says-where : (average : Bool) (f : Fault) → valuesIn (streamBytes residuals) (countIn residuals) (On (given ends .1)) ≡ refused f → sumAnswer average model ts ends residuals ≡ refused f
+  sum-says-where average f broken =
+      sym (summed-with average) ∙ ap₂ (withResiduals (countIn residuals)) (the-model-has-a-sum average .1) (residuals-summed ∙ ap (stream.summed false) broken)
