@@ -13,7 +13,7 @@ ghost use Rattle.stream.specs.Read.{leftover};
 ghost use Rattle.coding.specs.inner.Ahead.{RepeatsAt, stopNumber};
 ghost use Rattle.macaque_v.specs.State.{modeOf};
 ghost use Rattle.macaque_v.specs.ReadRun.{gatherSum, endSaid};
-ghost use Rattle.macaque_v.specs.inner.ReadRun.{ReadableAt, NextSays, AtOnce, onward, ReadsOn, FillSays, WalkSays, WholeSays, tallied, IsStretched, saysBehind};
+ghost use Rattle.macaque_v.specs.inner.ReadRun.{ReadableAt, StrideSays, NextSays, AtOnce, onward, ReadsOn, FillSays, WalkSays, WholeSays, tallied, IsStretched, saysBehind};
 use crate::MacaqueV;
 use crate::span;
 use coding::decode;
@@ -37,24 +37,41 @@ pub enum Run {
     Refused(Refusal),
 }
 
+// The same of one value. What stops it is told without its place: that is where reading stood.
+pub enum Stride {
+    To(Cursor),
+    Stopped(Stop),
+}
+
 // ---- into an array
 
-// One value more, by its code: the step of every reading call. (`read_on` and `repeats` take what follows in the same window at once.)
+// One value more, or the refusal with its place.
 pub fn next(bytes: &[u8], first: bool, at: Cursor) -> Run
     requires { ⌜ ReadableAt (now bytes) at × (at .count < mostValues) ⌝ }
     ensures { λ r. ⌜ NextSays first (now (bytes .entry)) at r ⌝ }
+{
+    match one_more(bytes, first, at) {
+        Stride::Stopped(s) => Run::Refused(refusal_of(s, at)),
+        Stride::To(to) => Run::To(to),
+    }
+}
+
+// One value more, by its code: the step of every reading call. (`read_on` and `repeats` take what follows in the same window at once.)
+fn one_more(bytes: &[u8], first: bool, at: Cursor) -> Stride
+    requires { ⌜ ReadableAt (now bytes) at × (at .count < mostValues) ⌝ }
+    ensures { λ r. ⌜ StrideSays first (now (bytes .entry)) at r ⌝ }
 {
     let raw = first & (at.count == 0);
     let set = at.lead != MacaqueV::OPENING_LEADING;
     let ahead = decode::look(bytes, at.place);
     match decode::decode(raw, ahead.word, ahead.left, set, at.lead, at.trail, at.last) {
-        Decoded::Stopped(s) => Run::Refused(refusal_of(s, at)),
+        Decoded::Stopped(s) => Stride::Stopped(s),
         Decoded::Got {
             value,
             lead,
             trail,
             used,
-        } => Run::To(Cursor {
+        } => Stride::To(Cursor {
             last: value,
             lead,
             trail,
@@ -86,11 +103,11 @@ pub fn fill(bytes: &[u8], first: bool, from: Cursor, n: usize, out: &mut [u32]) 
     let mut at = from;
     let mut i: usize = 0;
     while i < n {
-        match next(bytes, first, at) {
-            Run::Refused(r) => {
-                return Run::Refused(r);
+        match one_more(bytes, first, at) {
+            Stride::Stopped(s) => {
+                return Run::Refused(refusal_of(s, at));
             }
-            Run::To(to) => {
+            Stride::To(to) => {
                 let same = to.place == at.place + 2;
                 out[i] = to.last;
                 at = go_on(bytes, first, same, to, i + 1, n, out);

@@ -7,7 +7,7 @@ use Prim.Native.Nat.{ℕ, _+_, _*_, _^_, _≤_, _<_}
 use lib.ListN.{length, take}
 use lib.Ieee.{Float}
 use Rattle.models.specs.Floats.{zeroF, freshBits}
-use Rattle.models.specs.Answers.{answered, refused}
+use Rattle.models.specs.Answers.{faultIn, answered, refused}
 use Rattle.models.specs.Refusals.{faultOf}
 use Rattle.models.specs.declared.Refusal.{Refusal}
 use Rattle.stream.specs.Format.{Window, Mode, gatherFrom, State, bare}
@@ -15,10 +15,12 @@ use Rattle.stream.specs.Read as stream
 use Rattle.stream.specs.Read.{Reading, done, stopped, readN, ended}
 use Rattle.stream.specs.Calls.{faultAt}
 use Rattle.macaque_v.specs.State.{MinMax, gatherMinMax, modeOf}
-use Rattle.coding.specs.inner.Ahead.{WindowSound, AtTop}
+use Rattle.coding.specs.inner.Ahead.{WindowSound, AtTop, stopNumber}
 use Rattle.macaque_v.specs.declared.read_run.Cursor.{Cursor}
 use Rattle.macaque_v.specs.declared.read_run.Behind.{Behind}
 use Rattle.macaque_v.specs.declared.read_run.Behind.the-variants as OfBehind
+use Rattle.macaque_v.specs.declared.read_run.Stride.{Stride}
+use Rattle.macaque_v.specs.declared.read_run.Stride.the-variants as OfStride
 use Rattle.macaque_v.specs.declared.read_run.Run.{Run}
 use Rattle.macaque_v.specs.declared.read_run.Run.the-variants as OfRun
 use Rattle.macaque_v.specs.declared.read_run.Aim.{Aim}
@@ -54,6 +56,11 @@ pub record StopsBy {A : Type 0} (reading : Reading A) (cause : Refusal) : Type 0
   pub fault : stream.StreamRefusal
   pub stops : reading ≡ stopped fault
   pub numbered : faultAt fault ≡ faultOf cause
+
+-- one value more: where reading stands behind it, or what stops it where reading stands
+abbrev pub StrideSays : Bool → List ℕ → Cursor → Stride → Type 0
+StrideSays first bytes at (OfStride.To to) = (answered to ≡ nextFrom first bytes at) × ReadableAt bytes to
+StrideSays first bytes at (OfStride.Stopped s) = refused (faultIn (stopNumber s) (at .count) (at .place)) ≡ nextFrom first bytes at
 
 abbrev pub NextSays : Bool → List ℕ → Cursor → Run → Type 0
 NextSays first bytes at (OfRun.To to) = (answered to ≡ nextFrom first bytes at) × ReadableAt bytes to

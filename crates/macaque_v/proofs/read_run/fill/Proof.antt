@@ -1,11 +1,12 @@
 -- `macaque_v::read_run::fill` meets its contract: the first i values are read, and stand in the first i places. Assumes nothing.
 use borrow.Author.Needs.{needs}
-use mathlib.Core.Path.{_≡_, refl, subst}
+use mathlib.Core.Path.{_≡_, refl, ap, _∙_, subst}
 use Prim.Native.Nat.{ℕ, _+_, _-_}
 use native.Mathlib.Omega.{arith}
 use lib.ListN.{take, set}
-use Rattle.macaque_v.specs.inner.ReadRun.{Reads, NextSays}
-use Rattle.macaque_v.specs.declared.read_run.Run.{Run}
+use Rattle.models.specs.Answers.{refused}
+use Rattle.macaque_v.specs.inner.ReadRun.{Reads, StrideSays}
+use Rattle.macaque_v.specs.declared.read_run.Stride.{Stride}
 use Rattle.macaque_v.proofs.ReadingRun.{one-stops, one-read, reads-none, then-stops, Filled, filled-more, filled-on}
 use Rattle.macaque_v.proofs.read_run.fill.Statement.{statement}
 use Rattle.macaque_v.proofs.read_run.fill.Tie as tie
@@ -24,7 +25,7 @@ stored c =
     let a = c .before .before .before .before .before .before .before .before .args in
     let l = c .before .before .before .before .before .loop in
     filled-more (a .first) (a .bytes .now) (a .n) (l .i) (a .out .now) (l .out) (l .inv) (omega arith) (omega arith)
-    (let said = subst (λ (q : Run). NextSays (a .first) (a .bytes .now) (l .at) q) (c .before .to .given .1) (c .before .before .before .next .ensures) in
+    (let said = subst (λ (q : Stride). StrideSays (a .first) (a .bytes .now) (l .at) q) (c .before .to .given .1) (c .before .before .before .one-more .ensures) in
     one-read (a .first) (a .bytes .now) (l .at) (c .before .to .given .0 .0) (said .0) (said .1))
 
 loop-holds : tie.Need-loop-holds Inv-loop μ-loop
@@ -32,16 +33,16 @@ loop-holds c =
     let a = c .before .before .args in
     record { reads = reads-none (a .first) (a .bytes .now) (a .from) (c .before .before .pre .0); fits = omega arith; long = refl }
 
-next-requires : tie.Need-next-requires Inv-loop μ-loop
-next-requires c κs = (c .before .loop .inv .reads .readable, omega (arith, c .before .loop .inv .reads .counted))
+one-more-requires : tie.Need-one-more-requires Inv-loop μ-loop
+one-more-requires c κs = (c .before .loop .inv .reads .readable, omega (arith, c .before .loop .inv .reads .counted))
 
 returns : tie.Need-returns Inv-loop μ-loop
 returns c =
-    let a = c .before .before .before .before .before .before .before .before .args in
-    let l = c .before .before .before .before .before .loop in
+    let a = c .before .before .before .before .before .before .before .before .before .args in
+    let l = c .before .before .before .before .before .before .loop in
+    let said = subst (λ (q : Stride). StrideSays (a .first) (a .bytes .now) (l .at) q) (c .before .before .s .given .1) (c .before .before .before .before .one-more .ensures) in
     then-stops (a .first) (a .bytes .now) (l .inv .reads) 1
-    (one-stops (a .first) (a .bytes .now) (l .at) (c .before .r .given .0 .0)
-    (subst (λ (q : Run). NextSays (a .first) (a .bytes .now) (l .at) q) (c .before .r .given .1) (c .before .before .before .next .ensures))) (a .n) (omega arith)
+    (one-stops (a .first) (a .bytes .now) (l .at) (c .refusal-of .result) (ap refused (c .refusal-of .ensures) ∙ said)) (a .n) (omega arith)
 
 add-same : tie.Need-add-same Inv-loop μ-loop
 add-same c = omega (arith, c .before .before .before .before .before .before .loop .inv .reads .readable .near, c .before .before .before .before .before .before .loop .inv .reads .counted)
@@ -86,8 +87,9 @@ fill-spec =
     Inv-loop
     μ-loop
     loop-holds
-    next-requires
+    one-more-requires
     (λ c. search needs)
+    (λ c κs. search needs)
     (λ c. search needs)
     returns
     (λ c. search needs)
