@@ -33,7 +33,7 @@ int main(void) {
   printf("reads back as %08X %08X %08X\n", (unsigned)out[0], (unsigned)out[1], (unsigned)out[2]);
 
   fault = modelardb_macaque_v_grid(buffer, used - 1, COUNT, MODELARDB_FIRST, 0, out, COUNT);
-  printf("without its last byte: refused %u at value %u, bit %u\n", (unsigned)fault.number, (unsigned)fault.value,
-         (unsigned)fault.place);
+  printf("without its last byte: refused %u at value %u, bit %zu\n", (unsigned)fault.number, (unsigned)fault.value,
+         fault.place);
   return fflush(stdout) == 0 ? 0 : 1;
 }
