@@ -146,9 +146,14 @@ impl MacaqueV {
     /// let mut buffer = [0x3F, 0x80, 0x00, 0x00, 0xB0, 0x91, 0x00, 0x00];
     /// let refused = MacaqueV::reopen(&mut buffer, 6, 3, 3, first, lossless);
     /// assert_eq!(refused, Err(Refusal::EndsEarly { value: 2, place: 34 }));
-    /// // So two values are there, in 34 bits. Without what follows these the upload goes on.
-    /// buffer[4] &= 0b1100_0000;
-    /// let mut writer = MacaqueV::reopen(&mut buffer, 5, 2, 2, first, lossless)?;
+    /// // So two values are there, in 34 bits. The bits behind these are zeroed in the byte that they cut,
+    /// // and the upload goes on.
+    /// let (value, place) = (2, 34);
+    /// let used = usize::div_ceil(place, 8);
+    /// if place % 8 != 0 {
+    ///     buffer[used - 1] &= !(0xFF >> (place % 8));
+    /// }
+    /// let mut writer = MacaqueV::reopen(&mut buffer, used, value, value, first, lossless)?;
     /// writer.compress_values(&[2.0], &mut buffer)?;
     /// let case_a = [0x3F, 0x80, 0x00, 0x00, 0xB0, 0x91, 0xFE];
     /// assert_eq!(buffer[..writer.bytes_used()], case_a);

@@ -238,8 +238,12 @@ impl Display for Refusal {
     fn fmt(&self, f: &mut Formatter) -> Result {
         let number = self.number();
         write!(f, "refused {number}")?;
-        if let Some((value, place)) = self.at() {
-            write!(f, " at value {value}, bit {place}")?;
+        match (self, self.at()) {
+            (Refusal::Leftover { .. }, Some((count, place))) => {
+                write!(f, " behind {count} values, bit {place}")?;
+            }
+            (_, Some((value, place))) => write!(f, " at value {value}, bit {place}")?,
+            (_, None) => {}
         }
         write!(f, ": {}", CAUSES[number as usize - 1])
     }
@@ -290,7 +294,7 @@ mod tests {
             ),
             (
                 Refusal::Leftover { value, place },
-                "refused 8 at value 2, bit 40: the stream goes on",
+                "refused 8 behind 2 values, bit 40: the stream goes on",
             ),
             (Refusal::OutputTooShort, "refused 4: the lent output"),
             (Refusal::CountsDisagree, "refused 12: the counts"),

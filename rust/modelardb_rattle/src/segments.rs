@@ -210,7 +210,8 @@ impl Segment {
     /// [`Refusal::FormNotAllowed`]; [`Refusal::NoModel`] for a line with ends that differ while at least
     /// one is not finite; then what is wrong with the residuals and where, counted from the first of
     /// them: [`Refusal::EndsEarly`], [`Refusal::NoWindow`], [`Refusal::WindowNotAllowed`] or
-    /// [`Refusal::Leftover`].
+    /// [`Refusal::Leftover`]. Residual bytes that were cut at their end have lost the byte that counts them:
+    /// another byte is then taken for it, and where none is left the model is drawn at all timestamps.
     ///
     /// ```
     /// use modelardb_rattle::{ErrorBound, Model, Refusal, Segment};
