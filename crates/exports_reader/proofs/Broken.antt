@@ -70,12 +70,16 @@ module _ (mode opening : ℕ) (row out : List ℕ) (one : mode ≤ 1) (words : r
 
   module _ (bytes : List ℕ) (n : ℕ) (few : n ≤ mostValues) (sent : List ℕ) (acc : valuesIn bytes n (openingOf mode opening) ≡ answered sent) where
     -- only the first m bytes arrived: 5, and before it the nexts hand out the first of the values that were sent
-    pub a-cut-is-5-through-a-row : (m : ℕ) → m < length bytes → (f : Fault) × (f .number ≡ 5) × RowReadsAsSent (take m bytes) (openRow mode opening row) out f sent
+    pub a-cut-is-5-through-a-row : (m : ℕ) → m < length bytes
+        → (f : Fault) × (f .number ≡ 5) × (valuesIn (take m bytes) n (openingOf mode opening) ≡ refused f) × RowReadsAsSent (take m bytes) (openRow mode opening row) out f sent
     a-cut-is-5-through-a-row m less =
         let C = call.a-cut-is-5 bytes (openingOf mode opening) h n few sent acc m less in
-        (C .fault, C .five, sent-through-a-row (take m bytes) (C .fault) sent (C .reads))
+        (C .fault, C .five, C .refuses, sent-through-a-row (take m bytes) (C .fault) sent (C .reads))
 
     -- further bytes follow: the nexts hand out all values that were sent, and then the end answers 8, at the first bit of these bytes
-    pub two-run-together-through-a-row : (more : List ℕ) → 0 < length more → RowReadsAsSent (bytes ++ more) (openRow mode opening row) out (faultIn 8 n (8 * length bytes)) sent
+    pub two-run-together-through-a-row : (more : List ℕ) → 0 < length more
+        → (valuesIn (bytes ++ more) n (openingOf mode opening) ≡ refused (faultIn 8 n (8 * length bytes)))
+        × RowReadsAsSent (bytes ++ more) (openRow mode opening row) out (faultIn 8 n (8 * length bytes)) sent
     two-run-together-through-a-row more any =
-        sent-through-a-row (bytes ++ more) (faultIn 8 n (8 * length bytes)) sent (call.two-run-together bytes (openingOf mode opening) h n few sent acc more any .1)
+        let C = call.two-run-together bytes (openingOf mode opening) h n few sent acc more any in
+        (C .0, sent-through-a-row (bytes ++ more) (faultIn 8 n (8 * length bytes)) sent (C .1))

@@ -1,4 +1,4 @@
--- No refusal has the number 0, so a call's number tells what the call behind said. Assumes nothing.
+-- No refusal has the number 0, so a call's fault tells what the call behind said. Assumes nothing.
 use mathlib.Core.Bool.{true, false}
 use mathlib.Core.List.{List, [], _∷_}
 use Prim.Native.Nat.{ℕ, _<_}

@@ -177,7 +177,7 @@ module _ (input line : List ℕ) (e : length line ≡ 80) where
       by-causes (printedBy (streamIn input) line) refusal-printed (counted (countIn input) (readWhole (countIn input) (streamIn input))) (streamText (countIn input) (streamIn input)) (inputCauses input)
       (λ fine. stream-printed (streamIn input) (countIn input) (ltb-false mostValues (countIn input) (fine .1 .1 .0)))
 
-  -- "On a refusal the only line is as `refused 5`", and behind that number are the value and the place
+  -- "On a refusal the only line", which "becomes `refused`, number, value, place, with single spaces"
   pub one-line : (f : Fault) → judgeAnswer input ≡ refused f → listingText input ≡ refusedText f
   unfolding printed
   one-line f h = sym the-listing ∙ ap (printedBy (streamIn input) line) h ∙ refusal-printed f

@@ -7,9 +7,10 @@ use mathlib.Core.Option.{Option}
 use Prim.Native.Nat.{ℕ, _*_, _^_, _≤_, _<_}
 use native.Mathlib.Omega.{arith}
 use borrow.Author.Tests.{le-ltb}
-use lib.ListN.{length, take}
-use lib.Seq.{take-all}
+use lib.ListN.{length, take, drop, take-append-drop}
+use lib.Seq.{take-all, take-append-le}
 use Rattle.bits.specs.Bits.{bitsOf}
+use Rattle.bits.proofs.Bytes.{bits-append, bits-front}
 use Rattle.models.specs.Answers.{answered, refused, answeredOn, refusedOn, judge, faultIn}
 use Rattle.models.specs.Limits.{mostValues}
 use Rattle.models.specs.declared.Fault.{Fault}
@@ -163,7 +164,16 @@ module _ (bytes : List ℕ) (o : Opening) (h : openingValue o < 2 ^ 32) (n : ℕ
         refuses = same-values (take m bytes) o n ∙ ap valuesRead (C .refuses);
         five = C .five;
         reads = reads-as (take m bytes) o h n few (C .refusal) (C .broken) sent (C .asSent);
+        allWhole = λ k le run out at.
+            never-before-the-damage (take m bytes) o h n few (faultAt (C .refusal)) (same-values (take m bytes) o n ∙ ap valuesRead (C .refuses)) bytes (8 * m) front k le run out at .0;
       }
+    where
+      front : take (8 * m) (bitsOf (take m bytes)) ≡ take (8 * m) (bitsOf bytes)
+      front =
+          let p = bitsOf (take m bytes) in
+          let q = bitsOf (drop m bytes) in
+          let parts : p ++ q ≡ bitsOf bytes = sym (bits-append (take m bytes) (drop m bytes)) ∙ ap bitsOf (take-append-drop m bytes) in
+          sym (take-append-le (8 * m) p q (omega (arith, bits-front m bytes (omega arith)))) ∙ ap (take (8 * m)) parts
 
   -- further bytes follow: 8 behind n values, at the first bit of these bytes; and the nexts hand out all values that were sent
   pub two-run-together : (more : List ℕ) → 0 < length more

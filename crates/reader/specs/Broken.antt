@@ -2,7 +2,7 @@
 -- other calls that read it answer. Assumes nothing.
 use mathlib.Core.Path.{_≡_}
 use mathlib.Core.List.{List}
-use Prim.Native.Nat.{ℕ, _≤_}
+use Prim.Native.Nat.{ℕ, _*_, _≤_}
 use lib.ListN.{length, take}
 use Rattle.models.specs.Answers.{refused, answeredOn, refusedOn, NoneHolds}
 use Rattle.models.specs.declared.ErrorBound.{ErrorBound}
@@ -36,9 +36,11 @@ pub record ReadsAsSent (bytes : List ℕ) (o : Opening) (f : Fault) (sent : List
   pub until : ReadsUntil bytes o f
   pub asSent : until .run .values ≡ take (f .value) sent
 
--- of a stream that holds the values `sent` only the first m bytes arrived: reading so many values is refused with 5
+-- of a stream that holds the values `sent` only the first m bytes arrived: reading so many values is refused with 5, and every value whose bits all
+-- arrived comes before it
 pub record CutUpload (bytes : List ℕ) (n : ℕ) (o : Opening) (sent : List ℕ) (m : ℕ) : Type 0 where
   pub fault : Fault
   pub refuses : valuesIn (take m bytes) n o ≡ refused fault
   pub five : fault .number ≡ 5
   pub reads : ReadsAsSent (take m bytes) o fault sent
+  pub allWhole : (k : ℕ) → k ≤ n → (r : Run) → nexts bytes k (openedAt o) ≡ answeredOn r → r .after .at .place ≤ 8 * m → k ≤ fault .value

@@ -12,7 +12,8 @@ use std::fmt::{Display, Formatter, Result};
 /// counted from the stream's first. In a segment the stream is that of the residuals, so value 0 is the
 /// first residual. What was altered can stand anywhere before that: a changed bit may read as other
 /// values for a while. So values in front of `value` are no more to be trusted than those behind it,
-/// unless it is known that no bit was changed, as where a stream was only cut short.
+/// unless it is known that no bit was changed, as where a stream was only cut short, and that the opening
+/// is its writer's.
 ///
 /// ```
 /// use modelardb_rattle::{Opening, Refusal, macaque_v};
@@ -43,8 +44,8 @@ pub enum Refusal {
     /// 4: the lent output does not hold the answer. Lend a longer one: for a stream, 45 bits a value
     /// are always enough.
     OutputTooShort,
-    /// 5: the stream ends before its last value. Bytes are missing, the count is too high, or the
-    /// bytes are not those that were written: look at both, and fetch them again. Where the bytes end
+    /// 5: the stream ends before its last value. Bytes are missing, the count is too high, or the bytes
+    /// or the opening are not those of its writer: look at all three, and fetch them again. Where the bytes end
     /// too early and are right so far, the first `value` values are there, in the first `place` bits: a
     /// [`Reader`](crate::Reader) gives them, and [`MacaqueV::reopen`](crate::MacaqueV::reopen) shows how
     /// to write on behind them.
@@ -72,7 +73,7 @@ pub enum Refusal {
         place: usize,
     },
     /// 8: the stream goes on behind its last value, with a set padding bit or a further byte. The count
-    /// is too low, bytes of another stream follow, or they are not those that were written. Where bytes
+    /// is too low, bytes of another stream follow, or the bytes or the opening are not its writer's. Where bytes
     /// follow that are none of its own, as of a whole buffer, hand in those that are in use.
     Leftover {
         /// The count: how many values were read.
