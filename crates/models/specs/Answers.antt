@@ -17,6 +17,7 @@ fault n = faultIn n 0 0
 abbrev pub noFault : Fault
 noFault = fault 0
 
+-- of a call whose answer is the fault alone, as through the C face
 abbrev pub itself : Fault → Fault
 itself f = f
 
