@@ -154,7 +154,7 @@ module _ (f : Said ℕ → List ℕ) (each : (k : Fault) → f (refused k) ≡ r
 
 module _ (input line : List ℕ) (e : length line ≡ 80) where
   refusal-printed : (f : Fault) → linePrinted (refusedText f) line ≡ refusedText f
-  refusal-printed f = text-laid (refusedText f) line e (refused-most f)
+  refusal-printed f = text-laid (refusedText f) line e (omega (arith, refused-most f))
 
   stream-printed : (bytes : List ℕ) (n : ℕ) → n ≤ mostValues → printedBy bytes line (counted n (readWhole n bytes)) ≡ streamText n bytes
   stream-printed bytes n most = go (readWhole n bytes) refl

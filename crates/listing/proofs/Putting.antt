@@ -101,13 +101,13 @@ places-most (suc m) n = go (ltb n 10) (places-most m (n / 10))
     go true h = omega arith
     go false h = omega arith
 
-decimal-most : (n : ℕ) → length (decimal n) ≤ 20
+pub decimal-most : (n : ℕ) → length (decimal n) ≤ 20
 decimal-most n = omega (arith, length-digits 10 (places n) n, places-most 19 n)
 
-length-field : (t : List ℕ) → length (field t) ≡ length t + 1
+pub length-field : (t : List ℕ) → length (field t) ≡ length t + 1
 length-field t = length-append t (32 ∷ [])
 
-length-last : (t : List ℕ) → length (lastField t) ≡ length t + 1
+pub length-last : (t : List ℕ) → length (lastField t) ≡ length t + 1
 length-last t = length-append t (10 ∷ [])
 
 kind-most : (k : Kind) → length (kindWord k) ≤ 4
@@ -141,18 +141,18 @@ row-most n row =
 next-most : (text : List ℕ) (n k : ℕ) → length text ≤ k → length (text ++ field (decimal n)) ≤ k + 21
 next-most text n k h = omega (arith, length-append text (field (decimal n)), length-field (decimal n), decimal-most n)
 
-last-most : (text : List ℕ) (n : ℕ) → length text ≤ 50 → length (text ++ lastField (decimal n)) ≤ 80
-last-most text n h = omega (arith, length-append text (lastField (decimal n)), length-last (decimal n), decimal-most n)
+pub last-most : (text : List ℕ) (n k : ℕ) → length text ≤ k → length (text ++ lastField (decimal n)) ≤ k + 21
+last-most text n k h = omega (arith, length-append text (lastField (decimal n)), length-last (decimal n), decimal-most n)
 
 pub total-most : (n : ℕ) → length (totalText n) ≤ 80
 unfolding totalText
-total-most n = last-most (field totalWord) n (lit≤ tt)
+total-most n = omega (arith, last-most (field totalWord) n 6 (lit≤ tt))
 
-pub refused-most : (f : Fault) → length (refusedText f) ≤ 80
+pub refused-most : (f : Fault) → length (refusedText f) ≤ 71
 unfolding refusedText
 refused-most f =
     let a : List ℕ = field refusedWord ++ field (decimal (f .number)) in
-    last-most (a ++ field (decimal (f .value))) (f .place) (next-most a (f .value) 29 (next-most (field refusedWord) (f .number) 8 (lit≤ tt)))
+    last-most (a ++ field (decimal (f .value))) (f .place) 50 (next-most a (f .value) 29 (next-most (field refusedWord) (f .number) 8 (lit≤ tt)))
 
 -- what is printed of a line is the text that was put into it
 pub text-laid : (text line : List ℕ) → length line ≡ 80 → length text ≤ 80 → take (length text) (laid text line) ≡ text

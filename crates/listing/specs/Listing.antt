@@ -15,8 +15,12 @@ use Rattle.listing.specs.declared.Fields.{Fields}
 
 -- ---- the input: "a with-first stream's count (4 bytes, little-endian) and bytes"
 
+-- the number in four bytes from a place on, the lowest first
+abbrev pub wordAt : List ℕ → ℕ → ℕ
+wordAt bytes at = getD bytes at 0 + 256 * (getD bytes (at + 1) 0 + 256 * (getD bytes (at + 2) 0 + 256 * getD bytes (at + 3) 0))
+
 abbrev pub countIn : List ℕ → ℕ
-countIn input = getD input 0 0 + 256 * (getD input 1 0 + 256 * (getD input 2 0 + 256 * getD input 3 0))
+countIn input = wordAt input 0
 
 abbrev pub streamIn : List ℕ → List ℕ
 streamIn input = drop 4 input

@@ -10,11 +10,11 @@ ghost use Rattle.macaque_v.specs.declared.Opening.the-variants.{First};
 ghost use Rattle.macaque_v.specs.Read.{startOf};
 ghost use Rattle.listing.specs.Text.{headerText, totalText, refusedText, laid};
 ghost use Rattle.listing.specs.Rows.{kindRead};
-ghost use Rattle.listing.specs.Listing.{countIn, readWhole};
+ghost use Rattle.listing.specs.Listing.{wordAt, readWhole};
 ghost use Rattle.listing.specs.Calls.{counted, judgeAnswer, saysJudged, mayStand, rowAnswer, rowMemory, saysRow};
 ghost use Rattle.listing.specs.inner.Lines.{rowBetween};
 
-mod line;
+pub mod line;
 
 use coding::decode;
 use macaque_v::MacaqueV;
@@ -67,7 +67,7 @@ pub fn judge(input: &[u8]) -> Judged
     if input.len() < 4 {
         return Judged::Refused(Refusal::EndsEarly { value: 0, place: 0 });
     }
-    let count = count_in(input);
+    let count = word_at(input, 0) as usize;
     if MacaqueV::MOST_VALUES < count {
         return Judged::Refused(Refusal::OverLimit);
     }
@@ -128,27 +128,24 @@ pub fn refusal(cause: Refusal, line: &mut [u8; 80]) -> usize
     ensures length { λ r. ⌜ r ≡ length (refusedText (faultOf cause)) ⌝ }
     ensures text { λ r. ⌜ now (line .exit) ≡ laid (refusedText (faultOf cause)) (now (line .entry)) ⌝ }
 {
-    let fault = models::fault_of(cause);
-    let a = line::word(b"refused ", line, 0);
-    let b = line::number(fault.number as usize, b' ', line, a);
-    let c = line::number(fault.value as usize, b' ', line, b);
-    line::number(fault.place, b'\n', line, c)
+    line::refused(cause, line, 0)
 }
 
 // ---- the input
 
-fn count_in(input: &[u8]) -> usize
-    requires { ⌜ 4 ≤ length (now input) ⌝ }
-    ensures { λ r. ⌜ r ≡ countIn (now (input .entry)) ⌝ }
+// The number in four bytes from a place on.
+pub fn word_at(input: &[u8], at: usize) -> u32
+    requires { ⌜ at + 4 ≤ length (now input) ⌝ }
+    ensures { λ r. ⌜ r ≡ wordAt (now (input .entry)) at ⌝ }
 {
-    joined(input[0], input[1], input[2], input[3])
+    joined(input[at], input[at + 1], input[at + 2], input[at + 3])
 }
 
 // Four bytes, the lowest first.
-fn joined(a: u8, b: u8, c: u8, d: u8) -> usize
+fn joined(a: u8, b: u8, c: u8, d: u8) -> u32
     ensures { λ r. ⌜ r ≡ a + 256 * (b + 256 * (c + 256 * d)) ⌝ }
 {
-    (a as usize) + 256 * ((b as usize) + 256 * ((c as usize) + 256 * (d as usize)))
+    (a as u32) + 256 * ((b as u32) + 256 * ((c as u32) + 256 * (d as u32)))
 }
 
 fn judge_stream(stream: &[u8], count: usize) -> Judged

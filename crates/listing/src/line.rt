@@ -4,10 +4,12 @@ ghost use mathlib.Core.List.{[], _∷_, _++_};
 ghost use Prim.Native.Nat.{_+_, _≤_, _<_};
 ghost use lib.ListN.{length};
 ghost use lib.Seq.{sets};
-ghost use Rattle.listing.specs.Text.{digitText, digitsOf, places as placesOf, decimal, hexadecimal, kindWord, leadText, field, rowText, laid};
+ghost use Rattle.models.specs.Refusals.{faultOf};
+ghost use Rattle.listing.specs.Text.{digitText, digitsOf, places as placesOf, decimal, hexadecimal, kindWord, leadText, field, rowText, refusedText, laid};
 ghost use Rattle.listing.specs.inner.Lines.{Put};
 use crate::Fields;
 use crate::Kind;
+use models::Refusal;
 
 // ---- a row: 77 bytes at the most
 
@@ -20,7 +22,7 @@ pub fn row(n: usize, row: Fields, line: &mut [u8; 80]) -> usize
     let b = kind_word(kind, line, a);
     let c = lead(kind, row.lead, line, b);
     let d = number(row.bits, b' ', line, c);
-    value(row.value, line, d)
+    value(row.value, b'\n', line, d)
 }
 
 fn kind_word(kind: Kind, line: &mut [u8; 80], at: usize) -> usize
@@ -49,15 +51,17 @@ fn lead(kind: Kind, lead: u32, line: &mut [u8; 80], at: usize) -> usize
     }
 }
 
-// A value, the last field of a row.
-fn value(value: u32, line: &mut [u8; 80], at: usize) -> usize
-    requires { ⌜ at ≤ 71 ⌝ }
-    ensures put { λ r. ⌜ Put (now (line .entry)) at (hexadecimal value ++ (10 ∷ [])) (now (line .exit)) r ⌝ }
-    ensures most { λ r. ⌜ r ≤ at + 9 ⌝ }
+// ---- a refusal: 71 bytes at the most
+
+pub fn refused(cause: Refusal, line: &mut [u8; 80], at: usize) -> usize
+    requires { ⌜ at ≤ 9 ⌝ }
+    ensures { λ r. ⌜ Put (now (line .entry)) at (refusedText (faultOf cause)) (now (line .exit)) r ⌝ }
 {
-    digits(16, 8, value as usize, line, at);
-    line[at + 8] = b'\n';
-    at + 9
+    let fault = models::fault_of(cause);
+    let a = word(b"refused ", line, at);
+    let b = number(fault.number as usize, b' ', line, a);
+    let c = number(fault.value as usize, b' ', line, b);
+    number(fault.place, b'\n', line, c)
 }
 
 // ---- words and numbers
@@ -84,6 +88,17 @@ pub fn number(n: usize, end: u8, line: &mut [u8; 80], at: usize) -> usize
     digits(10, k, n, line, at);
     line[at + k] = end;
     at + k + 1
+}
+
+// A value in hexadecimal digits, and the byte behind them.
+pub fn value(value: u32, end: u8, line: &mut [u8; 80], at: usize) -> usize
+    requires { ⌜ at ≤ 71 ⌝ }
+    ensures put { λ r. ⌜ Put (now (line .entry)) at (hexadecimal value ++ (end ∷ [])) (now (line .exit)) r ⌝ }
+    ensures most { λ r. ⌜ r ≤ at + 9 ⌝ }
+{
+    digits(16, 8, value as usize, line, at);
+    line[at + 8] = end;
+    at + 9
 }
 
 // How many decimal digits a number has.

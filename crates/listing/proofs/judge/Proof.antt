@@ -32,7 +32,7 @@ returns-3 c =
     let input = c .before .before .before .before .before .args .input .now in
     let l = length input in
     let n = countIn input in
-    rw (le-ltb 32768 l (omega arith), le-ltb l 4 (omega arith), lt-ltb mostValues n (omega (arith, c .before .count-in .ensures)))
+    rw (le-ltb 32768 l (omega arith), le-ltb l 4 (omega arith), lt-ltb mostValues n (omega (arith, c .before .word-at .ensures)))
 
 returns-4 : tie.Need-returns-4
 unfolding judgeAnswer judge
@@ -40,8 +40,8 @@ returns-4 c =
     let input = c .before .before .before .before .before .before .before .args .input .now in
     let l = length input in
     let n = countIn input in
-    rw (le-ltb 32768 l (omega arith), le-ltb l 4 (omega arith), le-ltb mostValues n (omega (arith, c .before .before .before .count-in .ensures)))
-    (c .judge-stream .ensures ∙ ap₂ (λ (k : ℕ) (bytes : List ℕ). counted k (readWhole k bytes)) (c .before .before .before .count-in .ensures) (take-all (l - 4) (drop 4 input) (omega (arith, length-drop 4 input))))
+    rw (le-ltb 32768 l (omega arith), le-ltb l 4 (omega arith), le-ltb mostValues n (omega (arith, c .before .before .before .word-at .ensures)))
+    (c .judge-stream .ensures ∙ ap₂ (λ (k : ℕ) (bytes : List ℕ). counted k (readWhole k bytes)) (c .before .before .before .word-at .ensures) (take-all (l - 4) (drop 4 input) (omega (arith, length-drop 4 input))))
 
 pub judge-spec : {M : Type 1} → statement M
 judge-spec =
@@ -50,6 +50,7 @@ judge-spec =
     returns
     returns-2
     (λ c κs. search needs)
+    (λ c. search needs)
     returns-3
     (λ c. search needs)
     (λ c. search needs)

@@ -1,44 +1,14 @@
--- `listing::refusal` meets its contract: the word and three numbers, one behind the other. Assumes nothing.
+-- `listing::refusal` meets its contract: the line of the refusal, from the front on. Assumes nothing.
 use borrow.Author.Needs.{needs}
-use mathlib.Core.Path.{_≡_, ap, _∙_}
-use mathlib.Core.List.{List, _++_}
-use Prim.Native.Nat.{ℕ}
-use lib.ListN.{length}
 use Rattle.models.specs.Refusals.{faultOf}
-use Rattle.listing.specs.Text.{refusedWord, field, lastField, decimal, refusedText, laid}
-use Rattle.listing.proofs.Putting.{put-then, put-laid}
+use Rattle.listing.specs.Text.{refusedText}
+use Rattle.listing.proofs.Putting.{put-laid}
 use Rattle.listing.proofs.refusal.Statement.{statement}
 use Rattle.listing.proofs.refusal.Tie as tie
 
 returns : tie.Need-returns
-unfolding refusedText
-returns c =
-    let m = c .before .before in
-    let n = m .before .before .before in
-    let w = n .before .before .before in
-    let k = w .before .before .before in
-    let a = k .before .args in
-    let f = k .fault-of .result in
-    let t1 : List ℕ = field refusedWord in
-    let t2 : List ℕ = field (decimal (f .number)) in
-    let t3 : List ℕ = field (decimal (f .value)) in
-    let t4 : List ℕ = lastField (decimal (f .place)) in
-    let p2 = put-then t1 t2 (w .word .ensures) (n .number .ensures .0) in
-    let p3 = put-then (t1 ++ t2) t3 p2 (m .number2 .ensures .0) in
-    let p = put-laid (t1 ++ t2 ++ t3 ++ t4) (put-then (t1 ++ t2 ++ t3) t4 p3 (c .number3 .ensures .0)) in
-    let e : refusedText f ≡ refusedText (faultOf (a .cause)) = ap refusedText (k .fault-of .ensures) in
-    (p .0 ∙ ap length e, p .1 ∙ ap (λ (t : List ℕ). laid t (a .line .now)) e)
+returns c = put-laid (refusedText (faultOf (c .before .before .args .cause))) (c .refused .ensures)
 
 pub refusal-spec : {M : Type 1} → statement M
 refusal-spec =
-    tie.close
-    (tie.spec
-    (λ c κs. search needs)
-    (λ c. search needs)
-    (λ c κs. search needs)
-    (λ c. search needs)
-    (λ c κs. search needs)
-    (λ c. search needs)
-    (λ c κs. search needs)
-    (λ c κs. search needs)
-    returns)
+    tie.close (tie.spec (λ c κs. search needs) returns)

@@ -3,6 +3,7 @@
 //! states go in by value, and lent memory is written last.
 
 pub mod bits;
+pub mod comparing;
 pub mod listing;
 pub mod macaque_v;
 pub mod models;

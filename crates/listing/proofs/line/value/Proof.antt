@@ -10,7 +10,7 @@ use Rattle.listing.proofs.line.value.Tie as tie
 returns : tie.Need-returns
 returns c =
     let a = c .before .before .args in (
-      put-byte (hexadecimal (a .value)) 10 (a .at + 9) (c .digits .ensures) (omega (arith, length-digits 16 8 (a .value))) (omega arith),
+      put-byte (hexadecimal (a .value)) (a .end) (a .at + 9) (c .digits .ensures) (omega (arith, length-digits 16 8 (a .value))) (omega arith),
       omega arith,
     )
 

@@ -1,0 +1,74 @@
+// Compares two uploads, the left one in standard input and the right one in descriptor 3, on standard output: document 02, "Compare
+// two uploads".
+use comparing::Judged;
+use comparing::Pair;
+use comparing::Side;
+use comparing::Step;
+use libc::STDIN_FILENO;
+use libc::STDOUT_FILENO;
+use models::Refusal;
+
+const RIGHT_FILENO: i32 = 3;
+
+// A step for each value of the longest stream, and the last one.
+const MOST_STEPS: usize = 65537;
+
+fn main() {
+    // One byte more than a file may have, so that too many are noticed.
+    let mut left = [0u8; 24586];
+    let n = io::read_full(STDIN_FILENO, &mut left);
+    let mut right = [0u8; 24586];
+    let m = io::read_full(RIGHT_FILENO, &mut right);
+    compare(&left[..n], &right[..m]);
+}
+
+fn compare(left: &[u8], right: &[u8]) {
+    match comparing::judge(left, right) {
+        Judged::Refused { side, cause } => {
+            refuse(side, cause);
+        }
+        Judged::Begun(at) => {
+            steps(left, right, at);
+        }
+    }
+}
+
+fn refuse(side: Side, cause: Refusal) {
+    let mut line = [0u8; 80];
+    let n = comparing::refusal(side, cause, &mut line);
+    print(&line, n);
+}
+
+// The line of each index, and the last one. Both files were judged, so no step is refused.
+fn steps(left: &[u8], right: &[u8], begun: Pair) {
+    let mut line = [0u8; 80];
+    let mut at = begun;
+    let mut i: usize = 0;
+    while i < MOST_STEPS {
+        match comparing::step(left, right, at, &mut line) {
+            Step::Refused(_) => {
+                return;
+            }
+            Step::Last { length } => {
+                print(&line, length);
+                return;
+            }
+            Step::On { length, next } => {
+                print(&line, length);
+                at = next;
+                i += 1;
+            }
+        }
+    }
+}
+
+// The first n bytes of a line.
+fn print(line: &[u8; 80], n: usize) {
+    print_front(line, n);
+}
+
+fn print_front(line: &[u8], n: usize) {
+    if n <= line.len() {
+        io::write_all(STDOUT_FILENO, &line[..n]);
+    }
+}
