@@ -3,7 +3,7 @@
 use comparing::Judged;
 use comparing::Pair;
 use comparing::Side;
-use comparing::Step;
+use comparing::StepAnswer;
 use libc::STDIN_FILENO;
 use libc::STDOUT_FILENO;
 use models::Refusal;
@@ -46,14 +46,14 @@ fn steps(left: &[u8], right: &[u8], begun: Pair) {
     let mut i: usize = 0;
     while i < MOST_STEPS {
         match comparing::step(left, right, at, &mut line) {
-            Step::Refused(_) => {
+            StepAnswer::Refused(_) => {
                 return;
             }
-            Step::Last { length } => {
+            StepAnswer::Last { length } => {
                 print(&line, length);
                 return;
             }
-            Step::On { length, next } => {
+            StepAnswer::On { length, next } => {
                 print(&line, length);
                 at = next;
                 i += 1;

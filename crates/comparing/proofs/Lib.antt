@@ -2,3 +2,4 @@
 pub mod Laws
 pub mod Lines
 pub mod Walking
+pub mod Promises

@@ -263,7 +263,8 @@ module _ (left right us vs : List ℕ) where
 
   pub walks : (n i : ℕ) → Walks n i
   unfolding differencesFrom
-  walks n i zero at line e s all few room = absurd (omega arith)
+  walks zero i zero at line e s all few room = absurd (omega arith)
+  walks (suc n) i zero at line e s all few room = absurd (omega arith)
   walks zero i (suc k) at line e s all few room =
       let S = steps at i s (omega arith) in
       let l : entryAt us i ≡ Missing = entry-missing us i (omega arith) in

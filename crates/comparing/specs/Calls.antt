@@ -28,8 +28,8 @@ use Rattle.comparing.specs.declared.Judged.{Judged}
 use Rattle.comparing.specs.declared.Judged.the-variants as OfJudged
 use Rattle.comparing.specs.declared.TurnAnswer.{TurnAnswer}
 use Rattle.comparing.specs.declared.TurnAnswer.the-variants as OfTurn
-use Rattle.comparing.specs.declared.Step.{Step}
-use Rattle.comparing.specs.declared.Step.the-variants as OfStep
+use Rattle.comparing.specs.declared.StepAnswer.{StepAnswer}
+use Rattle.comparing.specs.declared.StepAnswer.the-variants as OfStep
 
 -- ---- judge: where comparing begins, or the first file that is refused
 
@@ -151,16 +151,16 @@ stepAnswer left right at = lineOf (stepTold left right at)
 unfoldable pub stepMemory : List ℕ → List ℕ → Pair → List ℕ → List ℕ
 stepMemory left right at line = lineIn line (stepTold left right at)
 
-abbrev pub saysStep : Step → Said StepLine
+abbrev pub saysStep : StepAnswer → Said StepLine
 saysStep (OfStep.On length next) = answered (on length next)
 saysStep (OfStep.Last length) = answered (last length)
 saysStep (OfStep.Refused r) = refused (faultOf r)
 
-abbrev stepBack : StepLine → Step
+abbrev stepBack : StepLine → StepAnswer
 stepBack (on length next) = OfStep.On length next
 stepBack (last length) = OfStep.Last length
 
-step-told : (r : Step) → unsaid stepBack OfStep.Refused (saysStep r) ≡ r
+step-told : (r : StepAnswer) → unsaid stepBack OfStep.Refused (saysStep r) ≡ r
 step-told (OfStep.On length next) = refl
 step-told (OfStep.Last length) = refl
 step-told (OfStep.Refused r) = ap OfStep.Refused (refusal-told r)

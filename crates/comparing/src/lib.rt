@@ -10,7 +10,7 @@ ghost use Rattle.macaque_v.specs.Read.{valuesIn};
 ghost use Rattle.comparing.specs.File.{opensBy, fileStream, overLimit};
 ghost use Rattle.comparing.specs.Differences.{sameEntry};
 ghost use Rattle.comparing.specs.Text.{sideText, differText, laid};
-ghost use Rattle.comparing.specs.Calls.{begunBy, openAnswer, saysOpened, judgeAnswer, saysJudged, turnOf, saysTurn, Told, toldBy, lineOf, lineIn, stepAnswer, stepMemory, saysStep};
+ghost use Rattle.comparing.specs.Calls.{begunBy, openAnswer, saysOpened, judgeAnswer, saysJudged, turnOf, saysTurn, pairOf, toldBy, lineOf, lineIn, stepAnswer, stepMemory, saysStep};
 
 mod line;
 
@@ -66,7 +66,7 @@ pub enum Judged {
 
 // One index: the length of its line, 0 where the values are the same, and where comparing stands behind it; or the length of the last
 // line, where both streams have ended.
-pub enum Step {
+pub enum StepAnswer {
     On { length: usize, next: Pair },
     Last { length: usize },
     Refused(Refusal),
@@ -98,17 +98,17 @@ pub fn judge(left: &[u8], right: &[u8]) -> Judged
 }
 
 // The next index of both: its line, or the last one.
-pub fn step(left: &[u8], right: &[u8], at: Pair, line: &mut [u8; 80]) -> Step
+pub fn step(left: &[u8], right: &[u8], at: Pair, line: &mut [u8; 80]) -> StepAnswer
     ensures answer { λ r. ⌜ saysStep r ≡ stepAnswer (now (left .entry)) (now (right .entry)) at ⌝ }
     ensures text { λ r. ⌜ now (line .exit) ≡ stepMemory (now (left .entry)) (now (right .entry)) at (now (line .entry)) ⌝ }
 {
     if MacaqueV::MOST_VALUES < at.found {
-        return Step::Refused(Refusal::StateNotAllowed);
+        return StepAnswer::Refused(Refusal::StateNotAllowed);
     }
-    match turn(stream_in(left), at.left) {
-        TurnAnswer::Refused(r) => Step::Refused(r),
-        TurnAnswer::Took(a) => match turn(stream_in(right), at.right) {
-            TurnAnswer::Refused(r) => Step::Refused(r),
+    match take_turn(stream_in(left), at.left) {
+        TurnAnswer::Refused(r) => StepAnswer::Refused(r),
+        TurnAnswer::Took(a) => match take_turn(stream_in(right), at.right) {
+            TurnAnswer::Refused(r) => StepAnswer::Refused(r),
             TurnAnswer::Took(b) => told(at, a, b, line),
         },
     }
@@ -206,7 +206,7 @@ pub enum TurnAnswer {
     Refused(Refusal),
 }
 
-fn turn(stream: &[u8], half: Half) -> TurnAnswer
+fn take_turn(stream: &[u8], half: Half) -> TurnAnswer
     ensures { λ r. ⌜ saysTurn r ≡ turnOf (now (stream .entry)) half ⌝ }
 {
     let rest = half.rest;
@@ -216,14 +216,15 @@ fn turn(stream: &[u8], half: Half) -> TurnAnswer
             after: half,
         });
     }
-    let step = position::step_from(stream, half.position);
-    let answer = step.answer;
+    let moved = position::step_from(stream, half.position);
+    let answer = moved.answer;
+    let position = moved.after;
     match answer {
         ValueAnswer::Refused(r) => TurnAnswer::Refused(r),
         ValueAnswer::Answered(value) => TurnAnswer::Took(Turn {
             entry: Entry::Value(value),
             after: Half {
-                position: step.after,
+                position,
                 rest: rest - 1,
             },
         }),
@@ -231,7 +232,7 @@ fn turn(stream: &[u8], half: Half) -> TurnAnswer
 }
 
 // The line of what both have at the index.
-fn told(at: Pair, a: Turn, b: Turn, line: &mut [u8; 80]) -> Step
+fn told(at: Pair, a: Turn, b: Turn, line: &mut [u8; 80]) -> StepAnswer
     requires { ⌜ at .found ≤ mostValues ⌝ }
     ensures answer { λ r. ⌜ saysStep r ≡ lineOf (answered (toldBy at a b)) ⌝ }
     ensures text { λ r. ⌜ now (line .exit) ≡ lineIn (now (line .entry)) (answered (toldBy at a b)) ⌝ }
@@ -241,29 +242,29 @@ fn told(at: Pair, a: Turn, b: Turn, line: &mut [u8; 80]) -> Step
     if !same(left, right) {
         let index = larger(at.left.position.at.count, at.right.position.at.count);
         let length = line::difference(Difference { index, left, right }, line);
-        return Step::On {
+        return StepAnswer::On {
             length,
             next: pair_of(a, b, at.found + 1),
         };
     }
     match left {
-        Entry::Missing => Step::Last {
+        Entry::Missing => StepAnswer::Last {
             length: line::differ(at.found, line),
         },
-        Entry::Value(_) => Step::On {
+        Entry::Value(_) => StepAnswer::On {
             length: 0,
             next: pair_of(a, b, at.found),
         },
     }
 }
 
+// Where comparing stands behind the index.
 fn pair_of(a: Turn, b: Turn, found: usize) -> Pair
+    ensures { λ r. ⌜ r ≡ pairOf a b found ⌝ }
 {
-    Pair {
-        left: a.after,
-        right: b.after,
-        found,
-    }
+    let left = a.after;
+    let right = b.after;
+    Pair { left, right, found }
 }
 
 // Whether both are values of the same bits, or both are missing.

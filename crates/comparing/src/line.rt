@@ -16,9 +16,11 @@ pub fn difference(d: Difference, line: &mut [u8; 80]) -> usize
     ensures length { λ r. ⌜ r ≡ length (differenceText d) ⌝ }
     ensures text { λ r. ⌜ now (line .exit) ≡ laid (differenceText d) (now (line .entry)) ⌝ }
 {
+    let left = d.left;
+    let right = d.right;
     let a = line::number(d.index, b' ', line, 0);
-    let b = entry(d.left, b' ', line, a);
-    entry(d.right, b'\n', line, b)
+    let b = entry(left, b' ', line, a);
+    entry(right, b'\n', line, b)
 }
 
 // A value or a dash, and the byte behind it.
