@@ -24,8 +24,7 @@ difference-most d =
     let t1 : List ℕ = field (decimal (d .index)) in
     let t2 : List ℕ = field (entryText (d .left)) in
     let t3 : List ℕ = lastField (entryText (d .right)) in
-    omega
-    (
+    omega (
       arith,
       length-append (t1 ++ t2) t3,
       length-append t1 t2,

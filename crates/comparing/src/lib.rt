@@ -78,12 +78,12 @@ pub enum StepAnswer {
 pub fn judge(left: &[u8], right: &[u8]) -> Judged
     ensures { λ r. ⌜ saysJudged r ≡ judgeAnswer (now (left .entry)) (now (right .entry)) ⌝ }
 {
-    match open(left) {
+    match open_file(left) {
         Opened::Refused(cause) => Judged::Refused {
             side: Side::Left,
             cause,
         },
-        Opened::At(l) => match open(right) {
+        Opened::At(l) => match open_file(right) {
             Opened::Refused(cause) => Judged::Refused {
                 side: Side::Right,
                 cause,
@@ -131,7 +131,7 @@ pub enum Opened {
     Refused(Refusal),
 }
 
-fn open(file: &[u8]) -> Opened
+fn open_file(file: &[u8]) -> Opened
     ensures { λ r. ⌜ saysOpened r ≡ openAnswer (now (file .entry)) ⌝ }
 {
     if file.len() < HEAD {

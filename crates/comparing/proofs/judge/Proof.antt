@@ -1,56 +1,52 @@
+-- `comparing::judge` meets its contract, by what the two files' openings say. Assumes nothing.
 use borrow.Author.Needs.{needs}
+use mathlib.Core.Path.{_≡_, sym, ap, ap₂, _∙_}
+use mathlib.Core.List.{List}
+use Prim.Native.Nat.{ℕ}
+use Rattle.models.specs.Answers.{Said}
+use Rattle.comparing.specs.Calls.{openAnswer, begunBoth, judgeAnswer, saysOpened}
+use Rattle.comparing.specs.declared.Half.{Half}
+use Rattle.comparing.specs.declared.Opened.{Opened}
 use Rattle.comparing.proofs.judge.Statement.{statement}
 use Rattle.comparing.proofs.judge.Tie as tie
-use Rattle.comparing.proofs.judge.Reads as reads
-use Rattle.comparing.proofs.judge.Lts as lts
-use Rattle.comparing.proofs.open.Reads as open-reads
 
--- src/lib.rt:81:11
-open-requires : tie.Need-open-requires
-open-requires c κs = search needs
+-- what an opening says
+by : (file : List ℕ) (r q : Opened) → saysOpened r ≡ openAnswer file → r ≡ q → saysOpened q ≡ openAnswer file
+by file r q e is = ap saysOpened (sym is) ∙ e
 
--- src/lib.rt:82:25
-enum-known-cause : tie.Need-enum-known-cause
-enum-known-cause c = search needs
-
--- src/lib.rt:86:20
-enum-known-l : tie.Need-enum-known-l
-enum-known-l c = search needs
-
--- src/lib.rt:86:32
-open-requires-2 : tie.Need-open-requires-2
-open-requires-2 c κs = search needs
-
--- src/lib.rt:87:29
-enum-known-cause-2 : tie.Need-enum-known-cause-2
-enum-known-cause-2 c = search needs
-
--- src/lib.rt:91:24
-enum-known-r : tie.Need-enum-known-r
-enum-known-r c = search needs
-
--- src/lib.rt:78:1
 returns : tie.Need-returns
-returns c = ?
+unfolding judgeAnswer
+returns c =
+    let o = c .before .before .before in
+    let a = o .before .before .before .args in
+    ap (λ (l : Said Half). begunBoth l (openAnswer (a .right .now))) (by (a .left .now) _ _ (o .open-file .ensures) (c .before .cause .given .1))
 
--- src/lib.rt:78:1
 returns-2 : tie.Need-returns-2
-returns-2 c = ?
+unfolding judgeAnswer
+returns-2 c =
+    let p = c .before .before .before in
+    let o = p .before .before .before .before in
+    let a = o .before .before .before .args in
+    ap₂ begunBoth (by (a .left .now) _ _ (o .open-file .ensures) (p .before .before .l .given .1)) (by (a .right .now) _ _ (p .open-file2 .ensures) (c .before .cause2 .given .1))
 
--- src/lib.rt:78:1
 returns-3 : tie.Need-returns-3
-returns-3 c = ?
+unfolding judgeAnswer
+returns-3 c =
+    let p = c .before .before .before in
+    let o = p .before .before .before .before in
+    let a = o .before .before .before .args in
+    ap₂ begunBoth (by (a .left .now) _ _ (o .open-file .ensures) (p .before .before .l .given .1)) (by (a .right .now) _ _ (p .open-file2 .ensures) (c .before .r .given .1))
 
 pub judge-spec : {M : Type 1} → statement M
 judge-spec =
     tie.close
     (tie.spec
-    open-requires
-    enum-known-cause
-    enum-known-l
-    open-requires-2
-    enum-known-cause-2
-    enum-known-r
+    (λ c κs. search needs)
+    (λ c. search needs)
+    (λ c. search needs)
+    (λ c κs. search needs)
+    (λ c. search needs)
+    (λ c. search needs)
     returns
     returns-2
     returns-3)

@@ -1,36 +1,62 @@
+-- `comparing::open_stream` meets its contract, by what the last value's call says: an answer, or the stream's refusal. Assumes nothing.
 use borrow.Author.Needs.{needs}
+use mathlib.Core.Path.{_≡_, refl, sym, ap, _∙_}
+use mathlib.Core.List.{List}
+use Prim.Native.Nat.{ℕ, _≤_}
+use native.Mathlib.Omega.{arith}
+use borrow.Author.Tests.{le-ltb}
+use Rattle.models.specs.Answers.{Said, answered, refused, judge}
+use Rattle.models.specs.Calls.{saysValue}
+use Rattle.models.specs.Limits.{mostValues}
+use Rattle.models.specs.Refusals.{faultOf}
+use Rattle.models.specs.declared.Fault.{Fault}
+use Rattle.models.proofs.Judged.{not-answered, not-refused, same-fault}
+use Rattle.macaque_v.specs.Read.{valuesIn}
+use Rattle.macaque_v.specs.declared.Opening.{Opening}
+use Rattle.reader.specs.Run.{lastOf, lastAnswer}
+use Rattle.reader.specs.declared.position.Position.{Position}
+use Rattle.comparing.specs.Calls.{begunBy, halfOf}
+use Rattle.comparing.specs.declared.Half.{Half}
 use Rattle.comparing.proofs.open_stream.Statement.{statement}
 use Rattle.comparing.proofs.open_stream.Tie as tie
-use Rattle.comparing.proofs.open_stream.Reads as reads
-use Rattle.comparing.proofs.open_stream.Lts as lts
-use Rattle.reader.proofs.last_value.Reads as last-value-reads
-use Rattle.reader.proofs.position.start.Reads as start-reads
 
--- src/lib.rt:173:11
-last-value-requires : tie.Need-last-value-requires
-last-value-requires c κs = search needs
+-- what the last value's call says is told from the values
+last-is : (stream : List ℕ) (n : ℕ) (o : Opening) → n ≤ mostValues → lastAnswer stream n o ≡ lastOf 0 (valuesIn stream n o)
+unfolding lastAnswer judge
+last-is stream n o few = rw (le-ltb mostValues n few)
 
--- src/lib.rt:174:30
-enum-known-r : tie.Need-enum-known-r
-enum-known-r c = search needs
+begun-refused : (n : ℕ) (o : Opening) (q : Said (List ℕ)) (f : Fault) → refused f ≡ lastOf 0 q → begunBy n o q ≡ refused f
+begun-refused n o (answered vs) f e = absurd (not-answered e)
+begun-refused n o (refused g) f e = ap refused (sym (same-fault e))
 
--- src/lib.rt:176:17
-enum-told : tie.Need-enum-told
-enum-told c = search needs
+begun-at : (n : ℕ) (o : Opening) (q : Said (List ℕ)) (v : ℕ) → answered v ≡ lastOf 0 q → begunBy n o q ≡ answered (halfOf n o)
+begun-at n o (answered vs) v e = refl
+begun-at n o (refused g) v e = absurd (not-refused e)
 
--- src/lib.rt:176:17
-start-requires : tie.Need-start-requires
-start-requires c κs = search needs
+-- the last value's call said this
+said : (c : tie.After-last-value) → saysValue (c .last-value .result) ≡ lastOf 0 (valuesIn (c .before .before .args .stream .now) (c .before .before .args .count) (c .before .before .args .opening))
+said c =
+    let a = c .before .before .args in
+    c .last-value .ensures ∙ last-is (a .stream .now) (a .count) (a .opening) (omega arith)
 
--- src/lib.rt:169:1
 returns : tie.Need-returns
-returns c = ?
+returns c =
+    let a = c .before .before .before .before .before .args in
+    sym (begun-refused (a .count) (a .opening) (valuesIn (a .stream .now) (a .count) (a .opening)) _ (ap saysValue (sym (c .before .r .given .1)) ∙ said (c .before .before .before)))
 
--- src/lib.rt:169:1
 returns-2 : tie.Need-returns-2
-returns-2 c = ?
+returns-2 c =
+    let a = c .before .before .before .before .before .args in
+    ap (λ (p : Position). answered (record { position = p; rest = a .count })) (c .start .ensures)
+    ∙ sym (begun-at (a .count) (a .opening) (valuesIn (a .stream .now) (a .count) (a .opening)) _ (ap saysValue (sym (c .before .enum-told .given .1)) ∙ said (c .before .before .before)))
 
 pub open-stream-spec : {M : Type 1} → statement M
 open-stream-spec =
     tie.close
-    (tie.spec last-value-requires enum-known-r enum-told start-requires returns returns-2)
+    (tie.spec
+    (λ c κs. search needs)
+    (λ c. search needs)
+    (λ c. search needs)
+    (λ c κs. search needs)
+    returns
+    returns-2)

@@ -1,22 +1,22 @@
+-- `comparing::refusal` meets its contract: the side, and the line of the refusal behind it. Assumes nothing.
 use borrow.Author.Needs.{needs}
+use Rattle.models.specs.Refusals.{faultOf}
+use Rattle.listing.specs.Text.{field, refusedText}
+use Rattle.listing.proofs.Putting.{put-then, put-laid}
+use Rattle.comparing.specs.Text.{sideWord, sideText}
 use Rattle.comparing.proofs.refusal.Statement.{statement}
 use Rattle.comparing.proofs.refusal.Tie as tie
-use Rattle.comparing.proofs.refusal.Reads as reads
-use Rattle.comparing.proofs.refusal.Lts as lts
-use Rattle.comparing.proofs.line.side.Reads as side-reads
-use Rattle.listing.proofs.line.refused.Reads as refused-reads
 
--- src/lib.rt:122:9
-side-requires : tie.Need-side-requires
-side-requires c κs = search needs
-
--- src/lib.rt:123:5
-refused-requires : tie.Need-refused-requires
-refused-requires c κs = search needs
-
--- src/lib.rt:118:1
 returns : tie.Need-returns
-returns c = ?
+unfolding sideText
+returns c =
+    let a = c .before .before .before .before .args in
+    put-laid (sideText (a .side) (faultOf (a .cause))) (put-then (field (sideWord (a .side))) (refusedText (faultOf (a .cause))) (c .before .before .side .ensures .0) (c .refused .ensures))
 
 pub refusal-spec : {M : Type 1} → statement M
-refusal-spec = tie.close (tie.spec side-requires refused-requires returns)
+refusal-spec =
+    tie.close
+    (tie.spec
+    (λ c κs. search needs)
+    (λ c κs. search needs)
+    returns)

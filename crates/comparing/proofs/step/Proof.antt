@@ -1,78 +1,93 @@
+-- `comparing::step` meets its contract: its cause, then the turns of both sides. Assumes nothing.
 use borrow.Author.Needs.{needs}
+use mathlib.Core.Path.{_≡_, refl, sym, ap, ap₂, _∙_}
+use mathlib.Core.List.{List}
+use Prim.Native.Nat.{ℕ, _≤_}
+use native.Mathlib.Omega.{arith}
+use borrow.Author.Tests.{lt-ltb, le-ltb}
+use Rattle.models.specs.Answers.{Said, answered, refused, judge}
+use Rattle.models.specs.Limits.{mostValues}
+use Rattle.models.specs.Refusals.{faultOf}
+use Rattle.comparing.specs.File.{fileStream}
+use Rattle.comparing.specs.Calls.{turnOf, saysTurn, Told, toldBy, toldBoth, stepTold, lineOf, lineIn, stepAnswer, stepMemory}
+use Rattle.comparing.specs.declared.Half.{Half}
+use Rattle.comparing.specs.declared.Pair.{Pair}
+use Rattle.comparing.specs.declared.Turn.{Turn}
+use Rattle.comparing.specs.declared.TurnAnswer.{TurnAnswer}
 use Rattle.comparing.proofs.step.Statement.{statement}
 use Rattle.comparing.proofs.step.Tie as tie
-use Rattle.comparing.proofs.step.Reads as reads
-use Rattle.comparing.proofs.step.Lts as lts
-use Rattle.comparing.proofs.stream_in.Reads as stream-in-reads
-use Rattle.comparing.proofs.take_turn.Reads as take-turn-reads
-use Rattle.comparing.proofs.told.Reads as told-reads
 
--- src/lib.rt:106:9
+-- what a turn says of a stream in a file
+by : (file stream : List ℕ) (h : Half) (r q : TurnAnswer) → stream ≡ fileStream file → saysTurn r ≡ turnOf stream h → r ≡ q → turnOf (fileStream file) h ≡ saysTurn q
+by file stream h r q is e k = ap (λ (s : List ℕ). turnOf s h) (sym is) ∙ sym e ∙ ap saysTurn k
+
+module _ (left right : List ℕ) (at : Pair) (few : at .found ≤ mostValues) where
+  told-is : (t : Said Told) → toldBoth at (turnOf (fileStream left) (at .left)) (turnOf (fileStream right) (at .right)) ≡ t → stepTold left right at ≡ t
+  unfolding stepTold judge
+  told-is t e = rw (le-ltb mostValues (at .found) few) e
+
+  answers : (t : Said Told) → stepTold left right at ≡ t → lineOf t ≡ stepAnswer left right at
+  unfolding stepAnswer
+  answers t e = ap lineOf (sym e)
+
+  leaves : (line : List ℕ) (t : Said Told) → stepTold left right at ≡ t → lineIn line t ≡ stepMemory left right at line
+  unfolding stepMemory
+  leaves line t e = ap (lineIn line) (sym e)
+
 returns : tie.Need-returns
-returns c = ?
+unfolding stepAnswer stepMemory stepTold judge
+returns c =
+    let e = lt-ltb mostValues (c .before .before .before .before .args .at .found) (omega arith) in
+    (rw e, rw e)
 
--- src/lib.rt:108:21
-stream-in-requires : tie.Need-stream-in-requires
-stream-in-requires c κs = search needs
-
--- src/lib.rt:108:11
-take-turn-requires : tie.Need-take-turn-requires
-take-turn-requires c κs = search needs
-
--- src/lib.rt:109:29
-enum-known-r : tie.Need-enum-known-r
-enum-known-r c = search needs
-
--- src/lib.rt:110:26
-enum-known-a : tie.Need-enum-known-a
-enum-known-a c = search needs
-
--- src/lib.rt:110:48
-stream-in-requires-2 : tie.Need-stream-in-requires-2
-stream-in-requires-2 c κs = search needs
-
--- src/lib.rt:110:38
-take-turn-requires-2 : tie.Need-take-turn-requires-2
-take-turn-requires-2 c κs = search needs
-
--- src/lib.rt:111:33
-enum-known-r-2 : tie.Need-enum-known-r-2
-enum-known-r-2 c = search needs
-
--- src/lib.rt:112:30
-enum-known-b : tie.Need-enum-known-b
-enum-known-b c = search needs
-
--- src/lib.rt:112:36
-told-requires : tie.Need-told-requires
-told-requires c κs = search needs
-
--- src/lib.rt:101:1
 returns-2 : tie.Need-returns-2
-returns-2 c = ?
+returns-2 c =
+    let t = c .before .before .before in
+    let a = t .before .before .before .before .before .before .args in
+    let few : a .at .found ≤ mostValues = omega arith in
+    let l = by (a .left .now) _ (a .at .left) _ _ (t .before .stream-in .ensures) (t .take-turn .ensures) (c .before .r .given .1) in
+    let e = told-is (a .left .now) (a .right .now) (a .at) few _ (ap (λ (x : Said Turn). toldBoth (a .at) x (turnOf (fileStream (a .right .now)) (a .at .right))) l) in
+    (answers (a .left .now) (a .right .now) (a .at) few _ e, leaves (a .left .now) (a .right .now) (a .at) few (a .line .now) _ e)
 
--- src/lib.rt:101:1
 returns-3 : tie.Need-returns-3
-returns-3 c = ?
+returns-3 c =
+    let u = c .before .before .before in
+    let k = u .before .before in
+    let t = k .before .before .before in
+    let a = t .before .before .before .before .before .before .args in
+    let few : a .at .found ≤ mostValues = omega arith in
+    let l = by (a .left .now) _ (a .at .left) _ _ (t .before .stream-in .ensures) (t .take-turn .ensures) (k .before .a .given .1) in
+    let r = by (a .right .now) _ (a .at .right) _ _ (u .before .stream-in2 .ensures) (u .take-turn2 .ensures) (c .before .r2 .given .1) in
+    let e = told-is (a .left .now) (a .right .now) (a .at) few _ (ap₂ (toldBoth (a .at)) l r) in
+    (answers (a .left .now) (a .right .now) (a .at) few _ e, leaves (a .left .now) (a .right .now) (a .at) few (a .line .now) _ e)
 
--- src/lib.rt:101:1
 returns-4 : tie.Need-returns-4
-returns-4 c = ?
+returns-4 c =
+    let m = c .before .before in
+    let u = m .before .before .before in
+    let k = u .before .before in
+    let t = k .before .before .before in
+    let a = t .before .before .before .before .before .before .args in
+    let few : a .at .found ≤ mostValues = omega arith in
+    let l = by (a .left .now) _ (a .at .left) _ _ (t .before .stream-in .ensures) (t .take-turn .ensures) (k .before .a .given .1) in
+    let r = by (a .right .now) _ (a .at .right) _ _ (u .before .stream-in2 .ensures) (u .take-turn2 .ensures) (m .before .b .given .1) in
+    let e = told-is (a .left .now) (a .right .now) (a .at) few _ (ap₂ (toldBoth (a .at)) l r) in
+    (c .told .ensures .0 ∙ answers (a .left .now) (a .right .now) (a .at) few _ e, c .told .ensures .1 ∙ leaves (a .left .now) (a .right .now) (a .at) few (a .line .now) _ e)
 
 pub step-spec : {M : Type 1} → statement M
 step-spec =
     tie.close
     (tie.spec
     returns
-    stream-in-requires
-    take-turn-requires
-    enum-known-r
-    enum-known-a
-    stream-in-requires-2
-    take-turn-requires-2
-    enum-known-r-2
-    enum-known-b
-    told-requires
+    (λ c κs. search needs)
+    (λ c κs. search needs)
+    (λ c. search needs)
+    (λ c. search needs)
+    (λ c κs. search needs)
+    (λ c κs. search needs)
+    (λ c. search needs)
+    (λ c. search needs)
+    (λ c κs. search needs)
     returns-2
     returns-3
     returns-4)

@@ -1,50 +1,33 @@
+-- `comparing::stream_in` meets its contract: nothing, of a file that has no whole head. Assumes nothing.
 use borrow.Author.Needs.{needs}
+use mathlib.Core.Path.{sym, ap, _∙_}
+use Prim.Native.Nat.{_-_}
+use native.Mathlib.Omega.{arith}
+use lib.ListN.{length, take, drop, length-drop, drop-of-length-le}
+use lib.Seq.{take-all, take-nil, drop-length}
 use Rattle.comparing.proofs.stream_in.Statement.{statement}
 use Rattle.comparing.proofs.stream_in.Tie as tie
-use Rattle.comparing.proofs.stream_in.Reads as reads
-use Rattle.comparing.proofs.stream_in.Lts as lts
 
--- src/lib.rt:191:16
-sub-result : tie.Need-sub-result
-sub-result c = search needs
-
--- src/lib.rt:191:16
-part-result-start : tie.Need-part-result-start
-part-result-start c = search needs
-
--- src/lib.rt:191:16
-part-result-end : tie.Need-part-result-end
-part-result-end c = search needs
-
--- src/lib.rt:191:9
 returns : tie.Need-returns
-returns c = ?
+returns c =
+    let file = c .before .before .args .file .now in
+    let n = length file in
+    ap (take (n - n)) (drop-length file) ∙ take-nil (n - n) ∙ sym (drop-of-length-le file {i = 9} (omega arith))
 
--- src/lib.rt:193:5
-sub-result-2 : tie.Need-sub-result-2
-sub-result-2 c = search needs
-
--- src/lib.rt:193:5
-part-result-start-2 : tie.Need-part-result-start-2
-part-result-start-2 c = search needs
-
--- src/lib.rt:193:5
-part-result-end-2 : tie.Need-part-result-end-2
-part-result-end-2 c = search needs
-
--- src/lib.rt:186:1
 returns-2 : tie.Need-returns-2
-returns-2 c = ?
+returns-2 c =
+    let file = c .before .before .args .file .now in
+    take-all (length file - 9) (drop 9 file) (omega (arith, length-drop 9 file))
 
 pub stream-in-spec : {M : Type 1} → statement M
 stream-in-spec =
     tie.close
     (tie.spec
-    sub-result
-    part-result-start
-    part-result-end
+    (λ c. search needs)
+    (λ c. search needs)
+    (λ c. search needs)
     returns
-    sub-result-2
-    part-result-start-2
-    part-result-end-2
+    (λ c. search needs)
+    (λ c. search needs)
+    (λ c. search needs)
     returns-2)

@@ -1,26 +1,28 @@
+-- `comparing::line::difference` meets its contract: its three fields, one behind the other. Assumes nothing.
 use borrow.Author.Needs.{needs}
+use mathlib.Core.List.{List, _++_}
+use Prim.Native.Nat.{ℕ}
+use Rattle.listing.specs.Text.{decimal, field, lastField}
+use Rattle.listing.proofs.Putting.{put-then, put-laid}
+use Rattle.comparing.specs.Text.{entryText, differenceText}
 use Rattle.comparing.proofs.line.difference.Statement.{statement}
 use Rattle.comparing.proofs.line.difference.Tie as tie
-use Rattle.comparing.proofs.line.difference.Reads as reads
-use Rattle.comparing.proofs.line.difference.Lts as lts
-use Rattle.comparing.proofs.line.entry.Reads as entry-reads
-use Rattle.listing.proofs.line.number.Reads as number-reads
 
--- src/line.rt:21:9
-number-requires : tie.Need-number-requires
-number-requires c κs = search needs
-
--- src/line.rt:22:9
-entry-requires : tie.Need-entry-requires
-entry-requires c κs = search needs
-
--- src/line.rt:23:5
-entry-requires-2 : tie.Need-entry-requires-2
-entry-requires-2 c κs = search needs
-
--- src/line.rt:15:1
 returns : tie.Need-returns
-returns c = ?
+unfolding differenceText
+returns c =
+    let d = c .before .before .before .before .before .before .args .d in
+    let t1 : List ℕ = field (decimal (d .index)) in
+    let t2 : List ℕ = field (entryText (d .left)) in
+    let t3 : List ℕ = lastField (entryText (d .right)) in
+    let p = put-then t1 t2 (c .before .before .before .before .number .ensures .0) (c .before .before .entry .ensures .0) in
+    put-laid (t1 ++ t2 ++ t3) (put-then (t1 ++ t2) t3 p (c .entry2 .ensures .0))
 
 pub difference-spec : {M : Type 1} → statement M
-difference-spec = tie.close (tie.spec number-requires entry-requires entry-requires-2 returns)
+difference-spec =
+    tie.close
+    (tie.spec
+    (λ c κs. search needs)
+    (λ c κs. search needs)
+    (λ c κs. search needs)
+    returns)

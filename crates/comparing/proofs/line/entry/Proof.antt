@@ -1,56 +1,42 @@
+-- `comparing::line::entry` meets its contract. Assumes nothing.
 use borrow.Author.Needs.{needs}
+use mathlib.Core.Path.{refl, sym, subst}
+use mathlib.Core.List.{[], _∷_, _++_}
+use Prim.Native.Nat.{_+_}
+use native.Mathlib.Omega.{arith}
+use lib.ListN.{set}
+use Rattle.listing.specs.inner.Lines.{Put}
+use Rattle.listing.proofs.Putting.{put-byte}
+use Rattle.comparing.specs.Text.{entryText}
+use Rattle.comparing.specs.declared.Entry.{Entry}
 use Rattle.comparing.proofs.line.entry.Statement.{statement}
 use Rattle.comparing.proofs.line.entry.Tie as tie
-use Rattle.comparing.proofs.line.entry.Reads as reads
-use Rattle.comparing.proofs.line.entry.Lts as lts
-use Rattle.listing.proofs.line.value.Reads as value-reads
 
--- src/line.rt:34:13
-enum-told : tie.Need-enum-told
-enum-told c = search needs
-
--- src/line.rt:34:13
-element-write-line : tie.Need-element-write-line
-element-write-line c = search needs
-
--- src/line.rt:35:18
-add-line : tie.Need-add-line
-add-line c = search needs
-
--- src/line.rt:35:13
-element-write-line-2 : tie.Need-element-write-line-2
-element-write-line-2 c = search needs
-
--- src/line.rt:36:13
-add-result : tie.Need-add-result
-add-result c = search needs
-
--- src/line.rt:38:22
-enum-known-e : tie.Need-enum-known-e
-enum-known-e c = search needs
-
--- src/line.rt:38:28
-value-requires : tie.Need-value-requires
-value-requires c κs = search needs
-
--- src/line.rt:27:1
 returns : tie.Need-returns
-returns c = ?
+returns c =
+    let a = c .before .before .args in (
+      subst (λ (e : Entry). Put (a .line .now) (a .at) (entryText e ++ (a .end ∷ [])) (set (set (a .line .now) (a .at) 45) (a .at + 1) (a .end)) (a .at + 2)) (sym (c .enum-told .given .1))
+          (put-byte (45 ∷ []) (a .end) (a .at + 2) refl (omega arith) (omega arith)),
+      omega arith,
+    )
 
--- src/line.rt:27:1
 returns-2 : tie.Need-returns-2
-returns-2 c = ?
+returns-2 c =
+    let a = c .before .before .before .before .before .args in (
+      subst (λ (e : Entry). Put (a .line .now) (a .at) (entryText e ++ (a .end ∷ [])) (c .value .last .1 .1 .0) (c .value .result)) (sym (c .before .before .before .e .given .1)) (c .value .ensures .0),
+      c .value .ensures .1,
+    )
 
 pub entry-spec : {M : Type 1} → statement M
 entry-spec =
     tie.close
     (tie.spec
-    enum-told
-    element-write-line
-    add-line
-    element-write-line-2
-    add-result
-    enum-known-e
-    value-requires
+    (λ c. search needs)
+    (λ c. search needs)
+    (λ c. search needs)
+    (λ c. search needs)
+    (λ c. search needs)
+    (λ c. search needs)
+    (λ c κs. search needs)
     returns
     returns-2)

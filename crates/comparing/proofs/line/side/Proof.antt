@@ -1,51 +1,37 @@
+-- `comparing::line::side` meets its contract. Assumes nothing.
 use borrow.Author.Needs.{needs}
+use mathlib.Core.Path.{sym, subst}
+use native.Mathlib.Omega.{arith}
+use Rattle.listing.specs.Text.{field}
+use Rattle.listing.specs.inner.Lines.{Put}
+use Rattle.comparing.specs.Text.{sideWord}
+use Rattle.comparing.specs.declared.Side.{Side}
 use Rattle.comparing.proofs.line.side.Statement.{statement}
 use Rattle.comparing.proofs.line.side.Tie as tie
-use Rattle.comparing.proofs.line.side.Reads as reads
-use Rattle.comparing.proofs.line.side.Lts as lts
-use Rattle.listing.proofs.line.word.Reads as word-reads
 
--- src/line.rt:57:34
-enum-told : tie.Need-enum-told
-enum-told c = search needs
-
--- src/line.rt:57:34
-slice-aggregate-word : tie.Need-slice-aggregate-word
-slice-aggregate-word c = search needs
-
--- src/line.rt:57:23
-word-requires : tie.Need-word-requires
-word-requires c κs = search needs
-
--- src/line.rt:58:35
-enum-told-2 : tie.Need-enum-told-2
-enum-told-2 c = search needs
-
--- src/line.rt:58:35
-slice-aggregate-word-2 : tie.Need-slice-aggregate-word-2
-slice-aggregate-word-2 c = search needs
-
--- src/line.rt:58:24
-word-requires-2 : tie.Need-word-requires-2
-word-requires-2 c κs = search needs
-
--- src/line.rt:52:1
 returns : tie.Need-returns
-returns c = ?
+returns c =
+    let a = c .before .before .before .before .before .args in (
+      subst (λ (s : Side). Put (a .line .now) 0 (field (sideWord s)) (c .word .last .1 .0) (c .word .result)) (sym (c .before .before .before .enum-told .given .1)) (c .word .ensures),
+      omega (arith, c .word .ensures .ends),
+    )
 
--- src/line.rt:52:1
 returns-2 : tie.Need-returns-2
-returns-2 c = ?
+returns-2 c =
+    let a = c .before .before .before .before .before .args in (
+      subst (λ (s : Side). Put (a .line .now) 0 (field (sideWord s)) (c .word2 .last .1 .0) (c .word2 .result)) (sym (c .before .before .before .enum-told2 .given .1)) (c .word2 .ensures),
+      omega (arith, c .word2 .ensures .ends),
+    )
 
 pub side-spec : {M : Type 1} → statement M
 side-spec =
     tie.close
     (tie.spec
-    enum-told
-    slice-aggregate-word
-    word-requires
-    enum-told-2
-    slice-aggregate-word-2
-    word-requires-2
+    (λ c. search needs)
+    (λ c. search needs)
+    (λ c κs. search needs)
+    (λ c. search needs)
+    (λ c. search needs)
+    (λ c κs. search needs)
     returns
     returns-2)
