@@ -6,6 +6,7 @@ use comparing::Side;
 use comparing::StepAnswer;
 use libc::STDIN_FILENO;
 use libc::STDOUT_FILENO;
+use listing::line;
 use models::Refusal;
 
 const RIGHT_FILENO: i32 = 3;
@@ -36,7 +37,7 @@ fn compare(left: &[u8], right: &[u8]) {
 fn refuse(side: Side, cause: Refusal) {
     let mut line = [0u8; 80];
     let n = comparing::refusal(side, cause, &mut line);
-    print(&line, n);
+    io::write_all(STDOUT_FILENO, line::front(&line, n));
 }
 
 // The line of each index, and the last one. Both files were judged, so no step is refused.
@@ -50,25 +51,14 @@ fn steps(left: &[u8], right: &[u8], begun: Pair) {
                 return;
             }
             StepAnswer::Last { length } => {
-                print(&line, length);
+                io::write_all(STDOUT_FILENO, line::front(&line, length));
                 return;
             }
             StepAnswer::On { length, next } => {
-                print(&line, length);
+                io::write_all(STDOUT_FILENO, line::front(&line, length));
                 at = next;
                 i += 1;
             }
         }
-    }
-}
-
-// The first n bytes of a line.
-fn print(line: &[u8; 80], n: usize) {
-    print_front(line, n);
-}
-
-fn print_front(line: &[u8], n: usize) {
-    if n <= line.len() {
-        io::write_all(STDOUT_FILENO, &line[..n]);
     }
 }

@@ -3,6 +3,7 @@ use libc::STDIN_FILENO;
 use libc::STDOUT_FILENO;
 use listing::Judged;
 use listing::RowAnswer;
+use listing::line;
 use models::Refusal;
 
 fn main() {
@@ -29,7 +30,7 @@ fn list(input: &[u8]) {
 fn refuse(cause: Refusal) {
     let mut line = [0u8; 80];
     let n = listing::refusal(cause, &mut line);
-    print(&line, n);
+    io::write_all(STDOUT_FILENO, line::front(&line, n));
 }
 
 // A row for each value, and the total. The stream was judged, so no row is refused.
@@ -43,23 +44,12 @@ fn rows(stream: &[u8], count: usize) {
                 return;
             }
             RowAnswer::Row { length, next } => {
-                print(&line, length);
+                io::write_all(STDOUT_FILENO, line::front(&line, length));
                 at = next;
                 i += 1;
             }
         }
     }
     let n = listing::total(at.place, &mut line);
-    print(&line, n);
-}
-
-// The first n bytes of a line.
-fn print(line: &[u8; 80], n: usize) {
-    print_front(line, n);
-}
-
-fn print_front(line: &[u8], n: usize) {
-    if n <= line.len() {
-        io::write_all(STDOUT_FILENO, &line[..n]);
-    }
+    io::write_all(STDOUT_FILENO, line::front(&line, n));
 }

@@ -2,7 +2,7 @@
 ghost use mathlib.Core.Path.{_≡_};
 ghost use mathlib.Core.List.{[], _∷_, _++_};
 ghost use Prim.Native.Nat.{_+_, _≤_, _<_};
-ghost use lib.ListN.{length};
+ghost use lib.ListN.{length, take};
 ghost use lib.Seq.{sets};
 ghost use Rattle.models.specs.Refusals.{faultOf};
 ghost use Rattle.listing.specs.Text.{digitText, digitsOf, places as placesOf, decimal, hexadecimal, kindWord, leadText, field, rowText, refusedText, laid};
@@ -62,6 +62,24 @@ pub fn refused(cause: Refusal, line: &mut [u8; 80], at: usize) -> usize
     let b = number(fault.number as usize, b' ', line, a);
     let c = number(fault.value as usize, b' ', line, b);
     number(fault.place, b'\n', line, c)
+}
+
+// ---- what is printed of a line
+
+// The first n bytes of a line.
+pub fn front<'a>(line: &'a [u8; 80], n: usize) -> &'a [u8]
+    ensures { λ r. ⌜ now r ≡ take n (now (line .entry)) ⌝ }
+{
+    front_of(line, n)
+}
+
+fn front_of<'a>(bytes: &'a [u8], n: usize) -> &'a [u8]
+    ensures { λ r. ⌜ now r ≡ take n (now (bytes .entry)) ⌝ }
+{
+    if bytes.len() < n {
+        return bytes;
+    }
+    &bytes[..n]
 }
 
 // ---- words and numbers
