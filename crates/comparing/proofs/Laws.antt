@@ -194,3 +194,66 @@ module _ (us vs : List ℕ) where
               (subst (Among (bothAt us vs i)) e
               (listed us vs (max (length us) (length vs)) 0 i (omega arith) (omega (arith, leb-false (max (length us) (length vs)) i b))
               (λ f. true≢false (sym (same-refl (entryAt us i)) ∙ ap (sameEntry (entryAt us i)) f ∙ s))))
+
+  -- no difference is listed only where the lists are the same
+  pub only-of-the-same : length (differences us vs) ≡ 0 → us ≡ vs
+  only-of-the-same e = same-entries us vs (not-listed (empty (differences us vs) e))
+    where
+      empty : (ds : List Difference) → length ds ≡ 0 → ds ≡ []
+      empty [] h = refl
+      empty (d ∷ ds) h = absurd (omega arith)
+
+  -- the entries of an index that both lists have, and that one of them has
+  both-there : (i : ℕ) → i < length us → i < length vs → bothAt us vs i ≡ record { index = i; left = Value (getD us i 0); right = Value (getD vs i 0) }
+  both-there i p q = ap₂ (λ (a b : Entry). record { index = i; left = a; right = b }) (entry-there us i p) (entry-there vs i q)
+
+  left-there : (i : ℕ) → i < length us → length vs ≤ i → bothAt us vs i ≡ record { index = i; left = Value (getD us i 0); right = Missing }
+  left-there i p q = ap₂ (λ (a b : Entry). record { index = i; left = a; right = b }) (entry-there us i p) (entry-missing vs i q)
+
+  right-there : (i : ℕ) → length us ≤ i → i < length vs → bothAt us vs i ≡ record { index = i; left = Missing; right = Value (getD vs i 0) }
+  right-there i p q = ap₂ (λ (a b : Entry). record { index = i; left = a; right = b }) (entry-missing us i p) (entry-there vs i q)
+
+  -- where the lists part is listed
+  pub parting-listed : (d : Difference) → PartsAt us vs d → Among d (differences us vs)
+  parting-listed d (otherValues i p q apart) =
+      subst (λ (x : Difference). Among x (differences us vs)) (both-there i p q)
+      (listed us vs (max (length us) (length vs)) 0 i (omega arith) (omega arith)
+      (λ e. apart (same-value (sym (entry-there us i p) ∙ e ∙ entry-there vs i q))))
+  parting-listed d (leftOnly i p q) =
+      subst (λ (x : Difference). Among x (differences us vs)) (left-there i p q)
+      (listed us vs (max (length us) (length vs)) 0 i (omega arith) (omega arith)
+      (λ e. missing-no-value (sym (sym (entry-there us i p) ∙ e ∙ entry-missing vs i q))))
+  parting-listed d (rightOnly i p q) =
+      subst (λ (x : Difference). Among x (differences us vs)) (right-there i p q)
+      (listed us vs (max (length us) (length vs)) 0 i (omega arith) (omega arith)
+      (λ e. missing-no-value (sym (entry-missing us i p) ∙ e ∙ entry-there vs i q)))
+
+  -- and what is listed is where they part
+  pub listed-parting : (d : Difference) → Among d (differences us vs) → PartsAt us vs d
+  listed-parting d h = go (leb (length us) i) refl (leb (length vs) i) refl
+    where
+      i : ℕ
+      i = d .index
+
+      p : Parts us vs (max (length us) (length vs)) 0 d
+      p = nothing-else us vs (max (length us) (length vs)) 0 d h
+
+      go : (a : Bool) → leb (length us) i ≡ a → (b : Bool) → leb (length vs) i ≡ b → PartsAt us vs d
+      go false x false y =
+          let there = leb-false (length us) i x in
+          let also = leb-false (length vs) i y in
+          subst (PartsAt us vs) (sym (p .is ∙ both-there i there also))
+          (otherValues i there also (λ e. p .apart (entry-there us i there ∙ ap Value e ∙ sym (entry-there vs i also))))
+      go false x true y =
+          let there = leb-false (length us) i x in
+          let ended = leb-true (length vs) i y in
+          subst (PartsAt us vs) (sym (p .is ∙ left-there i there ended)) (leftOnly i there ended)
+      go true x false y =
+          let ended = leb-true (length us) i x in
+          let there = leb-false (length vs) i y in
+          subst (PartsAt us vs) (sym (p .is ∙ right-there i ended there)) (rightOnly i ended there)
+      go true x true y = absurd (p .apart (entry-missing us i (leb-true (length us) i x) ∙ sym (entry-missing vs i (leb-true (length vs) i y))))
+
+  -- the lists in each other's place
+  pub all-turned : differences vs us ≡ swapped (differences us vs)
+  all-turned = ap (λ (n : ℕ). differencesFrom n 0 vs us) (max-comm (length vs) (length us)) ∙ turned us vs (max (length us) (length vs)) 0

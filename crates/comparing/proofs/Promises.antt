@@ -2,17 +2,18 @@
 -- what a reader would ask of that: which indices are listed, in which order, how many, and what two equal files and two swapped files give. Files
 -- are lists of bytes, as a program holds them. Assumes nothing.
 use mathlib.Core.Path.{_≡_, refl, sym, ap, ap₂, _∙_, subst}
+use mathlib.Core.Logic.{_↔_}
 use mathlib.Core.Bool.{Bool, true, false, cond, _||_}
 use mathlib.Core.List.{List, [], _∷_, _++_}
 use Prim.Native.Nat.{ℕ, zero, suc, _+_, _^_, _≤_, _<_, max}
 use native.Mathlib.Nat.{zero-add, max-comm}
 use native.Mathlib.Omega.{arith}
-use borrow.Author.Tests.{ltb-false, lt-ltb, le-ltb}
-use lib.Dec.{eqb, ltb}
+use borrow.Author.Tests.{ltb-false, lt-ltb, le-ltb, leb-true, leb-false}
+use lib.Dec.{eqb, ltb, leb}
 use lib.ListN.{length, take, drop, getD, length-take, length-drop}
 use lib.Seq.{take-all, getD-take}
 use Rattle.bits.specs.Bits.{Below}
-use Rattle.models.specs.Answers.{Said, Done, answered, refused, SaidOn, answeredOn, refusedOn, judge, NoneHolds}
+use Rattle.models.specs.Answers.{Said, Done, answered, refused, SaidOn, answeredOn, refusedOn, judge, fault, NoneHolds}
 use Rattle.models.specs.declared.Fault.{Fault}
 use Rattle.models.specs.Limits.{mostValues}
 use Rattle.models.proofs.Judged.{not-answered, same-answer, answered-only}
@@ -28,17 +29,17 @@ use Rattle.listing.specs.Text.{digitText, digitsOf, placesUpTo, refusedText}
 use Rattle.listing.specs.Listing.{wordAt}
 use Rattle.listing.specs.Printed.{linePrinted}
 use Rattle.listing.proofs.Putting.{text-laid}
-use Rattle.comparing.specs.File.{headLength, fileMode, opensBy, fileOpening, fileCount, fileStream, mostBytes, overLimit, fileCauses, fileValues}
+use Rattle.comparing.specs.File.{headLength, fileMode, opensBy, fileOpening, fileCount, fileStream, mostBytes, overLimit, fileCauses, fileValues, asRead}
 use Rattle.comparing.specs.Differences.{entryAt, bothAt, differencesFrom, differences, Among, PartsAt, otherValues, leftOnly, rightOnly, Rising, swapped}
 use Rattle.comparing.specs.Text.{differText, sideText}
-use Rattle.comparing.specs.Compared.{linesText, differencesText, bothText, compareText}
+use Rattle.comparing.specs.Compared.{nothingDiffers, linesText, differencesText, bothText, compareText}
 use Rattle.comparing.specs.Calls.{halfOf, begunBy, openAnswer, begunPair, begunBoth, judgeAnswer}
 use Rattle.comparing.specs.Printed.{stepsPrinted, printedBoth, printed}
 use Rattle.comparing.specs.declared.Side.{Side}
 use Rattle.comparing.specs.declared.Side.the-variants.{Left, Right}
 use Rattle.comparing.specs.declared.Half.{Half}
 use Rattle.comparing.specs.declared.Difference.{Difference}
-use Rattle.comparing.proofs.Laws as Laws
+use Rattle.comparing.proofs.Laws.{rising, none-of-itself, length-swapped, only-of-the-same, parting-listed, listed-parting, all-turned}
 use Rattle.comparing.proofs.Lines.{side-most}
 use Rattle.comparing.proofs.Walking.{Gives, Before, Stands, gives-long, walks}
 
@@ -105,3 +106,89 @@ module _ (left right line : List ℕ) (e : length line ≡ 80) (bytesLeft : Belo
           let room : n ≤ mostValues = omega (arith, long left bytesLeft us l, long right bytesRight vs r) in
           walks left right us vs n 0 (mostValues + 1) _ line e s (omega arith) (omega arith) (omega arith)
           ∙ ap (λ (k : ℕ). linesText (differences us vs) ++ differText k) (zero-add (length (differences us vs)))
+
+  -- a file that is refused: "the left stream's, else the right's", as the only line
+  pub left-refused : (f : Fault) → fileValues left ≡ refused f → printed left right line ≡ sideText Left f
+  unfolding compareText
+  left-refused f l = the-comparison ∙ ap (λ (p : Said (List ℕ)). bothText p (fileValues right)) l
+
+  pub right-refused : (us : List ℕ) (f : Fault) → fileValues left ≡ answered us → fileValues right ≡ refused f → printed left right line ≡ sideText Right f
+  unfolding compareText
+  right-refused us f l r = the-comparison ∙ ap₂ bothText l r
+
+  -- "a file under 9 bytes 5 .. with 0 and 0", whatever its mode: `left refused 5 0 0`
+  pub no-whole-head : length left < headLength
+      → printed left right line
+      ≡ 108 ∷ 101 ∷ 102 ∷ 116 ∷ 32 ∷ 114 ∷ 101 ∷ 102 ∷ 117 ∷ 115 ∷ 101 ∷ 100 ∷ 32 ∷ 53 ∷ 32 ∷ 48 ∷ 32 ∷ 48 ∷ 10 ∷ []
+  unfolding compareText fileValues judge sideText refusedText digitsOf placesUpTo digitText
+  no-whole-head short = the-comparison ∙ rw (lt-ltb (length left) headLength short)
+
+  -- ---- where both are read
+
+  module _ (us vs : List ℕ) (l : fileValues left ≡ answered us) (r : fileValues right ≡ answered vs) where
+    -- a line for each difference of the values, and `differ` with their number
+    pub their-differences : printed left right line ≡ differencesText (differences us vs)
+    unfolding compareText
+    their-differences = the-comparison ∙ ap₂ bothText l r
+
+    -- "Two streams with different bits and the same values give none."
+    pub the-same-values : us ≡ vs → printed left right line ≡ nothingDiffers
+    unfolding differText digitsOf placesUpTo digitText
+    the-same-values e =
+        their-differences
+        ∙ ap (λ (ws : List ℕ). differencesText (differences us ws)) (sym e)
+        ∙ ap differencesText (none-of-itself us (max (length us) (length us)) 0)
+
+-- ---- two equal files, two files in each other's place
+
+pub equal-files : (file line us : List ℕ) → length line ≡ 80 → Below 8 file → fileValues file ≡ answered us → printed file file line ≡ nothingDiffers
+equal-files file line us e bytes reads = the-same-values file file line e bytes bytes us us reads reads refl
+
+-- swapping the files swaps the columns and nothing else
+pub swapped-files : (left right line us vs : List ℕ) → length line ≡ 80 → Below 8 left → Below 8 right → fileValues left ≡ answered us → fileValues right ≡ answered vs
+    → printed right left line ≡ differencesText (swapped (differences us vs))
+swapped-files left right line us vs e bl br l r = their-differences right left line e br bl vs us r l ∙ ap differencesText (all-turned us vs)
+
+-- ---- the differences of two lists of values
+
+module _ (us vs : List ℕ) where
+  -- the listed indices are exactly those below both counts where the values differ, and those below one count only, each with what both have there
+  pub exactly-where-they-part : (d : Difference) → Among d (differences us vs) ↔ PartsAt us vs d
+  exactly-where-they-part d = (listed-parting us vs d, parting-listed us vs d)
+
+  -- they rise strictly: so each is listed once
+  pub they-rise : Rising (differences us vs)
+  they-rise = rising us vs (max (length us) (length vs)) 0
+
+  -- `differ 0` is said of the same values alone
+  pub none-only-of-the-same : length (differences us vs) ≡ 0 → us ≡ vs
+  none-only-of-the-same = only-of-the-same us vs
+
+  -- as many lines whichever is the left one
+  pub as-many-swapped : length (differences vs us) ≡ length (differences us vs)
+  as-many-swapped = ap length (all-turned us vs) ∙ length-swapped (differences us vs)
+
+-- ---- what is read of a file
+
+-- too many bytes are 3, whatever else is wrong with the head
+too-long : (f : List ℕ) → headLength + mostBytes < length f → fileValues f ≡ refused (fault 3)
+unfolding fileValues judge
+too-long f h =
+    rw (
+      le-ltb (length f) headLength (omega arith),
+      or-right (ltb 1 (fileMode f) || ltb mostValues (fileCount f)) (ltb mostBytes (length (fileStream f))) (lt-ltb mostBytes (length (fileStream f)) (omega (arith, length-drop headLength f))),
+    )
+
+-- a file of more bytes is refused by those that are read of it, as it would be by all of them
+read-enough : (file : List ℕ) → fileValues (asRead file) ≡ fileValues file
+read-enough file = go (leb (length file) (headLength + mostBytes + 1)) refl
+  where
+    go : (t : Bool) → leb (length file) (headLength + mostBytes + 1) ≡ t → fileValues (asRead file) ≡ fileValues file
+    go true e = ap fileValues (take-all (headLength + mostBytes + 1) file (leb-true (length file) (headLength + mostBytes + 1) e))
+    go false e =
+        let long = leb-false (length file) (headLength + mostBytes + 1) e in
+        too-long (asRead file) (omega (arith, length-take (headLength + mostBytes + 1) file)) ∙ sym (too-long file (omega arith))
+
+pub what-is-read-is-enough : (left right : List ℕ) → compareText (asRead left) (asRead right) ≡ compareText left right
+unfolding compareText
+what-is-read-is-enough left right = ap₂ bothText (read-enough left) (read-enough right)

@@ -25,3 +25,7 @@ bothText (answered us) (answered vs) = differencesText (differences us vs)
 
 unfoldable pub compareText : List ℕ → List ℕ → List ℕ
 compareText left right = bothText (fileValues left) (fileValues right)
+
+-- `differ 0`, the one line of two files with the same values
+abbrev pub nothingDiffers : List ℕ
+nothingDiffers = 100 ∷ 105 ∷ 102 ∷ 102 ∷ 101 ∷ 114 ∷ 32 ∷ 48 ∷ 10 ∷ []

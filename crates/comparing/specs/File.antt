@@ -1,9 +1,9 @@
 -- A file that is compared, and its values: document 02, "Compare two uploads". Assumes nothing.
 use mathlib.Core.Bool.{Bool, cond, _||_}
 use mathlib.Core.List.{List, [], _∷_}
-use Prim.Native.Nat.{ℕ}
+use Prim.Native.Nat.{ℕ, _+_}
 use lib.Dec.{eqb, ltb}
-use lib.ListN.{length, drop, getD}
+use lib.ListN.{length, take, drop, getD}
 use Rattle.models.specs.Answers.{Said, refused, Cause, _when_, judge}
 use Rattle.models.specs.Limits.{mostValues}
 use Rattle.macaque_v.specs.Read.{valuesIn}
@@ -52,3 +52,7 @@ fileCauses file =
 
 unfoldable pub fileValues : List ℕ → Said (List ℕ)
 fileValues file = judge refused (fileCauses file) (valuesIn (fileStream file) (fileCount file) (fileOpening file))
+
+-- what a program reads of a file: up to one byte more than it may have, so that too many are noticed
+abbrev pub asRead : List ℕ → List ℕ
+asRead file = take (headLength + mostBytes + 1) file
