@@ -8,6 +8,8 @@
 //! A state changes in place: what fits or is written is part of it from then on. So writers, readers,
 //! models and builders are no `Copy`; to keep one as it was, clone it.
 //!
+//! [`compare::differences`] shows where two streams part.
+//!
 //! [`choose_model`] says which model stores a run of values, [`PMCMean`] or [`Swing`]; a [`Segment`]
 //! holds that model and the values behind it, which [`MacaqueV`] writes as a stream.
 //!
@@ -24,6 +26,7 @@
 
 #![warn(missing_docs)]
 
+pub mod compare;
 pub mod ffi;
 pub mod macaque_v;
 pub mod models;

@@ -34,7 +34,7 @@ impl Opening {
     }
 
     /// The case as a number, and the value's bits.
-    fn words(self) -> Words {
+    pub(crate) fn words(self) -> Words {
         match self {
             Opening::First => (0, 0),
             Opening::On(value) => (1, value.to_bits()),

@@ -3,6 +3,7 @@
 mod bounds;
 mod broken;
 mod choice;
+mod compare;
 mod differences;
 mod library_fit;
 mod library_segments;
@@ -60,6 +61,7 @@ pub const ALL: &[Part] = &[
     Part::new("parameter bytes", parameters::parameters),
     Part::new("segments", segments::segments),
     Part::new("list", list_program::list_program),
+    Part::new("compare", compare::compare),
     Part::new("differences", differences::differences),
     Part::new("differences: refused segments", differences::refused),
     Part::new("differences: segments stored before", differences::before),
