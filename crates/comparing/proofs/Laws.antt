@@ -1,13 +1,13 @@
 -- Laws of the differences of two lists: which indices are listed, in which order, and what the lists in each other's place give. Assumes nothing.
 use mathlib.Core.Path.{_≡_, refl, sym, ap, ap₂, _∙_, subst}
-use mathlib.Core.Logic.{_⊎_, inl, inr}
+use mathlib.Core.Logic.{inl, inr}
 use mathlib.Core.Bool.{Bool, true, false, cond, false≢true, true≢false}
 use mathlib.Core.List.{List, [], _∷_}
 use Prim.Native.Nat.{ℕ, zero, suc, _+_, _≤_, _<_, max}
 use native.Mathlib.Nat.{max-comm, le-max-left, le-max-right}
 use native.Mathlib.Omega.{arith}
-use borrow.Author.Tests.{eq-eqb, ne-eqb, eqb-false, eqb-true, lt-leb, le-leb, leb-true, leb-false}
-use lib.Dec.{eqb, ltb, leb}
+use borrow.Author.Tests.{eq-eqb, ne-eqb, eqb-false, eqb-true, leb-true, leb-false}
+use lib.Dec.{eqb, leb}
 use lib.ListN.{length, getD}
 use Rattle.models.proofs.Tests.{by-test, never}
 use Rattle.comparing.specs.Differences.{entryAt, sameEntry, bothAt, ifDiffers, differencesFrom, differences, Among, PartsAt, otherValues, leftOnly, rightOnly, Above, Rising, swapped}

@@ -5,7 +5,7 @@ use native.Mathlib.Omega.{arith}
 use lib.Dec.{lit≤}
 use lib.ListN.{length, length-append}
 use Rattle.models.specs.declared.Fault.{Fault}
-use Rattle.listing.specs.Text.{decimal, hexadecimal, field, lastField, refusedText}
+use Rattle.listing.specs.Text.{decimal, field, lastField, refusedText}
 use Rattle.listing.proofs.Putting.{length-digits, length-field, length-last, decimal-most, last-most, refused-most}
 use Rattle.comparing.specs.Text.{entryText, differenceText, differWord, differText, sideWord, sideText}
 use Rattle.comparing.specs.declared.Side.{Side}

@@ -1,17 +1,17 @@
 -- The promises of the calls together: start reading here. What a caller prints by them (`printed`) is the comparison of document 02 (`compareText`), and
 -- what a reader would ask of that: which indices are listed, in which order, how many, and what two equal files and two swapped files give. Files
 -- are lists of bytes, as a program holds them. Assumes nothing.
-use mathlib.Core.Path.{_≡_, refl, sym, ap, ap₂, _∙_, subst}
+use mathlib.Core.Path.{_≡_, refl, sym, ap, ap₂, _∙_}
 use mathlib.Core.Logic.{_↔_}
 use mathlib.Core.Bool.{Bool, true, false, cond, _||_}
 use mathlib.Core.List.{List, [], _∷_, _++_}
-use Prim.Native.Nat.{ℕ, zero, suc, _+_, _^_, _≤_, _<_, max}
-use native.Mathlib.Nat.{zero-add, max-comm}
+use Prim.Native.Nat.{ℕ, _+_, _^_, _≤_, _<_, max}
+use native.Mathlib.Nat.{zero-add}
 use native.Mathlib.Omega.{arith}
 use borrow.Author.Tests.{ltb-false, lt-ltb, le-ltb, leb-true, leb-false}
 use lib.Dec.{eqb, ltb, leb}
-use lib.ListN.{length, take, drop, getD, length-take, length-drop}
-use lib.Seq.{take-all, getD-take}
+use lib.ListN.{length, length-take, length-drop}
+use lib.Seq.{take-all}
 use Rattle.bits.specs.Bits.{Below}
 use Rattle.models.specs.Answers.{Said, Done, answered, refused, SaidOn, answeredOn, refusedOn, judge, fault, NoneHolds}
 use Rattle.models.specs.declared.Fault.{Fault}
@@ -22,26 +22,24 @@ use Rattle.macaque_v.specs.State.{openingValue}
 use Rattle.macaque_v.specs.Read.{valuesIn}
 use Rattle.macaque_v.specs.declared.Opening.the-variants.{First, On}
 use Rattle.reader.specs.Calls.{openedAt, endAnswer}
-use Rattle.reader.specs.Run.{Run, nexts, ifEnded, andEnd, readBy}
+use Rattle.reader.specs.Run.{Run, nexts, ifEnded, andEnd}
 use Rattle.reader.specs.declared.position.Position.{Position}
 use Rattle.reader.proofs.Promises.{n-nexts-and-the-end}
 use Rattle.listing.specs.Text.{digitText, digitsOf, placesUpTo, refusedText}
 use Rattle.listing.specs.Listing.{wordAt}
-use Rattle.listing.specs.Printed.{linePrinted}
 use Rattle.listing.proofs.Putting.{text-laid}
-use Rattle.comparing.specs.File.{headLength, fileMode, opensBy, fileOpening, fileCount, fileStream, mostBytes, overLimit, fileCauses, fileValues, asRead}
-use Rattle.comparing.specs.Differences.{entryAt, bothAt, differencesFrom, differences, Among, PartsAt, otherValues, leftOnly, rightOnly, Rising, swapped}
+use Rattle.comparing.specs.File.{headLength, fileMode, fileOpening, fileCount, fileStream, mostBytes, fileCauses, fileValues, asRead}
+use Rattle.comparing.specs.Differences.{differences, Among, PartsAt, Rising, swapped}
 use Rattle.comparing.specs.Text.{differText, sideText}
 use Rattle.comparing.specs.Compared.{nothingDiffers, linesText, differencesText, bothText, compareText}
 use Rattle.comparing.specs.Calls.{halfOf, begunBy, openAnswer, begunPair, begunBoth, judgeAnswer}
-use Rattle.comparing.specs.Printed.{stepsPrinted, printedBoth, printed}
-use Rattle.comparing.specs.declared.Side.{Side}
+use Rattle.comparing.specs.Printed.{printedBoth, printed}
 use Rattle.comparing.specs.declared.Side.the-variants.{Left, Right}
 use Rattle.comparing.specs.declared.Half.{Half}
 use Rattle.comparing.specs.declared.Difference.{Difference}
 use Rattle.comparing.proofs.Laws.{rising, none-of-itself, length-swapped, only-of-the-same, parting-listed, listed-parting, all-turned}
 use Rattle.comparing.proofs.Lines.{side-most}
-use Rattle.comparing.proofs.Walking.{Gives, Before, Stands, gives-long, walks}
+use Rattle.comparing.proofs.Walking.{Gives, Stands, gives-long, walks}
 
 -- ---- a file that is read
 

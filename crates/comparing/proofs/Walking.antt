@@ -9,7 +9,7 @@ use borrow.Author.Tests.{eq-eqb, ne-eqb, le-ltb, leb-true, leb-false}
 use lib.Dec.{leb}
 use lib.ListN.{length, drop, getD, length-drop}
 use lib.Seq.{length-sets}
-use Rattle.models.specs.Answers.{Said, answered, refused, SaidOn, answeredOn, refusedOn, judge}
+use Rattle.models.specs.Answers.{Said, answered, SaidOn, answeredOn, refusedOn, judge}
 use Rattle.models.specs.Limits.{mostValues}
 use Rattle.models.proofs.Judged.{not-answered-on, same-answer-on, accepted-on}
 use Rattle.stream.specs.Format.{bare}
@@ -22,10 +22,10 @@ use Rattle.reader.specs.Run.{Run, also, andThen, nexts}
 use Rattle.reader.specs.declared.position.Position.{Position}
 use Rattle.listing.proofs.Putting.{text-laid}
 use Rattle.comparing.specs.File.{fileStream}
-use Rattle.comparing.specs.Differences.{entryAt, sameEntry, bothAt, ifDiffers, differencesFrom}
+use Rattle.comparing.specs.Differences.{entryAt, sameEntry, bothAt, differencesFrom}
 use Rattle.comparing.specs.Text.{differenceText, differText, laid}
 use Rattle.comparing.specs.Compared.{linesText}
-use Rattle.comparing.specs.Calls.{behindValue, tookValue, turnOf, Told, further, finished, pairOf, indexOf, toldSame, toldDifference, toldBy, toldBoth, stepTold, StepLine, lineOf, lineIn, stepAnswer, stepMemory}
+use Rattle.comparing.specs.Calls.{behindValue, tookValue, turnOf, Told, further, finished, pairOf, indexOf, toldSame, toldDifference, toldBy, toldBoth, stepTold, lineOf, lineIn, stepAnswer, stepMemory}
 use Rattle.comparing.specs.Printed.{stepPrinted, stepsPrinted}
 use Rattle.comparing.specs.declared.Entry.{Entry}
 use Rattle.comparing.specs.declared.Entry.the-variants.{Value, Missing}

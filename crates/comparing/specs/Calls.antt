@@ -1,11 +1,11 @@
 -- What the calls answer and what they leave in the lent line, each map of answers with the law that it tells its results apart. Assumes nothing.
-use mathlib.Core.Path.{_≡_, refl, ap, ap₂}
+use mathlib.Core.Path.{_≡_, refl, ap}
 use mathlib.Core.Bool.{cond}
 use mathlib.Core.List.{List, [], _∷_}
 use Prim.Native.Nat.{ℕ, _+_, _-_, max}
 use lib.Dec.{eqb, ltb}
 use lib.ListN.{length}
-use Rattle.models.specs.Answers.{Said, answered, refused, SaidOn, answeredOn, refusedOn, Cause, _when_, judge, Injective, told-apart, keeping}
+use Rattle.models.specs.Answers.{Said, answered, refused, SaidOn, answeredOn, refusedOn, Cause, _when_, judge, Injective, told-apart}
 use Rattle.models.specs.Limits.{mostValues}
 use Rattle.models.specs.Refusals.{refusal-told, refusalOf, unsaid, faultOf}
 use Rattle.macaque_v.specs.declared.Opening.{Opening}
@@ -18,16 +18,11 @@ use Rattle.comparing.specs.declared.Side.{Side}
 use Rattle.comparing.specs.declared.Side.the-variants.{Left, Right}
 use Rattle.comparing.specs.declared.Entry.{Entry}
 use Rattle.comparing.specs.declared.Entry.the-variants.{Value, Missing}
-use Rattle.comparing.specs.declared.Difference.{Difference}
 use Rattle.comparing.specs.declared.Half.{Half}
 use Rattle.comparing.specs.declared.Pair.{Pair}
 use Rattle.comparing.specs.declared.Turn.{Turn}
-use Rattle.comparing.specs.declared.Opened.{Opened}
-use Rattle.comparing.specs.declared.Opened.the-variants as OfOpened
 use Rattle.comparing.specs.declared.Judged.{Judged}
 use Rattle.comparing.specs.declared.Judged.the-variants as OfJudged
-use Rattle.comparing.specs.declared.TurnAnswer.{TurnAnswer}
-use Rattle.comparing.specs.declared.TurnAnswer.the-variants as OfTurn
 use Rattle.comparing.specs.declared.StepAnswer.{StepAnswer}
 use Rattle.comparing.specs.declared.StepAnswer.the-variants as OfStep
 
@@ -56,10 +51,6 @@ begunBoth (answered l) (answered r) = answeredOn (begunPair l r)
 unfoldable pub judgeAnswer : List ℕ → List ℕ → SaidOn Side Pair
 judgeAnswer left right = begunBoth (openAnswer left) (openAnswer right)
 
-abbrev pub saysOpened : Opened → Said Half
-saysOpened (OfOpened.At h) = answered h
-saysOpened (OfOpened.Refused r) = refused (faultOf r)
-
 abbrev pub saysJudged : Judged → SaidOn Side Pair
 saysJudged (OfJudged.Begun p) = answeredOn p
 saysJudged (OfJudged.Refused side r) = refusedOn (faultOf r) side
@@ -87,10 +78,6 @@ tookValue h (refusedOn f p) = refused f
 -- its next value, as a reader answers it; nothing where no value is to come
 unfoldable pub turnOf : List ℕ → Half → Said Turn
 turnOf stream h = cond (eqb (h .rest) 0) (answered (record { entry = Missing; after = h })) (tookValue h (nextAnswer stream (h .position)))
-
-abbrev pub saysTurn : TurnAnswer → Said Turn
-saysTurn (OfTurn.Took t) = answered t
-saysTurn (OfTurn.Refused r) = refused (faultOf r)
 
 -- ---- step: one index of both
 

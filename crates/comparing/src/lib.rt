@@ -9,8 +9,9 @@ ghost use Rattle.models.specs.Refusals.{faultOf};
 ghost use Rattle.macaque_v.specs.Read.{valuesIn};
 ghost use Rattle.comparing.specs.File.{opensBy, fileStream, overLimit};
 ghost use Rattle.comparing.specs.Differences.{sameEntry};
-ghost use Rattle.comparing.specs.Text.{sideText, differText, laid};
-ghost use Rattle.comparing.specs.Calls.{begunBy, openAnswer, saysOpened, judgeAnswer, saysJudged, turnOf, saysTurn, pairOf, toldBy, lineOf, lineIn, stepAnswer, stepMemory, saysStep};
+ghost use Rattle.comparing.specs.Text.{sideText, laid};
+ghost use Rattle.comparing.specs.Calls.{begunBy, openAnswer, judgeAnswer, saysJudged, turnOf, pairOf, toldBy, lineOf, lineIn, stepAnswer, stepMemory, saysStep};
+ghost use Rattle.comparing.specs.inner.Answers.{saysOpened, saysTurn};
 
 mod line;
 

@@ -4,7 +4,8 @@ use mathlib.Core.Path.{_≡_, sym, ap, ap₂, _∙_}
 use mathlib.Core.List.{List}
 use Prim.Native.Nat.{ℕ}
 use Rattle.models.specs.Answers.{Said}
-use Rattle.comparing.specs.Calls.{openAnswer, begunBoth, judgeAnswer, saysOpened}
+use Rattle.comparing.specs.Calls.{openAnswer, begunBoth, judgeAnswer}
+use Rattle.comparing.specs.inner.Answers.{saysOpened}
 use Rattle.comparing.specs.declared.Half.{Half}
 use Rattle.comparing.specs.declared.Opened.{Opened}
 use Rattle.comparing.proofs.judge.Statement.{statement}

@@ -1,9 +1,9 @@
 -- `comparing::open_file` meets its contract: its causes, then the stream. Assumes nothing.
 use borrow.Author.Needs.{needs}
 use mathlib.Core.Path.{_≡_, sym, ap, ap₂, _∙_}
-use mathlib.Core.Bool.{Bool, true, false, _||_}
+use mathlib.Core.Bool.{true, false, _||_}
 use mathlib.Core.List.{List}
-use Prim.Native.Nat.{ℕ, _-_, _≤_}
+use Prim.Native.Nat.{ℕ, _-_}
 use native.Mathlib.Omega.{arith}
 use borrow.Author.Tests.{lt-ltb, le-ltb, ltb-false}
 use lib.Dec.{ltb}
@@ -14,8 +14,7 @@ use Rattle.models.specs.Limits.{mostValues}
 use Rattle.models.proofs.Tests.{neither}
 use Rattle.macaque_v.specs.Read.{valuesIn}
 use Rattle.macaque_v.specs.declared.Opening.{Opening}
-use Rattle.listing.specs.Listing.{wordAt}
-use Rattle.comparing.specs.File.{fileMode, opensBy, fileOpening, fileCount, fileStream, mostBytes, overLimit, fileValues}
+use Rattle.comparing.specs.File.{fileMode, opensBy, fileCount, fileStream, mostBytes, overLimit, fileValues}
 use Rattle.comparing.specs.Calls.{begunBy, openAnswer}
 use Rattle.comparing.proofs.open_file.Statement.{statement}
 use Rattle.comparing.proofs.open_file.Tie as tie

@@ -8,7 +8,6 @@ use borrow.Author.Tests.{le-ltb}
 use Rattle.models.specs.Answers.{Said, answered, refused, judge}
 use Rattle.models.specs.Calls.{saysValue}
 use Rattle.models.specs.Limits.{mostValues}
-use Rattle.models.specs.Refusals.{faultOf}
 use Rattle.models.specs.declared.Fault.{Fault}
 use Rattle.models.proofs.Judged.{not-answered, not-refused, same-fault}
 use Rattle.macaque_v.specs.Read.{valuesIn}
@@ -16,7 +15,6 @@ use Rattle.macaque_v.specs.declared.Opening.{Opening}
 use Rattle.reader.specs.Run.{lastOf, lastAnswer}
 use Rattle.reader.specs.declared.position.Position.{Position}
 use Rattle.comparing.specs.Calls.{begunBy, halfOf}
-use Rattle.comparing.specs.declared.Half.{Half}
 use Rattle.comparing.proofs.open_stream.Statement.{statement}
 use Rattle.comparing.proofs.open_stream.Tie as tie
 

@@ -1,15 +1,15 @@
 -- `comparing::step` meets its contract: its cause, then the turns of both sides. Assumes nothing.
 use borrow.Author.Needs.{needs}
-use mathlib.Core.Path.{_≡_, refl, sym, ap, ap₂, _∙_}
+use mathlib.Core.Path.{_≡_, sym, ap, ap₂, _∙_}
 use mathlib.Core.List.{List}
 use Prim.Native.Nat.{ℕ, _≤_}
 use native.Mathlib.Omega.{arith}
 use borrow.Author.Tests.{lt-ltb, le-ltb}
-use Rattle.models.specs.Answers.{Said, answered, refused, judge}
+use Rattle.models.specs.Answers.{Said, judge}
 use Rattle.models.specs.Limits.{mostValues}
-use Rattle.models.specs.Refusals.{faultOf}
 use Rattle.comparing.specs.File.{fileStream}
-use Rattle.comparing.specs.Calls.{turnOf, saysTurn, Told, toldBy, toldBoth, stepTold, lineOf, lineIn, stepAnswer, stepMemory}
+use Rattle.comparing.specs.Calls.{turnOf, Told, toldBoth, stepTold, lineOf, lineIn, stepAnswer, stepMemory}
+use Rattle.comparing.specs.inner.Answers.{saysTurn}
 use Rattle.comparing.specs.declared.Half.{Half}
 use Rattle.comparing.specs.declared.Pair.{Pair}
 use Rattle.comparing.specs.declared.Turn.{Turn}

@@ -8,10 +8,9 @@ use borrow.Author.Tests.{not-true, not-false}
 use lib.ListN.{length}
 use Rattle.models.specs.Answers.{answered}
 use Rattle.comparing.specs.Differences.{sameEntry}
-use Rattle.comparing.specs.Text.{differenceText, differText, laid}
+use Rattle.comparing.specs.Text.{differenceText, laid}
 use Rattle.comparing.specs.Calls.{on, last, toldBy, indexOf}
 use Rattle.comparing.specs.declared.Pair.{Pair}
-use Rattle.comparing.specs.declared.Difference.{Difference}
 use Rattle.comparing.proofs.told.Statement.{statement}
 use Rattle.comparing.proofs.told.Tie as tie
 

@@ -1,6 +1,6 @@
 -- `listing::line::refused` meets its contract: the word and three numbers, one behind the other. Assumes nothing.
 use borrow.Author.Needs.{needs}
-use mathlib.Core.Path.{ap, _∙_, subst}
+use mathlib.Core.Path.{subst}
 use mathlib.Core.List.{List, _++_}
 use Prim.Native.Nat.{ℕ}
 use Rattle.models.specs.declared.Fault.{Fault}

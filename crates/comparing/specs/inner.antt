@@ -1,0 +1,2 @@
+-- What only inner functions and proofs cite.
+pub mod Answers
