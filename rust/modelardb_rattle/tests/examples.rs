@@ -14,6 +14,8 @@ mod readings;
 mod store;
 #[path = "../examples/morning/upload.rs"]
 mod upload;
+#[path = "../examples/upload/written.rs"]
+mod upload_file;
 
 use modelardb_rattle::ErrorBound;
 use readings::Readings;
@@ -35,6 +37,23 @@ fn the_shipped_stream_is_the_mornings() {
         .expect("an allowed bound");
     let count = (writer.length() as u32).to_le_bytes();
     assert_eq!(STREAM, [&count[..], &bytes].concat());
+}
+
+#[test]
+fn the_shipped_uploads_are_the_nights() {
+    for (name, upload) in [
+        (
+            "night-box.txt",
+            &include_bytes!("../../../examples/night-box.upload")[..],
+        ),
+        (
+            "night-store.txt",
+            include_bytes!("../../../examples/night-store.upload"),
+        ),
+    ] {
+        let written = upload_file::written(&shipped(name).values, ErrorBound::Lossless);
+        assert_eq!(written.expect("a short night"), upload, "{name}");
+    }
 }
 
 #[test]
