@@ -404,6 +404,10 @@ modelardb_fault modelardb_segment_sum_over(uint32_t model, const int64_t *timest
  * A row may be used, else 2, if it has six words, words 0 to 2 have at most 32 bits each, word 3 is 0 or 1, the
  * place lies within the bytes, the length is at most 65,536 and is 0 exactly where the place is 0, and the window
  * is 255 and 0 or, at length 1 or more, has at most 31 zero bits in all. It holds no bound.
+ *
+ * To see where two streams part: modelardb_reader_last_value says of each whether it is right; then open a reader on
+ * each, and compare what the nexts put into out[0], as many of each as its count says. The program `compare` does
+ * that with two files.
  */
 
 /* reader: before the first value of a stream, which opens by a mode and a value as a writer does. Refusals: 3
