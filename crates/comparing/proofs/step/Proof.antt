@@ -5,7 +5,7 @@ use mathlib.Core.List.{List}
 use Prim.Native.Nat.{ℕ, _≤_}
 use native.Mathlib.Omega.{arith}
 use borrow.Author.Tests.{lt-ltb, le-ltb}
-use Rattle.models.specs.Answers.{Said, judge}
+use Rattle.models.specs.Answers.{Said, answered, judge}
 use Rattle.models.specs.Limits.{mostValues}
 use Rattle.comparing.specs.File.{fileStream}
 use Rattle.comparing.specs.Calls.{turnOf, Told, toldBoth, stepTold, lineOf, lineIn, stepAnswer, stepMemory}
@@ -49,30 +49,42 @@ returns-2 c =
     let e = told-is (a .left .now) (a .right .now) (a .at) few _ (ap (λ (x : Said Turn). toldBoth (a .at) x (turnOf (fileStream (a .right .now)) (a .at .right))) l) in
     (answers (a .left .now) (a .right .now) (a .at) few _ e, leaves (a .left .now) (a .right .now) (a .at) few (a .line .now) _ e)
 
+-- both sides have taken their turn
+module _ (u : tie.After-take-turn2) where
+  abbrev left : List ℕ
+  left = u .before .before .before .before .before .before .before .before .before .before .before .args .left .now
+
+  abbrev right : List ℕ
+  right = u .before .before .before .before .before .before .before .before .before .before .before .args .right .now
+
+  abbrev line : List ℕ
+  line = u .before .before .before .before .before .before .before .before .before .before .before .args .line .now
+
+  abbrev at : Pair
+  at = u .before .before .before .before .before .before .before .before .before .before .before .args .at
+
+  -- the step's answer and line, by what the right one's turn is
+  module _ (q : TurnAnswer) (k : u .take-turn2 .result ≡ q) where
+    abbrev told : Said Told
+    told = toldBoth at (answered (u .before .before .before .a .given .0 .0)) (saysTurn q)
+
+    says : (lineOf told ≡ stepAnswer left right at) × (lineIn line told ≡ stepMemory left right at line)
+    says =
+        let t = u .before .before .before .before .before in
+        let few : at .found ≤ mostValues = omega arith in
+        let l = by left _ (at .left) _ _ (t .before .stream-in .ensures) (t .take-turn .ensures) (u .before .before .before .a .given .1) in
+        let r = by right _ (at .right) _ _ (u .before .stream-in2 .ensures) (u .take-turn2 .ensures) k in
+        let e = told-is left right at few told (ap₂ (toldBoth at) l r) in
+        (answers left right at few told e, leaves left right at few line told e)
+
 returns-3 : tie.Need-returns-3
-returns-3 c =
-    let u = c .before .before .before in
-    let k = u .before .before in
-    let t = k .before .before .before in
-    let a = t .before .before .before .before .before .before .args in
-    let few : a .at .found ≤ mostValues = omega arith in
-    let l = by (a .left .now) _ (a .at .left) _ _ (t .before .stream-in .ensures) (t .take-turn .ensures) (k .before .a .given .1) in
-    let r = by (a .right .now) _ (a .at .right) _ _ (u .before .stream-in2 .ensures) (u .take-turn2 .ensures) (c .before .r2 .given .1) in
-    let e = told-is (a .left .now) (a .right .now) (a .at) few _ (ap₂ (toldBoth (a .at)) l r) in
-    (answers (a .left .now) (a .right .now) (a .at) few _ e, leaves (a .left .now) (a .right .now) (a .at) few (a .line .now) _ e)
+returns-3 c = says (c .before .before .before) _ (c .before .r2 .given .1)
 
 returns-4 : tie.Need-returns-4
 returns-4 c =
     let m = c .before .before in
-    let u = m .before .before .before in
-    let k = u .before .before in
-    let t = k .before .before .before in
-    let a = t .before .before .before .before .before .before .args in
-    let few : a .at .found ≤ mostValues = omega arith in
-    let l = by (a .left .now) _ (a .at .left) _ _ (t .before .stream-in .ensures) (t .take-turn .ensures) (k .before .a .given .1) in
-    let r = by (a .right .now) _ (a .at .right) _ _ (u .before .stream-in2 .ensures) (u .take-turn2 .ensures) (m .before .b .given .1) in
-    let e = told-is (a .left .now) (a .right .now) (a .at) few _ (ap₂ (toldBoth (a .at)) l r) in
-    (c .told .ensures .0 ∙ answers (a .left .now) (a .right .now) (a .at) few _ e, c .told .ensures .1 ∙ leaves (a .left .now) (a .right .now) (a .at) few (a .line .now) _ e)
+    let s = says (m .before .before .before) _ (m .before .b .given .1) in
+    (c .told .ensures .0 ∙ s .0, c .told .ensures .1 ∙ s .1)
 
 pub step-spec : {M : Type 1} → statement M
 step-spec =
