@@ -13,7 +13,7 @@ use lib.Dec.{eqb, ltb, leb}
 use lib.ListN.{length, length-take, length-drop}
 use lib.Seq.{take-all}
 use Rattle.bits.specs.Bits.{Below}
-use Rattle.models.specs.Answers.{Said, Done, answered, refused, SaidOn, answeredOn, refusedOn, judge, fault, NoneHolds}
+use Rattle.models.specs.Answers.{Said, Done, answered, refused, SaidOn, answeredOn, refusedOn, judge, fault, faultIn, NoneHolds}
 use Rattle.models.specs.declared.Fault.{Fault}
 use Rattle.models.specs.Limits.{mostValues}
 use Rattle.models.proofs.Judged.{not-answered, same-answer, answered-only}
@@ -30,16 +30,27 @@ use Rattle.listing.specs.Listing.{wordAt}
 use Rattle.listing.proofs.Putting.{text-laid}
 use Rattle.comparing.specs.File.{headLength, fileMode, fileOpening, fileCount, fileStream, mostBytes, fileCauses, fileValues, asRead}
 use Rattle.comparing.specs.Differences.{differences, Among, PartsAt, Rising, swapped}
-use Rattle.comparing.specs.Text.{differText, sideText}
+use Rattle.comparing.specs.Text.{differenceText, differText, sideText}
 use Rattle.comparing.specs.Compared.{nothingDiffers, linesText, differencesText, bothText, compareText}
 use Rattle.comparing.specs.Calls.{halfOf, begunBy, openAnswer, begunPair, begunBoth, judgeAnswer}
 use Rattle.comparing.specs.Printed.{printedBoth, printed}
 use Rattle.comparing.specs.declared.Side.the-variants.{Left, Right}
+use Rattle.comparing.specs.declared.Entry.the-variants.{Value, Missing}
 use Rattle.comparing.specs.declared.Half.{Half}
 use Rattle.comparing.specs.declared.Difference.{Difference}
 use Rattle.comparing.proofs.Laws.{rising, none-of-itself, length-swapped, only-of-the-same, parting-listed, listed-parting, all-turned}
 use Rattle.comparing.proofs.Lines.{side-most}
 use Rattle.comparing.proofs.Walking.{Gives, Stands, gives-long, walks}
+
+-- ---- the lines that the request itself shows: `3 3F800000 40000000`, `4 - 40000000`, `differ 2`, `left refused 7 2 40`
+
+pub the-lines-of-the-request :
+    (differenceText (record { index = 3; left = Value 1065353216; right = Value 1073741824 }) ≡ 51 ∷ 32 ∷ 51 ∷ 70 ∷ 56 ∷ 48 ∷ 48 ∷ 48 ∷ 48 ∷ 48 ∷ 32 ∷ 52 ∷ 48 ∷ 48 ∷ 48 ∷ 48 ∷ 48 ∷ 48 ∷ 48 ∷ 10 ∷ [])
+    × (differenceText (record { index = 4; left = Missing; right = Value 1073741824 }) ≡ 52 ∷ 32 ∷ 45 ∷ 32 ∷ 52 ∷ 48 ∷ 48 ∷ 48 ∷ 48 ∷ 48 ∷ 48 ∷ 48 ∷ 10 ∷ [])
+    × (differText 2 ≡ 100 ∷ 105 ∷ 102 ∷ 102 ∷ 101 ∷ 114 ∷ 32 ∷ 50 ∷ 10 ∷ [])
+    × (sideText Left (faultIn 7 2 40) ≡ 108 ∷ 101 ∷ 102 ∷ 116 ∷ 32 ∷ 114 ∷ 101 ∷ 102 ∷ 117 ∷ 115 ∷ 101 ∷ 100 ∷ 32 ∷ 55 ∷ 32 ∷ 50 ∷ 32 ∷ 52 ∷ 48 ∷ 10 ∷ [])
+unfolding differenceText differText sideText refusedText digitsOf placesUpTo digitText
+the-lines-of-the-request = (refl, refl, refl, refl)
 
 -- ---- a file that is read
 

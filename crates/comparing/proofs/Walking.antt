@@ -25,7 +25,7 @@ use Rattle.comparing.specs.File.{fileStream}
 use Rattle.comparing.specs.Differences.{entryAt, sameEntry, bothAt, differencesFrom}
 use Rattle.comparing.specs.Text.{differenceText, differText, laid}
 use Rattle.comparing.specs.Compared.{linesText}
-use Rattle.comparing.specs.Calls.{behindValue, tookValue, turnOf, Told, further, finished, pairOf, indexOf, toldSame, toldDifference, toldBy, toldBoth, stepTold, lineOf, lineIn, stepAnswer, stepMemory}
+use Rattle.comparing.specs.Calls.{behindValue, tookValue, turnOf, Told, further, finished, pairOf, indexOf, toldSame, toldDifference, toldBy, toldBoth, stepTold, stepSaid, stepLeft, stepAnswer, stepMemory}
 use Rattle.comparing.specs.Printed.{stepPrinted, stepsPrinted}
 use Rattle.comparing.specs.declared.Entry.{Entry}
 use Rattle.comparing.specs.declared.Entry.the-variants.{Value, Missing}
@@ -235,13 +235,13 @@ module _ (left right us vs : List ℕ) where
         → stepsPrinted (suc k) left right at line ≡ text ++ stepsPrinted k left right next (laid text line)
     unfolding stepsPrinted stepAnswer stepMemory
     goes-on k next h =
-        ap (λ (t : Said Told). stepPrinted (lineOf t) (lineIn line t) (λ z. stepsPrinted k left right z (lineIn line t))) h
+        ap (λ (t : Said Told). stepPrinted (stepSaid t) (stepLeft line t) (λ z. stepsPrinted k left right z (stepLeft line t))) h
         ∙ ap (λ (x : List ℕ). x ++ stepsPrinted k left right next (laid text line)) (text-laid text line e fits)
 
     ends : (k : ℕ) → stepTold left right at ≡ answered (finished text) → stepsPrinted (suc k) left right at line ≡ text
     unfolding stepsPrinted stepAnswer stepMemory
     ends k h =
-        ap (λ (t : Said Told). stepPrinted (lineOf t) (lineIn line t) (λ z. stepsPrinted k left right z (lineIn line t))) h
+        ap (λ (t : Said Told). stepPrinted (stepSaid t) (stepLeft line t) (λ z. stepsPrinted k left right z (stepLeft line t))) h
         ∙ text-laid text line e fits
 
   -- what is printed of n indices and the last line

@@ -122,21 +122,21 @@ pub data StepLine : Type 0 where
   on : ℕ → Pair → StepLine
   last : ℕ → StepLine
 
-abbrev pub lineOf : Said Told → Said StepLine
-lineOf (answered (further text next)) = answered (on (length text) next)
-lineOf (answered (finished text)) = answered (last (length text))
-lineOf (refused f) = refused f
+abbrev pub stepSaid : Said Told → Said StepLine
+stepSaid (answered (further text next)) = answered (on (length text) next)
+stepSaid (answered (finished text)) = answered (last (length text))
+stepSaid (refused f) = refused f
 
-abbrev pub lineIn : List ℕ → Said Told → List ℕ
-lineIn line (answered (further text next)) = laid text line
-lineIn line (answered (finished text)) = laid text line
-lineIn line (refused f) = line
+abbrev pub stepLeft : List ℕ → Said Told → List ℕ
+stepLeft line (answered (further text next)) = laid text line
+stepLeft line (answered (finished text)) = laid text line
+stepLeft line (refused f) = line
 
 unfoldable pub stepAnswer : List ℕ → List ℕ → Pair → Said StepLine
-stepAnswer left right at = lineOf (stepTold left right at)
+stepAnswer left right at = stepSaid (stepTold left right at)
 
 unfoldable pub stepMemory : List ℕ → List ℕ → Pair → List ℕ → List ℕ
-stepMemory left right at line = lineIn line (stepTold left right at)
+stepMemory left right at line = stepLeft line (stepTold left right at)
 
 abbrev pub saysStep : StepAnswer → Said StepLine
 saysStep (OfStep.On length next) = answered (on length next)

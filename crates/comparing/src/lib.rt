@@ -10,7 +10,7 @@ ghost use Rattle.macaque_v.specs.Read.{valuesIn};
 ghost use Rattle.comparing.specs.File.{opensBy, fileStream, overLimit};
 ghost use Rattle.comparing.specs.Differences.{sameEntry};
 ghost use Rattle.comparing.specs.Text.{sideText, laid};
-ghost use Rattle.comparing.specs.Calls.{begunBy, openAnswer, judgeAnswer, saysJudged, turnOf, pairOf, toldBy, lineOf, lineIn, stepAnswer, stepMemory, saysStep};
+ghost use Rattle.comparing.specs.Calls.{begunBy, openAnswer, judgeAnswer, saysJudged, turnOf, pairOf, toldBy, stepSaid, stepLeft, stepAnswer, stepMemory, saysStep};
 ghost use Rattle.comparing.specs.inner.Answers.{saysOpened, saysTurn};
 
 mod line;
@@ -235,8 +235,8 @@ fn take_turn(stream: &[u8], half: Half) -> TurnAnswer
 // The line of what both have at the index.
 fn told(at: Pair, a: Turn, b: Turn, line: &mut [u8; 80]) -> StepAnswer
     requires { ⌜ at .found ≤ mostValues ⌝ }
-    ensures answer { λ r. ⌜ saysStep r ≡ lineOf (answered (toldBy at a b)) ⌝ }
-    ensures text { λ r. ⌜ now (line .exit) ≡ lineIn (now (line .entry)) (answered (toldBy at a b)) ⌝ }
+    ensures answer { λ r. ⌜ saysStep r ≡ stepSaid (answered (toldBy at a b)) ⌝ }
+    ensures text { λ r. ⌜ now (line .exit) ≡ stepLeft (now (line .entry)) (answered (toldBy at a b)) ⌝ }
 {
     let left = a.entry;
     let right = b.entry;

@@ -8,7 +8,7 @@ use borrow.Author.Tests.{lt-ltb, le-ltb}
 use Rattle.models.specs.Answers.{Said, answered, judge}
 use Rattle.models.specs.Limits.{mostValues}
 use Rattle.comparing.specs.File.{fileStream}
-use Rattle.comparing.specs.Calls.{turnOf, Told, toldBoth, stepTold, lineOf, lineIn, stepAnswer, stepMemory}
+use Rattle.comparing.specs.Calls.{turnOf, Told, toldBoth, stepTold, stepSaid, stepLeft, stepAnswer, stepMemory}
 use Rattle.comparing.specs.inner.Answers.{saysTurn}
 use Rattle.comparing.specs.declared.Half.{Half}
 use Rattle.comparing.specs.declared.Pair.{Pair}
@@ -26,13 +26,13 @@ module _ (left right : List ℕ) (at : Pair) (few : at .found ≤ mostValues) wh
   unfolding stepTold judge
   told-is t e = rw (le-ltb mostValues (at .found) few) e
 
-  answers : (t : Said Told) → stepTold left right at ≡ t → lineOf t ≡ stepAnswer left right at
+  answers : (t : Said Told) → stepTold left right at ≡ t → stepSaid t ≡ stepAnswer left right at
   unfolding stepAnswer
-  answers t e = ap lineOf (sym e)
+  answers t e = ap stepSaid (sym e)
 
-  leaves : (line : List ℕ) (t : Said Told) → stepTold left right at ≡ t → lineIn line t ≡ stepMemory left right at line
+  leaves : (line : List ℕ) (t : Said Told) → stepTold left right at ≡ t → stepLeft line t ≡ stepMemory left right at line
   unfolding stepMemory
-  leaves line t e = ap (lineIn line) (sym e)
+  leaves line t e = ap (stepLeft line) (sym e)
 
 returns : tie.Need-returns
 unfolding stepAnswer stepMemory stepTold judge
@@ -68,7 +68,7 @@ module _ (u : tie.After-take-turn2) where
     abbrev told : Said Told
     told = toldBoth at (answered (u .before .before .before .a .given .0 .0)) (saysTurn q)
 
-    says : (lineOf told ≡ stepAnswer left right at) × (lineIn line told ≡ stepMemory left right at line)
+    says : (stepSaid told ≡ stepAnswer left right at) × (stepLeft line told ≡ stepMemory left right at line)
     says =
         let t = u .before .before .before .before .before in
         let few : at .found ≤ mostValues = omega arith in
