@@ -1,7 +1,7 @@
 //! Where two uploads part: the indices at which the values of two streams differ.
 //!
-//! This is what the program `compare` lists, over streams of any allowed size. The program's text is
-//! proved; here two proved readers are walked side by side by plain Rust.
+//! This is what the program `compare` lists, over streams of any allowed size. There the calls that make
+//! each line are proved; here two proved readers are walked side by side by plain Rust.
 
 use crate::macaque_v::{Reader, last_value_bits};
 use crate::{MacaqueV, Opening, Refusal};
@@ -9,7 +9,8 @@ use std::error::Error;
 use std::fmt::{self, Display, Formatter};
 use std::iter::FusedIterator;
 
-/// A stream with what has to be kept beside its bytes: how many values it holds, and how it opens.
+/// A stream with what has to be kept beside its bytes: how many values it holds, and how it opens. (Two that
+/// open on a NaN are not equal, as two NaNs are not.)
 #[derive(Clone, Copy, Debug, PartialEq)]
 pub struct Upload<'a> {
     /// The stream's bytes, no more and no fewer.
@@ -64,7 +65,8 @@ impl<'a> Upload<'a> {
         .of_allowed_count()
     }
 
-    /// The file of an upload: see [`Upload::of_file`].
+    /// The file of an upload: see [`Upload::of_file`]. With [`Opening::First`] the four bytes of the opening
+    /// value, which are not looked at, are 0.
     ///
     /// # Errors
     ///
@@ -250,7 +252,8 @@ impl Display for Side {
     }
 }
 
-/// Which of two streams is refused, and why.
+/// Which of two streams is refused, and why. Its text says the refusal in words, where `compare` prints
+/// three numbers.
 #[derive(Clone, Copy, Debug, PartialEq, Eq, Hash)]
 pub struct SideRefused {
     /// The side; the left one where both are refused.

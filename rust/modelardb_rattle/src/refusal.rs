@@ -38,8 +38,8 @@ pub enum Refusal {
     /// the buffer that holds those bytes.
     StateNotAllowed,
     /// 3: a number is above its limit, or the metadata size is 0. A stream, a model and a call take at
-    /// most 65,536 values, a segment 255 residuals and model 0 or 1, and the metadata size is at most
-    /// 65,535. Begin a new stream, model or segment with what does not fit in.
+    /// most 65,536 values, a segment 255 residuals and model 0 or 1, the metadata size is at most
+    /// 65,535, and the mode in a file of an upload 0 or 1. Begin a new stream, model or segment with what does not fit in.
     OverLimit,
     /// 4: the lent output does not hold the answer. Lend a longer one: for a stream, 45 bits a value
     /// are always enough.
@@ -132,7 +132,7 @@ impl From<u32> for Fault {
 const CAUSES: [&str; 12] = [
     "the error bound is not allowed: an absolute one must be finite and above 0, a relative one above 0 and at most 100",
     "the state is not allowed: its fields do not go together, or not with the buffer that it was lent",
-    "a number is above its limit, 65,536 values, 255 residuals or model 1, or the metadata size M is above 65,535 or below 1",
+    "a number is above its limit, 65,536 values, 255 residuals, model 1 or a file's mode 1, or the metadata size M is above 65,535 or below 1",
     "the lent output is too short for the answer",
     "the stream ends before its last value",
     "the stream keeps a window before any was set",

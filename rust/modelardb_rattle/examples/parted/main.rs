@@ -1,5 +1,5 @@
 //! Where two uploads part, in plain numbers: what `compare` lists by bits. Usage: `parted LEFT RIGHT`, two files
-//! as `compare` reads them, of streams of any allowed size.
+//! as `compare` reads them, of streams of any allowed size. It ends with 0 whether or not they differ.
 
 #[path = "../shared/told.rs"]
 mod told;
@@ -29,12 +29,15 @@ fn shown(left: &str, right: &str) -> Result<String, String> {
 }
 
 fn line(difference: Difference) -> String {
-    let told = |value: Option<f32>| value.map_or("nothing".to_string(), |value| value.to_string());
-    let (left, right) = (difference.left_value(), difference.right_value());
-    let index = difference.index;
-    format!(
-        "value {index}: left {}, right {}\n",
-        told(left),
-        told(right)
-    )
+    let (left, right) = (told(difference.left), told(difference.right));
+    format!("value {}: left {left}, right {right}\n", difference.index)
+}
+
+/// A value by its number, a NaN with its bits.
+fn told(bits: Option<u32>) -> String {
+    match bits.map(|bits| (bits, f32::from_bits(bits))) {
+        Some((bits, value)) if value.is_nan() => format!("NaN ({bits:08X})"),
+        Some((_, value)) => value.to_string(),
+        None => "nothing".to_string(),
+    }
 }

@@ -77,14 +77,15 @@ impl Program {
         let folder = self.folder.to_str().expect("a path of letters");
         let missing = format!("{folder}/missing");
         for (words, told) in [
-            (vec![], "0 were named"),
-            (vec![there], "1 were named"),
-            (vec![there, there, there], "3 were named"),
+            (vec![], "the number of names is 0"),
+            (vec![there], "the number of names is 1"),
+            (vec![there, there, there], "the number of names is 3"),
             (vec![&missing, there], "there is no file"),
             (vec![there, &missing], "there is no file"),
             (vec![folder, there], "is a folder"),
             (vec![there, folder], "is a folder"),
             (vec![there, ""], "a file's name is empty"),
+            (vec!["-", "-"], "standard input can be one"),
         ] {
             let output = ended(Command::new(SCRIPT).args(&words));
             let is_told = text(output.stderr).contains(told);
