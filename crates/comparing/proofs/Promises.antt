@@ -1,23 +1,24 @@
 -- The promises of the calls together: start reading here. What a caller prints by them (`printed`) is the comparison of document 02 (`compareText`), and
 -- what a reader would ask of that: which indices are listed, in which order, how many, and what two equal files and two swapped files give. Files
 -- are lists of bytes, as a program holds them. Assumes nothing.
-use mathlib.Core.Path.{_≡_, refl, sym, ap, ap₂, _∙_}
+use mathlib.Core.Path.{_≡_, refl, sym, ap, ap₂, _∙_, subst}
 use mathlib.Core.Logic.{_↔_}
 use mathlib.Core.Bool.{Bool, true, false, cond, _||_}
 use mathlib.Core.List.{List, [], _∷_, _++_}
 use Prim.Native.Nat.{ℕ, _+_, _^_, _≤_, _<_, max}
 use native.Mathlib.Nat.{zero-add}
 use native.Mathlib.Omega.{arith}
-use borrow.Author.Tests.{ltb-false, lt-ltb, le-ltb, leb-true, leb-false}
+use borrow.Author.Tests.{ltb-true, ltb-false, lt-ltb, le-ltb, leb-true, leb-false}
 use lib.Dec.{eqb, ltb, leb}
-use lib.ListN.{length, length-take, length-drop}
-use lib.Seq.{take-all}
-use Rattle.bits.specs.Bits.{Below}
+use lib.ListN.{length, getD, length-take, length-drop, List·getD-eq-default}
+use lib.Seq.{take-all, getD-take}
+use Rattle.bits.specs.Bits.{bitsOf, field, value, starts, Below}
 use Rattle.models.specs.Answers.{Said, Done, answered, refused, SaidOn, answeredOn, refusedOn, judge, fault, faultIn, NoneHolds}
 use Rattle.models.specs.declared.Fault.{Fault}
 use Rattle.models.specs.Limits.{mostValues}
 use Rattle.models.proofs.Judged.{not-answered, same-answer, answered-only}
 use Rattle.models.proofs.Tests.{neither, or-right}
+use Rattle.stream.specs.Read.{readRaw, readWord, readBody, readOne, readN, firstSet, leftover, ended}
 use Rattle.macaque_v.specs.State.{openingValue}
 use Rattle.macaque_v.specs.Read.{valuesIn}
 use Rattle.macaque_v.specs.declared.Opening.the-variants.{First, On}
@@ -29,7 +30,7 @@ use Rattle.listing.specs.Text.{digitText, digitsOf, placesUpTo, refusedText}
 use Rattle.listing.specs.Listing.{wordAt}
 use Rattle.listing.proofs.Putting.{text-laid}
 use Rattle.comparing.specs.File.{headLength, fileMode, fileOpening, fileCount, fileStream, mostBytes, fileCauses, fileValues, asRead}
-use Rattle.comparing.specs.Differences.{differences, Among, PartsAt, Rising, swapped}
+use Rattle.comparing.specs.Differences.{entryAt, differencesFrom, differences, Among, PartsAt, Rising, swapped}
 use Rattle.comparing.specs.Text.{differenceText, differText, sideText}
 use Rattle.comparing.specs.Compared.{nothingDiffers, linesText, differencesText, bothText, compareText}
 use Rattle.comparing.specs.Calls.{halfOf, begunBy, openAnswer, begunPair, begunBoth, judgeAnswer}
@@ -51,6 +52,14 @@ pub the-lines-of-the-request :
     × (sideText Left (faultIn 7 2 40) ≡ 108 ∷ 101 ∷ 102 ∷ 116 ∷ 32 ∷ 114 ∷ 101 ∷ 102 ∷ 117 ∷ 115 ∷ 101 ∷ 100 ∷ 32 ∷ 55 ∷ 32 ∷ 50 ∷ 32 ∷ 52 ∷ 48 ∷ 10 ∷ [])
 unfolding differenceText differText sideText refusedText digitsOf placesUpTo digitText
 the-lines-of-the-request = (refl, refl, refl, refl)
+
+-- ---- two files and all that is said of them (docs/FORMAT.md): case b of document 01, with its first value, beside case d, opened on 1.0
+
+pub a-whole-comparison :
+    compareText (0 ∷ 0 ∷ 0 ∷ 0 ∷ 0 ∷ 4 ∷ 0 ∷ 0 ∷ 0 ∷ 63 ∷ 128 ∷ 0 ∷ 0 ∷ 176 ∷ 145 ∷ 254 ∷ 255 ∷ []) (1 ∷ 0 ∷ 0 ∷ 128 ∷ 63 ∷ 2 ∷ 0 ∷ 0 ∷ 0 ∷ 160 ∷ [])
+    ≡ 50 ∷ 32 ∷ 52 ∷ 48 ∷ 48 ∷ 48 ∷ 48 ∷ 48 ∷ 48 ∷ 48 ∷ 32 ∷ 45 ∷ 10 ∷ 51 ∷ 32 ∷ 51 ∷ 70 ∷ 56 ∷ 48 ∷ 48 ∷ 48 ∷ 48 ∷ 48 ∷ 32 ∷ 45 ∷ 10 ∷ 100 ∷ 105 ∷ 102 ∷ 102 ∷ 101 ∷ 114 ∷ 32 ∷ 50 ∷ 10 ∷ []
+unfolding compareText fileValues judge bitsOf field value starts readRaw readWord readBody readOne readN firstSet leftover ended entryAt differencesFrom differenceText differText digitsOf placesUpTo digitText
+a-whole-comparison = refl
 
 -- ---- a file that is read
 
@@ -79,19 +88,23 @@ module _ (file : List ℕ) (bytes : Below 8 file) (us : List ℕ) (reads : fileV
       run (nexts (fileStream file) (fileCount file) (openedAt (fileOpening file))) refl
       (n-nexts-and-the-end (fileStream file) (fileOpening file) opening-small (fileCount file) few ∙ judged .1)
     where
-      ended : (r : Run) → nexts (fileStream file) (fileCount file) (openedAt (fileOpening file)) ≡ answeredOn r → (a : Said Done) → ifEnded (r .values) a ≡ answered us
+      right-end : (r : Run) → nexts (fileStream file) (fileCount file) (openedAt (fileOpening file)) ≡ answeredOn r → (a : Said Done) → ifEnded (r .values) a ≡ answered us
           → Gives (fileStream file) half us
-      ended r k (answered u) e =
+      right-end r k (answered u) e =
           record { after = r .after; reads = k ∙ ap (λ (vs : List ℕ). answeredOn (record { values = vs; after = r .after })) (same-answer e) }
-      ended r k (refused f) e = absurd (not-answered e)
+      right-end r k (refused f) e = absurd (not-answered e)
 
       run : (q : SaidOn Position Run) → nexts (fileStream file) (fileCount file) (openedAt (fileOpening file)) ≡ q → andEnd (fileStream file) q ≡ answered us
           → Gives (fileStream file) half us
-      run (answeredOn r) k e = ended r k (endAnswer (fileStream file) (r .after)) e
+      run (answeredOn r) k e = right-end r k (endAnswer (fileStream file) (r .after)) e
       run (refusedOn f p) k e = absurd (not-answered e)
 
+  -- it has as many values as its head says
+  pub as-many-as-the-count : length us ≡ fileCount file
+  as-many-as-the-count = gives-long (fileStream file) us (fileCount file) (openedAt (fileOpening file)) (gives .after) (gives .reads)
+
   long : length us ≤ mostValues
-  long = omega (arith, gives-long (fileStream file) us (fileCount file) (openedAt (fileOpening file)) (gives .after) (gives .reads), few)
+  long = omega (arith, as-many-as-the-count, few)
 
 -- ---- the whole text
 
@@ -169,7 +182,7 @@ module _ (us vs : List ℕ) where
   pub they-rise : Rising (differences us vs)
   they-rise = rising us vs (max (length us) (length vs)) 0
 
-  -- `differ 0` is said of the same values alone
+  -- no other values than the same have no difference
   pub none-only-of-the-same : length (differences us vs) ≡ 0 → us ≡ vs
   none-only-of-the-same = only-of-the-same us vs
 
@@ -201,3 +214,18 @@ read-enough file = go (leb (length file) (headLength + mostBytes + 1)) refl
 pub what-is-read-is-enough : (left right : List ℕ) → compareText (asRead left) (asRead right) ≡ compareText left right
 unfolding compareText
 what-is-read-is-enough left right = ap₂ bothText (read-enough left) (read-enough right)
+
+-- bytes, as many of them as are read
+below-read : (file : List ℕ) → Below 8 file → Below 8 (asRead file)
+below-read file bytes i = go (ltb i (headLength + mostBytes + 1)) refl
+  where
+    go : (t : Bool) → ltb i (headLength + mostBytes + 1) ≡ t → getD (asRead file) i 0 < 2 ^ 8
+    go true e = subst (λ (x : ℕ). x < 2 ^ 8) (sym (getD-take (headLength + mostBytes + 1) file i 0 (ltb-true i (headLength + mostBytes + 1) e))) (bytes i)
+    go false e =
+        let past : length (asRead file) ≤ i = omega (arith, length-take (headLength + mostBytes + 1) file, ltb-false i (headLength + mostBytes + 1) e) in
+        subst (λ (x : ℕ). x < 2 ^ 8) (sym (List·getD-eq-default (asRead file) 0 {n = i} past)) (omega arith)
+
+-- so what the program prints of what it reads is the comparison of the whole files
+pub the-program-prints-it : (left right line : List ℕ) → length line ≡ 80 → Below 8 left → Below 8 right → printed (asRead left) (asRead right) line ≡ compareText left right
+the-program-prints-it left right line e bl br =
+    the-comparison (asRead left) (asRead right) line e (below-read left bl) (below-read right br) ∙ what-is-read-is-enough left right
