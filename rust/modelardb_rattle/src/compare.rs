@@ -140,12 +140,35 @@ pub fn differences<'a>(
     left: Upload<'a>,
     right: Upload<'a>,
 ) -> Result<Differences<'a>, SideRefused> {
-    let of = |side: Side| move |refusal: Refusal| SideRefused { side, refusal };
-    Ok(Differences {
-        left: left.values().map_err(of(Side::Left))?,
-        right: right.values().map_err(of(Side::Right))?,
-        index: 0,
-    })
+    Differences::of(|| left.values(), || right.values())
+}
+
+/// [`differences`] of the uploads in two files ([`Upload::of_file`]), in the program's order: the left file, its head
+/// and its stream, is judged before the right one.
+///
+/// # Errors
+///
+/// Those of [`Upload::of_file`] and of [`differences`], the left file's first.
+///
+/// ```
+/// use modelardb_rattle::compare::differences_of_files;
+///
+/// let case_d = [1, 0x00, 0x00, 0x80, 0x3F, 2, 0, 0, 0, 0xA0]; // 1, 1, opened on 1
+/// let one = [0, 0, 0, 0, 0, 1, 0, 0, 0, 0x3F, 0x80, 0x00, 0x00]; // 1, stored in full
+/// let mut found = differences_of_files(&one, &case_d)?;
+/// assert_eq!(found.next().map(|d| d.to_string()).as_deref(), Some("1 - 3F800000"));
+/// assert_eq!(found.next(), None);
+///
+/// let no_head = differences_of_files(&case_d, &one[..8]).unwrap_err();
+/// assert!(no_head.to_string().starts_with("right refused 5 at value 0, bit 0"));
+/// # Ok::<(), modelardb_rattle::compare::SideRefused>(())
+/// ```
+pub fn differences_of_files<'a>(
+    left: &'a [u8],
+    right: &'a [u8],
+) -> Result<Differences<'a>, SideRefused> {
+    let values = |file| Upload::of_file(file).and_then(Upload::values);
+    Differences::of(|| values(left), || values(right))
 }
 
 /// An index at which two streams differ. Its text is the line that `compare` prints of it.
@@ -206,6 +229,21 @@ pub struct Differences<'a> {
     left: Values<'a>,
     right: Values<'a>,
     index: usize,
+}
+
+impl<'a> Differences<'a> {
+    /// The left side is judged first, and the right one only where it is right.
+    fn of(
+        left: impl FnOnce() -> Result<Values<'a>, Refusal>,
+        right: impl FnOnce() -> Result<Values<'a>, Refusal>,
+    ) -> Result<Self, SideRefused> {
+        let of = |side: Side| move |refusal: Refusal| SideRefused { side, refusal };
+        Ok(Self {
+            left: left().map_err(of(Side::Left))?,
+            right: right().map_err(of(Side::Right))?,
+            index: 0,
+        })
+    }
 }
 
 impl Iterator for Differences<'_> {

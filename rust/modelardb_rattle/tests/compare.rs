@@ -1,6 +1,8 @@
 //! The safe comparison over the compiled library: the files of uploads, and what the iterator says of itself.
 
-use modelardb_rattle::compare::{Difference, Side, SideRefused, Upload, differences};
+use modelardb_rattle::compare::{
+    Difference, Side, SideRefused, Upload, differences, differences_of_files,
+};
 use modelardb_rattle::{ErrorBound, MacaqueV, Opening, Refusal};
 
 /// A lossless stream, and its writer.
@@ -100,4 +102,9 @@ fn the_left_stream_is_refused_first() {
     assert_eq!(refused(too_many, no_window), (Side::Left, 3));
     assert_eq!(refused(good, no_window), (Side::Right, 6));
     assert_eq!(refused(good, too_many), (Side::Right, 3));
+
+    // Of files too: the left stream before the right head.
+    let file = no_window.to_file().expect("an allowed count");
+    let SideRefused { side, refusal } = differences_of_files(&file, &[2; 9]).expect_err("both");
+    assert_eq!((side, refusal.number()), (Side::Left, 6));
 }

@@ -4,7 +4,7 @@
 #[path = "../shared/told.rs"]
 mod told;
 
-use modelardb_rattle::compare::{Difference, Side, Upload, differences};
+use modelardb_rattle::compare::{Difference, differences_of_files};
 use std::process::ExitCode;
 
 fn main() -> ExitCode {
@@ -18,13 +18,11 @@ fn main() -> ExitCode {
 fn shown(left: &str, right: &str) -> Result<String, String> {
     let read = |file: &str| std::fs::read(file).map_err(|why| format!("{file}: {why}"));
     let files = [read(left)?, read(right)?];
-    let upload =
-        |side: Side, file| Upload::of_file(file).map_err(|refusal| format!("{side} {refusal}"));
-    let left = upload(Side::Left, &files[0])?;
-    let right = upload(Side::Right, &files[1])?;
-    let found = differences(left, right).map_err(|refused| refused.to_string())?;
+    let [left, right] = files.each_ref().map(Vec::as_slice);
+    let found = differences_of_files(left, right).map_err(|refused| refused.to_string())?;
+    let (_, values) = found.size_hint();
     let lines: Vec<String> = found.map(line).collect();
-    let (count, values) = (lines.len(), left.count.max(right.count));
+    let (count, values) = (lines.len(), values.unwrap_or_default());
     Ok(lines.concat() + &format!("{count} of {values} differ\n"))
 }
 

@@ -3,8 +3,8 @@
 use super::files::File;
 use super::program::shown;
 use crate::context::Context;
-use modelardb_rattle::compare::{Difference, Side, SideRefused, Upload, differences};
-use modelardb_rattle::{Fault, Opening, Refusal};
+use modelardb_rattle::compare::{Difference, SideRefused, Upload, differences_of_files};
+use modelardb_rattle::{Fault, Opening};
 use oracle::paper::comparing::{self, HEAD, MOST_BYTES};
 use oracle::paper::macaque_v::{self, read_all};
 use std::fmt::Write;
@@ -40,18 +40,8 @@ fn printed(left: &[u8], right: &[u8]) -> String {
     }
 }
 
-/// A file's head is judged with its stream: the right one is not looked at where the left stream is refused.
 fn compared(left: &[u8], right: &[u8]) -> Result<Vec<Difference>, SideRefused> {
-    let none = Upload {
-        bytes: &[],
-        count: 0,
-        opening: Opening::First,
-    };
-    let of = |side: Side| move |refusal: Refusal| SideRefused { side, refusal };
-    let left = Upload::of_file(left).map_err(of(Side::Left))?;
-    differences(left, none)?;
-    let right = Upload::of_file(right).map_err(of(Side::Right))?;
-    let found = differences(left, right)?;
+    let found = differences_of_files(left, right)?;
     let (least, most) = found.size_hint();
     let found: Vec<Difference> = found.collect();
     assert!(
