@@ -5,11 +5,11 @@ use mathlib.Core.List.{List, [], _∷_, _++_, append-assoc}
 use Prim.Native.Nat.{ℕ, zero, suc, _+_, _-_, _≤_, _<_, max}
 use native.Mathlib.Nat.{add-zero}
 use native.Mathlib.Omega.{arith}
-use borrow.Author.Tests.{eq-eqb, ne-eqb, le-ltb, leb-true, leb-false}
-use lib.Dec.{leb}
+use borrow.Author.Tests.{eq-eqb, ne-eqb, le-ltb, leb-true, leb-false, not-false}
+use lib.Dec.{eqb, leb}
 use lib.ListN.{length, drop, getD, length-drop}
 use lib.Seq.{length-sets}
-use Rattle.models.specs.Answers.{Said, answered, SaidOn, answeredOn, refusedOn, judge}
+use Rattle.models.specs.Answers.{Said, answered, SaidOn, answeredOn, refusedOn, judge, NoneHolds}
 use Rattle.models.specs.Limits.{mostValues}
 use Rattle.models.proofs.Judged.{not-answered-on, same-answer-on, accepted-on}
 use Rattle.stream.specs.Format.{bare}
@@ -17,7 +17,7 @@ use Rattle.stream.specs.Read as stream
 use Rattle.stream.specs.Read.{stepAt}
 use Rattle.macaque_v.specs.State.{modeOf}
 use Rattle.macaque_v.specs.ReadRun.{stateAt, ahead, movedBy}
-use Rattle.reader.specs.Calls.{Taken, nextCauses, handed, nextRead, nextAnswer}
+use Rattle.reader.specs.Calls.{mayUse, Taken, nextCauses, handed, nextRead, nextAnswer}
 use Rattle.reader.specs.Run.{Run, also, andThen, nexts}
 use Rattle.reader.specs.declared.position.Position.{Position}
 use Rattle.listing.proofs.Putting.{text-laid}
@@ -25,7 +25,7 @@ use Rattle.comparing.specs.File.{fileStream}
 use Rattle.comparing.specs.Differences.{entryAt, sameEntry, bothAt, differencesFrom}
 use Rattle.comparing.specs.Text.{differenceText, differText, laid}
 use Rattle.comparing.specs.Compared.{linesText}
-use Rattle.comparing.specs.Calls.{behindValue, tookValue, turnOf, Told, further, finished, pairOf, indexOf, toldSame, toldDifference, toldBy, toldBoth, stepTold, stepSaid, stepLeft, stepAnswer, stepMemory}
+use Rattle.comparing.specs.Calls.{behindValue, tookValue, turnOf, Told, further, finished, pairOf, indexOf, toldSame, toldDifference, toldBy, toldBoth, mayGo, isFull, stepTold, stepSaid, stepLeft, stepAnswer, stepMemory}
 use Rattle.comparing.specs.Printed.{stepPrinted, stepsPrinted}
 use Rattle.comparing.specs.declared.Entry.{Entry}
 use Rattle.comparing.specs.declared.Entry.the-variants.{Value, Missing}
@@ -140,6 +140,11 @@ module _ (bytes : List ℕ) where
       go (stream.got v win used) e = ap (λ (x : Taken). x .after .at .count) (sym (same-answer-on e))
       go (stream.halt n) e = absurd (not-answered-on e)
 
+  -- no cause of a next that is answered holds
+  none-refuse : (p : Position) (t : Taken) → nextAnswer bytes p ≡ answeredOn t → NoneHolds (nextCauses (length bytes) (p .at))
+  unfolding nextAnswer
+  none-refuse p t h = accepted-on p (nextCauses (length bytes) (p .at)) (nextRead bytes p) t h .0
+
   -- what a stream has at its front, and what it gives behind that
   record Turns (h : Half) (us : List ℕ) : Type 0 where
     next : Half
@@ -148,31 +153,40 @@ module _ (bytes : List ℕ) where
     most : next .position .at .count ≤ h .position .at .count + 1
     ended : length us ≡ 0 → next .position .at .count ≡ h .position .at .count
     counted : 0 < length us → next .position .at .count ≡ h .position .at .count + 1
+    goes : mayGo (length bytes) h ≡ true
+    room : isFull h ≡ false
 
   turns : (h : Half) (us : List ℕ) → Gives bytes h us → Turns h us
   unfolding turnOf
   turns h [] g =
+      let none : eqb (h .rest) 0 ≡ true = eq-eqb (h .rest) 0 (none-left (h .rest) (h .position) (g .after) (g .reads)) in
       record {
         next = h;
-        takes = rw (eq-eqb (h .rest) 0 (none-left (h .rest) (h .position) (g .after) (g .reads)));
+        takes = rw none;
         gives = g;
         most = omega arith;
         ended = λ e. refl;
         counted = λ e. absurd (omega arith);
+        goes = rw none;
+        room = rw none;
       }
   turns h (u ∷ us) g =
       let m = one-left (h .rest) (h .position) (g .after) u us (g .reads) in
       let less : h .rest - 1 ≡ m .less = omega (arith, m .is) in
       let on = counted-on (h .position) (m .taken) (m .answers) in
+      let some : eqb (h .rest) 0 ≡ false = ne-eqb (h .rest) 0 (λ e. omega (arith, m .is)) in
+      let allowed = none-refuse (h .position) (m .taken) (m .answers) in
       record {
         next = behindValue h (m .taken .after);
         takes =
-            rw (ne-eqb (h .rest) 0 (λ e. omega (arith, m .is)))
+            rw some
             (ap (tookValue h) (m .answers) ∙ ap (λ (v : ℕ). answered (record { entry = Value v; after = behindValue h (m .taken .after) })) (m .value));
         gives = record { after = g .after; reads = ap (λ (k : ℕ). nexts bytes k (m .taken .after)) less ∙ m .later };
         most = omega (arith, on);
         ended = λ e. absurd (omega arith);
         counted = λ e. on;
+        goes = rw some (not-false (mayUse (length bytes) (h .position .at)) (allowed .0));
+        room = rw some (allowed .1 .0);
       }
 
 -- ---- both, from index i on
@@ -213,7 +227,7 @@ module _ (left right us vs : List ℕ) where
       record {
         a = record { entry = frontOf (drop i us); after = l .next };
         b = record { entry = frontOf (drop i vs); after = r .next };
-        tells = rw (le-ltb mostValues (at .found) few) (ap₂ (toldBoth at) (l .takes) (r .takes));
+        tells = rw (le-ltb mostValues (at .found) few, l .goes, r .goes, l .room, r .room) (ap₂ (toldBoth at) (l .takes) (r .takes));
         onLeft = front-drop us i;
         onRight = front-drop vs i;
         stands = λ found. record { atLeft = on (fileStream left) us (at .left) i (s .atLeft) l; atRight = on (fileStream right) vs (at .right) i (s .atRight) r };

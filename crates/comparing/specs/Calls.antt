@@ -1,6 +1,6 @@
 -- What the calls answer and what they leave in the lent line, each map of answers with the law that it tells its results apart. Assumes nothing.
 use mathlib.Core.Path.{_≡_, refl, ap}
-use mathlib.Core.Bool.{cond}
+use mathlib.Core.Bool.{Bool, cond, not, _&&_, _||_}
 use mathlib.Core.List.{List, [], _∷_}
 use Prim.Native.Nat.{ℕ, _+_, _-_, max}
 use lib.Dec.{eqb, ltb}
@@ -9,7 +9,7 @@ use Rattle.models.specs.Answers.{Said, answered, refused, SaidOn, answeredOn, r
 use Rattle.models.specs.Limits.{mostValues}
 use Rattle.models.specs.Refusals.{refusal-told, refusalOf, unsaid, faultOf}
 use Rattle.macaque_v.specs.declared.Opening.{Opening}
-use Rattle.reader.specs.Calls.{openedAt, Taken, nextAnswer}
+use Rattle.reader.specs.Calls.{openedAt, mayUse, Taken, nextAnswer}
 use Rattle.reader.specs.declared.position.Position.{Position}
 use Rattle.comparing.specs.File.{fileOpening, fileCount, fileStream, fileValues}
 use Rattle.comparing.specs.Differences.{sameEntry}
@@ -110,12 +110,29 @@ toldBoth at (refused f) right = refused f
 toldBoth at (answered a) (refused f) = refused f
 toldBoth at (answered a) (answered b) = answered (toldBy at a b)
 
--- no two streams have more differences than a stream may have values
-abbrev pub stepCauses : Pair → List Cause
-stepCauses at = 2 when ltb mostValues (at .found) ∷ []
+-- a side may be walked on: no value is to come, or a reader may stand there, in a stream of so many bytes
+abbrev pub mayGo : ℕ → Half → Bool
+mayGo bytes h = eqb (h .rest) 0 || mayUse bytes (h .position .at)
+
+-- a value is to come behind 65,536
+abbrev pub isFull : Half → Bool
+isFull h = not (eqb (h .rest) 0) && eqb (h .position .at .count) mostValues
+
+-- A state that no two streams lead to, also by more differences than a stream may have values, is 2; "a next at 65,536 is 3". Only then is anything
+-- read, the left side first.
+abbrev pub stepCauses : ℕ → ℕ → Pair → List Cause
+stepCauses left right at =
+    2 when (ltb mostValues (at .found) || not (mayGo left (at .left)) || not (mayGo right (at .right)))
+    ∷ 3 when (isFull (at .left) || isFull (at .right))
+    ∷ []
+
+-- what both streams have at the index
+abbrev pub bothTurns : List ℕ → List ℕ → Pair → Said Told
+bothTurns left right at = toldBoth at (turnOf left (at .left)) (turnOf right (at .right))
 
 unfoldable pub stepTold : List ℕ → List ℕ → Pair → Said Told
-stepTold left right at = judge refused (stepCauses at) (toldBoth at (turnOf (fileStream left) (at .left)) (turnOf (fileStream right) (at .right)))
+stepTold left right at =
+    judge refused (stepCauses (length (fileStream left)) (length (fileStream right)) at) (bothTurns (fileStream left) (fileStream right) at)
 
 -- the length of the line
 pub data StepLine : Type 0 where

@@ -3,14 +3,15 @@
 ghost use mathlib.Core.Path.{_≡_};
 ghost use Prim.Native.Nat.{_≤_, max};
 ghost use lib.ListN.{length};
-ghost use Rattle.models.specs.Answers.{answered};
+ghost use Rattle.models.specs.Answers.{answered, verdict};
+ghost use Rattle.models.specs.Calls.{saysVerdict};
 ghost use Rattle.models.specs.Limits.{mostValues};
 ghost use Rattle.models.specs.Refusals.{faultOf};
 ghost use Rattle.macaque_v.specs.Read.{valuesIn};
 ghost use Rattle.comparing.specs.File.{opensBy, fileStream, overLimit};
 ghost use Rattle.comparing.specs.Differences.{sameEntry};
 ghost use Rattle.comparing.specs.Text.{sideText, laid};
-ghost use Rattle.comparing.specs.Calls.{begunBy, openAnswer, judgeAnswer, saysJudged, turnOf, pairOf, toldBy, stepSaid, stepLeft, stepAnswer, stepMemory, saysStep};
+ghost use Rattle.comparing.specs.Calls.{begunBy, openAnswer, judgeAnswer, saysJudged, turnOf, pairOf, toldBy, mayGo, isFull, stepCauses, bothTurns, stepSaid, stepLeft, stepAnswer, stepMemory, saysStep};
 ghost use Rattle.comparing.specs.inner.Answers.{saysOpened, saysTurn};
 
 mod line;
@@ -19,6 +20,7 @@ use macaque_v::MacaqueV;
 use macaque_v::Opening;
 use models::Refusal;
 use models::ValueAnswer;
+use models::Verdict;
 use reader::position;
 use reader::position::Position;
 
@@ -103,15 +105,11 @@ pub fn step(left: &[u8], right: &[u8], at: Pair, line: &mut [u8; 80]) -> StepAns
     ensures answer { λ r. ⌜ saysStep r ≡ stepAnswer (now (left .entry)) (now (right .entry)) at ⌝ }
     ensures text { λ r. ⌜ now (line .exit) ≡ stepMemory (now (left .entry)) (now (right .entry)) at (now (line .entry)) ⌝ }
 {
-    if MacaqueV::MOST_VALUES < at.found {
-        return StepAnswer::Refused(Refusal::StateNotAllowed);
-    }
-    match take_turn(stream_in(left), at.left) {
-        TurnAnswer::Refused(r) => StepAnswer::Refused(r),
-        TurnAnswer::Took(a) => match take_turn(stream_in(right), at.right) {
-            TurnAnswer::Refused(r) => StepAnswer::Refused(r),
-            TurnAnswer::Took(b) => told(at, a, b, line),
-        },
+    let l = stream_in(left);
+    let r = stream_in(right);
+    match judge_step(l.len(), r.len(), at) {
+        Verdict::Refused(cause) => StepAnswer::Refused(cause),
+        Verdict::Passed => take_both(l, r, at, line),
     }
 }
 
@@ -194,7 +192,49 @@ fn stream_in<'a>(file: &'a [u8]) -> &'a [u8]
     &file[HEAD..]
 }
 
+// ---- the causes for which a step is refused
+
+fn judge_step(left: usize, right: usize, at: Pair) -> Verdict
+    ensures { λ r. ⌜ saysVerdict r ≡ verdict (stepCauses left right at) ⌝ }
+{
+    let l = at.left;
+    let r = at.right;
+    let wrong = (MacaqueV::MOST_VALUES < at.found) | !may_go(left, l) | !may_go(right, r);
+    let full = models::when(Refusal::OverLimit, is_full(l) | is_full(r), Verdict::Passed);
+    models::when(Refusal::StateNotAllowed, wrong, full)
+}
+
+// Whether a side may be walked on, in a stream of so many bytes.
+fn may_go(bytes: usize, half: Half) -> bool
+    ensures { λ r. ⌜ r ≡ mayGo bytes half ⌝ }
+{
+    let position = half.position;
+    (half.rest == 0) | position::may_use(bytes, position.at)
+}
+
+// Whether a value is to come behind as many as a stream may have.
+fn is_full(half: Half) -> bool
+    ensures { λ r. ⌜ r ≡ isFull half ⌝ }
+{
+    !(half.rest == 0) & (half.position.at.count == MacaqueV::MOST_VALUES)
+}
+
 // ---- one index
+
+// What both streams have there.
+fn take_both(left: &[u8], right: &[u8], at: Pair, line: &mut [u8; 80]) -> StepAnswer
+    requires { ⌜ at .found ≤ mostValues ⌝ }
+    ensures answer { λ r. ⌜ saysStep r ≡ stepSaid (bothTurns (now (left .entry)) (now (right .entry)) at) ⌝ }
+    ensures text { λ r. ⌜ now (line .exit) ≡ stepLeft (now (line .entry)) (bothTurns (now (left .entry)) (now (right .entry)) at) ⌝ }
+{
+    match take_turn(left, at.left) {
+        TurnAnswer::Refused(r) => StepAnswer::Refused(r),
+        TurnAnswer::Took(a) => match take_turn(right, at.right) {
+            TurnAnswer::Refused(r) => StepAnswer::Refused(r),
+            TurnAnswer::Took(b) => told(at, a, b, line),
+        },
+    }
+}
 
 // What one stream has at the index, and where it stands behind that.
 pub struct Turn {

@@ -80,7 +80,7 @@ fn judge_next(bytes: usize, at: Cursor) -> Verdict
 }
 
 // Whether a reader may be there: a writer in that place, with that length and window, may be used.
-fn may_use(bytes: usize, at: Cursor) -> bool
+pub fn may_use(bytes: usize, at: Cursor) -> bool
     ensures { λ r. ⌜ r ≡ mayUse bytes at ⌝ }
 {
     write::keeps_rule(

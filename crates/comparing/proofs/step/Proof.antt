@@ -1,105 +1,82 @@
--- `comparing::step` meets its contract: its cause, then the turns of both sides. Assumes nothing.
+-- `comparing::step` meets its contract: its causes, then the turns of both sides. Assumes nothing.
 use borrow.Author.Needs.{needs}
-use mathlib.Core.Path.{_≡_, sym, ap, ap₂, _∙_}
+use mathlib.Core.Path.{_≡_, ap, ap₂, _∙_}
+use mathlib.Core.Bool.{not, _||_}
 use mathlib.Core.List.{List}
-use Prim.Native.Nat.{ℕ, _≤_}
-use native.Mathlib.Omega.{arith}
-use borrow.Author.Tests.{lt-ltb, le-ltb}
-use Rattle.models.specs.Answers.{Said, answered, judge}
+use Prim.Native.Nat.{ℕ}
+use borrow.Author.Tests.{ltb-false}
+use lib.Dec.{ltb}
+use lib.ListN.{length}
+use Rattle.models.specs.Answers.{Said, refused, Cause, verdict}
+use Rattle.models.specs.Calls.{saysVerdict}
 use Rattle.models.specs.Limits.{mostValues}
+use Rattle.models.proofs.Judged.{none-holds, when-passed, when-refused}
+use Rattle.models.proofs.Tests.{neither}
 use Rattle.comparing.specs.File.{fileStream}
-use Rattle.comparing.specs.Calls.{turnOf, Told, toldBoth, stepTold, stepSaid, stepLeft, stepAnswer, stepMemory}
-use Rattle.comparing.specs.inner.Answers.{saysTurn}
-use Rattle.comparing.specs.declared.Half.{Half}
+use Rattle.comparing.specs.Calls.{Told, mayGo, stepCauses, bothTurns, stepTold, stepSaid, stepLeft, stepAnswer, stepMemory}
 use Rattle.comparing.specs.declared.Pair.{Pair}
-use Rattle.comparing.specs.declared.Turn.{Turn}
-use Rattle.comparing.specs.declared.TurnAnswer.{TurnAnswer}
 use Rattle.comparing.proofs.step.Statement.{statement}
 use Rattle.comparing.proofs.step.Tie as tie
 
--- what a turn says of a stream in a file
-by : (file stream : List ℕ) (h : Half) (r q : TurnAnswer) → stream ≡ fileStream file → saysTurn r ≡ turnOf stream h → r ≡ q → turnOf (fileStream file) h ≡ saysTurn q
-by file stream h r q is e k = ap (λ (s : List ℕ). turnOf s h) (sym is) ∙ sym e ∙ ap saysTurn k
-
-module _ (left right : List ℕ) (at : Pair) (few : at .found ≤ mostValues) where
-  told-is : (t : Said Told) → toldBoth at (turnOf (fileStream left) (at .left)) (turnOf (fileStream right) (at .right)) ≡ t → stepTold left right at ≡ t
-  unfolding stepTold judge
-  told-is t e = rw (le-ltb mostValues (at .found) few) e
-
-  answers : (t : Said Told) → stepTold left right at ≡ t → stepSaid t ≡ stepAnswer left right at
-  unfolding stepAnswer
-  answers t e = ap stepSaid (sym e)
-
-  leaves : (line : List ℕ) (t : Said Told) → stepTold left right at ≡ t → stepLeft line t ≡ stepMemory left right at line
-  unfolding stepMemory
-  leaves line t e = ap (stepLeft line) (sym e)
-
-returns : tie.Need-returns
-unfolding stepAnswer stepMemory stepTold judge
-returns c =
-    let e = lt-ltb mostValues (c .before .before .before .before .args .at .found) (omega arith) in
-    (rw e, rw e)
-
-returns-2 : tie.Need-returns-2
-returns-2 c =
-    let t = c .before .before .before in
-    let a = t .before .before .before .before .before .before .args in
-    let few : a .at .found ≤ mostValues = omega arith in
-    let l = by (a .left .now) _ (a .at .left) _ _ (t .before .stream-in .ensures) (t .take-turn .ensures) (c .before .r .given .1) in
-    let e = told-is (a .left .now) (a .right .now) (a .at) few _ (ap (λ (x : Said Turn). toldBoth (a .at) x (turnOf (fileStream (a .right .now)) (a .at .right))) l) in
-    (answers (a .left .now) (a .right .now) (a .at) few _ e, leaves (a .left .now) (a .right .now) (a .at) few (a .line .now) _ e)
-
--- both sides have taken their turn
-module _ (u : tie.After-take-turn2) where
+module _ (c : tie.After-judge-step) where
   abbrev left : List ℕ
-  left = u .before .before .before .before .before .before .before .before .before .before .before .args .left .now
+  left = c .before .before .before .before .before .args .left .now
 
   abbrev right : List ℕ
-  right = u .before .before .before .before .before .before .before .before .before .before .before .args .right .now
+  right = c .before .before .before .before .before .args .right .now
 
   abbrev line : List ℕ
-  line = u .before .before .before .before .before .before .before .before .before .before .before .args .line .now
+  line = c .before .before .before .before .before .args .line .now
 
   abbrev at : Pair
-  at = u .before .before .before .before .before .before .before .before .before .before .before .args .at
+  at = c .before .before .before .before .before .args .at
 
-  -- the step's answer and line, by what the right one's turn is
-  module _ (q : TurnAnswer) (k : u .take-turn2 .result ≡ q) where
-    abbrev told : Said Told
-    told = toldBoth at (answered (u .before .before .before .a .given .0 .0)) (saysTurn q)
+  abbrev causes : List Cause
+  causes = stepCauses (length (fileStream left)) (length (fileStream right)) at
 
-    says : (stepSaid told ≡ stepAnswer left right at) × (stepLeft line told ≡ stepMemory left right at line)
-    says =
-        let t = u .before .before .before .before .before in
-        let few : at .found ≤ mostValues = omega arith in
-        let l = by left _ (at .left) _ _ (t .before .stream-in .ensures) (t .take-turn .ensures) (u .before .before .before .a .given .1) in
-        let r = by right _ (at .right) _ _ (u .before .stream-in2 .ensures) (u .take-turn2 .ensures) k in
-        let e = told-is left right at few told (ap₂ (toldBoth at) l r) in
-        (answers left right at few told e, leaves left right at few line told e)
+  abbrev turns : Said Told
+  turns = bothTurns (fileStream left) (fileStream right) at
 
-returns-3 : tie.Need-returns-3
-returns-3 c = says (c .before .before .before) _ (c .before .r2 .given .1)
+  says : saysVerdict (c .judge-step .result) ≡ verdict causes
+  says =
+      c .judge-step .ensures
+      ∙ ap₂ (λ (l r : List ℕ). verdict (stepCauses (length l) (length r) at)) (c .before .before .stream-in .ensures) (c .before .stream-in2 .ensures)
 
-returns-4 : tie.Need-returns-4
-returns-4 c =
-    let m = c .before .before in
-    let s = says (m .before .before .before) _ (m .before .b .given .1) in
-    (c .told .ensures .0 ∙ s .0, c .told .ensures .1 ∙ s .1)
+  answers : (t : Said Told) → t ≡ stepTold left right at → (stepSaid t ≡ stepAnswer left right at) × (stepLeft line t ≡ stepMemory left right at line)
+  unfolding stepAnswer stepMemory
+  answers t e = (ap stepSaid e, ap (stepLeft line) e)
+
+take-both-requires : tie.Need-take-both-requires
+take-both-requires c κs =
+    let j = c .before .before .before in
+    let fine = none-holds (causes j) (j .judge-step .result) (says j) (c .before .enum-told .given .1) .0 in
+    let l = not (mayGo (length (fileStream (left j))) (at j .left)) in
+    let r = not (mayGo (length (fileStream (right j))) (at j .right)) in
+    ltb-false mostValues (at j .found) (neither (ltb mostValues (at j .found)) l (neither (ltb mostValues (at j .found) || l) r fine .0) .0)
+
+returns : tie.Need-returns
+unfolding stepTold
+returns c =
+    let j = c .before .before .before in
+    answers j _ (when-refused (causes j) (j .judge-step .result) (says j) refused (turns j) (c .before .cause .given .0 .0) (c .before .cause .given .1))
+
+returns-2 : tie.Need-returns-2
+unfolding stepTold
+returns-2 c =
+    let j = c .before .before .before .before in
+    let same : bothTurns _ _ (at j) ≡ turns j = ap₂ (λ (l r : List ℕ). bothTurns l r (at j)) (j .before .before .stream-in .ensures) (j .before .stream-in2 .ensures) in
+    let s = answers j (turns j) (when-passed (causes j) (j .judge-step .result) (says j) refused (turns j) (c .before .before .enum-told .given .1)) in
+    (c .take-both .ensures .0 ∙ ap stepSaid same ∙ s .0, c .take-both .ensures .1 ∙ ap (stepLeft (line j)) same ∙ s .1)
 
 pub step-spec : {M : Type 1} → statement M
 step-spec =
     tie.close
     (tie.spec
+    (λ c κs. search needs)
+    (λ c κs. search needs)
+    (λ c κs. search needs)
+    (λ c. search needs)
+    (λ c. search needs)
+    take-both-requires
     returns
-    (λ c κs. search needs)
-    (λ c κs. search needs)
-    (λ c. search needs)
-    (λ c. search needs)
-    (λ c κs. search needs)
-    (λ c κs. search needs)
-    (λ c. search needs)
-    (λ c. search needs)
-    (λ c κs. search needs)
-    returns-2
-    returns-3
-    returns-4)
+    returns-2)
