@@ -118,8 +118,8 @@ mayGo bytes h = eqb (h .rest) 0 || mayUse bytes (h .position .at)
 abbrev pub isFull : Half → Bool
 isFull h = not (eqb (h .rest) 0) && eqb (h .position .at .count) mostValues
 
--- A state that no two streams lead to, also by more differences than a stream may have values, is 2; "a next at 65,536 is 3". Only then is anything
--- read, the left side first.
+-- More differences than a stream may have values, or a side that may not be walked on, is 2; "a next at 65,536 is 3". Only then is anything read, the
+-- left side first.
 abbrev pub stepCauses : ℕ → ℕ → Pair → List Cause
 stepCauses left right at =
     2 when (ltb mostValues (at .found) || not (mayGo left (at .left)) || not (mayGo right (at .right)))
