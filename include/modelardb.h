@@ -5,8 +5,8 @@
  * Floats cross as their bits. A NaN that is computed is answered as 7FC00000 or 7FF8000000000000; the values of a
  * stream keep their bits. A call that can be refused answers a modelardb_fault, whose number is 0 or that of the
  * refusal, and then it has changed no memory that it was lent. Where several causes apply, the first is answered
- * in the order 1, 2, 3, 12, 4, 10, 9, 11, and then 5 to 8 by the first place in the stream. Each call below lists
- * its own causes in that order. Those of a stream, 5 to 8, say at which value and at which bit it broke.
+ * in the order 1, 2, 3, 12, 13, 4, 10, 9, 11, and then 5 to 8 by the first place in the stream. Each call below
+ * lists its own causes in that order. Those of a stream, 5 to 8, say at which value and at which bit it broke.
  *
  * A state crosses as a row of 64-bit words. A row that holds fewer words than the state has, or words that no
  * such state has, stands for none: a call that reads it is refused with 2. It is refused with 1 before that if
@@ -20,12 +20,13 @@
  *
  *  - Each pointer is that of as many elements as the length behind it says, aligned for their type, and they
  *    stay valid during the call. A length may be 0, and then the pointer is not followed, but it must not be null.
+ *    A pointer without a length is that of one element.
  *  - What is lent for writing overlaps nothing else that the same call is lent, and no other thread uses it
  *    during the call. What is lent for reading is not written during the call.
  *  - The processor's floating point is as a program finds it: rounding to nearest, subnormals on. (Linking with
  *    -ffast-math can switch them off.)
- *  - There is enough stack. modelardb_macaque_v_grid takes 5 KiB for each 1,024 values, so up to 320 KiB; every
- *    other call takes less than 16 KiB.
+ *  - There is enough stack. modelardb_macaque_v_grid and modelardb_table_range take 5 KiB for each 1,024 values, so
+ *    up to 320 KiB; every other call takes less than 16 KiB.
  *  - A stream carries no checksum and not its own count: whoever keeps the bytes keeps the count beside them, and
  *    sees to it that neither is altered. Altered bytes can be refused, or can read as other values.
  */
@@ -43,16 +44,17 @@ extern "C" {
 #define MODELARDB_ACCEPTED 0
 #define MODELARDB_BOUND_NOT_ALLOWED 1
 #define MODELARDB_STATE_NOT_ALLOWED 2
-#define MODELARDB_OVER_LIMIT 3         /* a number above its limit, or M below 1 */
-#define MODELARDB_OUTPUT_TOO_SHORT 4   /* a lent output does not hold the answer */
-#define MODELARDB_ENDS_EARLY 5         /* the stream ends before its last value */
-#define MODELARDB_NO_WINDOW 6          /* a keep code before any window */
-#define MODELARDB_WINDOW_NOT_ALLOWED 7 /* a window of no bits, or of more than 32 with its leading zeros */
-#define MODELARDB_LEFTOVER 8           /* a set padding bit or a further byte */
-#define MODELARDB_FORM_NOT_ALLOWED 9   /* parameter bytes or the residual count byte */
-#define MODELARDB_TIMES_NOT_ALLOWED 10 /* timestamps out of limit, or not increasing */
-#define MODELARDB_NO_MODEL 11          /* nothing fitted, or a line whose ends differ, at least one not finite */
-#define MODELARDB_COUNTS_DISAGREE 12   /* counts or lengths that do not go together */
+#define MODELARDB_OVER_LIMIT 3            /* a number above its limit, or M below 1 */
+#define MODELARDB_OUTPUT_TOO_SHORT 4      /* a lent output does not hold the answer */
+#define MODELARDB_ENDS_EARLY 5            /* the stream ends before its last value */
+#define MODELARDB_NO_WINDOW 6             /* a keep code before any window */
+#define MODELARDB_WINDOW_NOT_ALLOWED 7    /* a window of no bits, or of more than 32 with its leading zeros */
+#define MODELARDB_LEFTOVER 8              /* a set padding bit or a further byte */
+#define MODELARDB_FORM_NOT_ALLOWED 9      /* parameter bytes or the residual count byte */
+#define MODELARDB_TIMES_NOT_ALLOWED 10    /* timestamps out of limit, or not increasing */
+#define MODELARDB_NO_MODEL 11             /* nothing fitted, or a line whose ends differ, at least one not finite */
+#define MODELARDB_COUNTS_DISAGREE 12      /* counts or lengths that do not go together */
+#define MODELARDB_TABLE_DOES_NOT_MATCH 13 /* a place table that is not the stream's */
 
 /* What a call answers. With 5 to 7, `value` is the number of the value that was being read, counted from 0, and
  * `place` the bit at which its code begins, counted from the first of the stream. With 8, `value` is the count and
@@ -428,6 +430,66 @@ modelardb_fault modelardb_reader_end(const uint8_t *bytes, size_t bytes_length, 
  * Refusals: 3 (mode, or count above 65,536); 4; then 5 to 8 with value and place. */
 modelardb_fault modelardb_reader_last_value(const uint8_t *bytes, size_t bytes_length, size_t count, uint32_t mode,
                                             uint32_t opening, uint32_t *out, size_t out_length);
+
+/* ---- the place table: where reading can begin inside a stream, to read a range of it alone (exports_table)
+ *
+ * A table has an entry for each value whose number, counted from 0, is a multiple of 64 and below the count. An
+ * entry is four words, each as it is before that value; those of value n begin at word 4 * (n / 64): */
+#define MODELARDB_ENTRY_PLACE 0    /* the place: the bit at which the value's code begins */
+#define MODELARDB_ENTRY_LAST 1     /* the bits of the last value kept; before any, of the one opened on, or 0 */
+#define MODELARDB_ENTRY_LEADING 2  /* the window's leading zero bits, 255 before any window */
+#define MODELARDB_ENTRY_TRAILING 3 /* its trailing zero bits, 0 before any window */
+#define MODELARDB_ENTRY_WORDS 4
+#define MODELARDB_VALUES_PER_ENTRY 64
+/*
+ * How many entries are in use stands beside the words: none before any value, and MODELARDB_ENTRIES(count) for
+ * `count` values. Words behind those in use are not looked at. Of a table lent, as many entries count as it holds
+ * whole; more in use than that are refused with 12, but in a range with p = q, which looks at no table.
+ *
+ * Keep the table beside the bytes and their count. It carries no checksum either: write and reopen count its
+ * entries and look at none, so that wrong ones are carried on, and a range looks at one and trusts it.
+ * modelardb_table_check says whether a table is the stream's own. Of one that is, every range reads as
+ * modelardb_macaque_v_grid does.
+ */
+
+/* How many entries, and how many words, so many values have. */
+#define MODELARDB_ENTRIES(values) \
+  (((size_t)(values) + MODELARDB_VALUES_PER_ENTRY - 1) / MODELARDB_VALUES_PER_ENTRY)
+#define MODELARDB_TABLE_ROOM(values) (MODELARDB_ENTRIES(values) * MODELARDB_ENTRY_WORDS)
+
+/* Writes as modelardb_macaque_v_compress_values does. table: behind the entries in use stand those of the new
+ * values, and no other word changes; *entries: how many are in use then. Refusals: 1; 2; 3 (over 65,536 values in
+ * all); 12 (entries); 13 (not as many entries in use as the state's length asks for); 4 (the table, or the
+ * buffer). */
+modelardb_fault modelardb_table_compress_values(uint64_t *state, size_t state_length, const uint32_t *values,
+                                                size_t values_length, uint8_t *buffer, size_t buffer_length,
+                                                uint64_t *table, size_t table_length, size_t *entries);
+
+/* Reopens as modelardb_macaque_v_reopen does. *entries: how many stay in use, those of the values before k. No
+ * word of the table is looked at. Refusals: 1; 3 (mode, or count above 65,536); 12 (k above count, used above the
+ * buffer's length, or entries); 13 (not as many entries in use as the count asks for); 4 (a row under ten words);
+ * then 5 to 8 with value and place, whatever k is. */
+modelardb_fault modelardb_table_reopen(uint8_t *buffer, size_t buffer_length, size_t used, size_t count, size_t k,
+                                       uint32_t mode, uint32_t opening, uint32_t kind, uint32_t bound,
+                                       uint64_t *state, size_t state_length, const uint64_t *table,
+                                       size_t table_length, size_t *entries);
+
+/* Accepted where the entries in use are those of the stream, which is read once. Refusals: 3 (mode, or count above
+ * 65,536); 12 (entries); 13 (not as many entries in use as the count asks for); then 5 to 8 with value and place;
+ * then 13 again (an entry is not the stream's). */
+modelardb_fault modelardb_table_check(const uint8_t *bytes, size_t bytes_length, size_t count, uint32_t mode,
+                                      uint32_t opening, const uint64_t *table, size_t table_length,
+                                      size_t entries);
+
+/* out[0] to out[q - p - 1]: the values p to q - 1 of the stream, counted from 0. It reads from the entry at or
+ * before p on, so at most 63 values more, and none behind them; of how the stream opens it looks at the mode alone.
+ * Where p is q there are no values, and neither the table nor out is looked at. Refusals: 3 (mode, or count above
+ * 65,536); 12 (p above q, q above count, or entries); 13 (that entry is not in use, its place is above
+ * 8 * bytes_length, its last value has more than 32 bits, or its window is neither 255 and 0 nor of at most 31
+ * zero bits in all); 4 (out); then 5 to 7 of what is read, value and place counted from the stream's first. */
+modelardb_fault modelardb_table_range(const uint8_t *bytes, size_t bytes_length, size_t count, uint32_t mode,
+                                      uint32_t opening, const uint64_t *table, size_t table_length, size_t entries,
+                                      size_t p, size_t q, uint32_t *out, size_t out_length);
 
 #ifdef __cplusplus
 }

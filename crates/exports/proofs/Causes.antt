@@ -6,5 +6,5 @@ use Rattle.models.specs.Causes.{order}
 use Rattle.exports.specs.Face.{beforeShort}
 
 -- of the numbers of the order, a row that is too short for the answer goes before 4 and those behind it, and behind the others
-pub of-a-short-row : map beforeShort order ≡ true ∷ true ∷ true ∷ true ∷ false ∷ false ∷ false ∷ false ∷ []
+pub of-a-short-row : map beforeShort order ≡ true ∷ true ∷ true ∷ true ∷ true ∷ false ∷ false ∷ false ∷ false ∷ []
 of-a-short-row = refl

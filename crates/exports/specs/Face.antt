@@ -18,9 +18,9 @@ boundOf kind bits =
     cond (eqb kind 0) Lossless
     (cond (eqb kind 1) (Absolute (ofBits binary32 bits)) (cond (eqb kind 2) (Relative (ofBits binary32 bits)) (Absolute nan)))
 
--- the causes that 01 judges before 4: 1, 2, 3 and 12
+-- the causes that are judged before 4: 1, 2, 3, 12 and 13, of which no number is higher
 abbrev pub beforeShort : ℕ → Bool
-beforeShort n = leb n 3 || eqb n 12
+beforeShort n = leb n 3 || leb 12 n
 
 -- the fault that is answered, where a row of `room` words is lent for `need` of them
 unfoldable pub refusalFault : ℕ → ℕ → Fault → Fault

@@ -99,7 +99,7 @@ pub fn fault_with(r: Refusal, need: usize, room: usize) -> Fault
     if n <= 3 {
         return fault;
     }
-    if n == 12 {
+    if 12 <= n {
         return fault;
     }
     if room < need { TOO_SHORT } else { fault }

@@ -83,7 +83,7 @@ put-plain row (refused n) v ws room size e f =
 -- ---- compress_values
 
 -- it has a place and no value
-spoiled-may-not : (b : ErrorBound) (bytes : ℕ) → usable macaque bytes (stateOf (spoiledWriter b)) ≡ false
+pub spoiled-may-not : (b : ErrorBound) (bytes : ℕ) → usable macaque bytes (stateOf (spoiledWriter b)) ≡ false
 unfolding keepsRule
 spoiled-may-not b bytes = and-false (leb ((spoiledWriter b) .place) (8 * bytes)) _ refl
 

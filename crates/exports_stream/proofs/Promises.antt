@@ -60,7 +60,7 @@ module _ {b : ErrorBound} {o : Opening} {xs buf : List ℕ} {m : MacaqueV} (M : 
   made-row f rest = row-back m rest (subst BoundHeld (sym (ap (λ (w : MacaqueV). w .«error_bound») (M .writer))) f) small-words
 
   -- a row that begins with its words
-  row-made : BoundHeld b → {row : List ℕ} (rest : List ℕ) → row ≡ writerRow m ++ rest → RowMade b o xs buf row
+  pub row-made : BoundHeld b → {row : List ℕ} (rest : List ℕ) → row ≡ writerRow m ++ rest → RowMade b o xs buf row
   row-made f {row = row} rest is =
       let back : writerIn row ≡ m = ap writerIn is ∙ made-row f rest in
       record { made = subst (Made b o xs buf) (sym back) M; words = is ∙ ap₂ (λ (w : MacaqueV) (l : List ℕ). writerRow w ++ l) (sym back) (sym (ap (drop writerLength) is ∙ behind-words m rest)) }
@@ -177,7 +177,7 @@ a-row-keeps-the-length row = call.a-write-keeps-the-length (writerIn row)
 -- ---- reopening through a row
 
 -- where no cause holds, and one more fails
-one-more : {X : Type 0} (refuse : Fault → X) (y : X) (causes : List Cause) (n : ℕ) (t : Bool) → NoneHolds causes → t ≡ false → judge refuse (causes ++ (n when t ∷ [])) y ≡ y
+pub one-more : {X : Type 0} (refuse : Fault → X) (y : X) (causes : List Cause) (n : ℕ) (t : Bool) → NoneHolds causes → t ≡ false → judge refuse (causes ++ (n when t ∷ [])) y ≡ y
 one-more refuse y causes n t h e =
     judged-parts refuse causes (n when t ∷ []) y ∙ sym (accepted refuse y (n when t ∷ []) (e, tt) ∙ accepted refuse (judge refuse (n when t ∷ []) y) causes h)
 

@@ -25,7 +25,7 @@ use models::GridAnswer;
 use models::Refusal;
 use models::Verdict;
 
-mod row;
+pub mod row;
 
 // ---- the writer's calls
 
@@ -190,7 +190,7 @@ fn judge_reopen(
 }
 
 // The state's words to the front of the row, where there is one.
-fn put_opened(writer: OpenAnswer, state: &mut [u64]) -> Fault
+pub fn put_opened(writer: OpenAnswer, state: &mut [u64]) -> Fault
     requires { ⌜ writerLength ≤ length (now state) ⌝ }
     ensures fault { λ r. ⌜ r ≡ plainFault (saysOpen writer) ⌝ }
     ensures row { λ r. ⌜ now (state .exit) ≡ rowIn writerRow (now (state .entry)) (saysOpen writer) ⌝ }

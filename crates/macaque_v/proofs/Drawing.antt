@@ -1,6 +1,6 @@
 -- The values of a stream from a cursor on, block by block, and what they leave in lent memory. Assumes nothing.
 use mathlib.Core.Path.{_≡_, refl, sym, ap, ap₂, _∙_}
-use mathlib.Core.Bool.{Bool}
+use mathlib.Core.Bool.{Bool, true, false}
 use mathlib.Core.List.{List, [], _++_, append-assoc, append-nil}
 use Prim.Native.Nat.{ℕ, _+_, _-_, _≤_}
 use native.Mathlib.Omega.{arith}
@@ -13,43 +13,62 @@ use Rattle.models.specs.Refusals.{faultOf}
 use Rattle.models.specs.declared.Refusal.{Refusal}
 use Rattle.models.proofs.Judged.{not-answered, not-refused}
 use Rattle.stream.specs.Format.{Stream, bare}
-use Rattle.stream.specs.Read.{Reading, done, stopped, ended}
+use Rattle.stream.specs.Read.{Reading, done, stopped}
 use Rattle.stream.proofs.Reading.{prepend, thenRead, read-then}
 use Rattle.macaque_v.specs.State.{modeOf}
-use Rattle.macaque_v.specs.ReadRun.{stateAt, endSaid}
+use Rattle.macaque_v.specs.ReadRun.{stateAt, ahead}
 use Rattle.macaque_v.specs.inner.ReadRun.{ReadableAt, readFrom, Reads, StopsBy}
 use Rattle.macaque_v.specs.Read.{valuesRead, drawn, drawnIn}
-use Rattle.macaque_v.specs.inner.Read.{valuesFrom, drawnAt, afterBlock, Right}
+use Rattle.macaque_v.specs.inner.Read.{endedWhere, endWhere, valuesFrom, drawnAt, afterBlock, Right}
 use Rattle.macaque_v.specs.declared.read_run.Cursor.{Cursor}
 use Rattle.macaque_v.proofs.ReadingRun.{reads-none, then-stops}
-use Rattle.macaque_v.proofs.ReadingEnd.{ends-right, ends-early}
+use Rattle.macaque_v.proofs.ReadingEnd.{ends-right, ends-wrong, ends-early}
 use Rattle.macaque_v.proofs.ReadingAll.{ended-prepend}
 
 -- ---- the values
 
-module _ (first : Bool) (bytes : List ℕ) (at : Cursor) where
-  pub from-wrong : (n : ℕ) (r : Refusal) → StopsBy (ended (readFrom first bytes at n)) r → valuesFrom first bytes at n ≡ refused (faultOf r)
+-- what stops a reading stops it whatever follows
+early-where : (whole : Bool) {q : Reading Unit} {r : Refusal} → StopsBy q r → StopsBy (endedWhere whole q) r
+early-where true s = ends-early s
+early-where false s = s
+
+prepend-where : (whole : Bool) (us : List ℕ) (q : Reading Unit) → endedWhere whole (prepend us q) ≡ prepend us (endedWhere whole q)
+prepend-where true us q = ended-prepend us q
+prepend-where false us q = refl
+
+module _ {first : Bool} {bytes : List ℕ} {from to : Cursor} {n : ℕ} {vs : List ℕ} (R : Reads first bytes from n vs to) where
+  right-where : (whole : Bool) → endWhere whole bytes to ≡ answered tt → endedWhere whole (readFrom first bytes from n) ≡ done vs (stateAt to) (ahead bytes to)
+  right-where true e = ends-right R e
+  right-where false e = R .values
+
+  -- what follows the values is wrong
+  pub wrong-where : (whole : Bool) {r : Refusal} → refused (faultOf r) ≡ endWhere whole bytes to → StopsBy (endedWhere whole (readFrom first bytes from n)) r
+  wrong-where true e = ends-wrong R e
+  wrong-where false e = absurd (not-answered e)
+
+module _ (whole first : Bool) (bytes : List ℕ) (at : Cursor) where
+  pub from-wrong : (n : ℕ) (r : Refusal) → StopsBy (endedWhere whole (readFrom first bytes at n)) r → valuesFrom whole first bytes at n ≡ refused (faultOf r)
   from-wrong n r s = ap valuesRead (s .stops) ∙ ap refused (s .numbered)
 
   -- a block is not whole
-  pub from-early : (n k : ℕ) (r : Refusal) → ReadableAt bytes at → k ≤ n → StopsBy (readFrom first bytes at k) r → valuesFrom first bytes at n ≡ refused (faultOf r)
+  pub from-early : (n k : ℕ) (r : Refusal) → ReadableAt bytes at → k ≤ n → StopsBy (readFrom first bytes at k) r → valuesFrom whole first bytes at n ≡ refused (faultOf r)
   from-early n k r h le s =
-      from-wrong n r (ends-early (then-stops first bytes (reads-none first bytes at h) k s n (omega arith)))
+      from-wrong n r (early-where whole (then-stops first bytes (reads-none first bytes at h) k s n (omega arith)))
 
   module _ {k : ℕ} {us : List ℕ} {to : Cursor} (R : Reads first bytes at k us to) where
-    pub from-right : endSaid bytes to ≡ answered tt → valuesFrom first bytes at k ≡ answered us
-    from-right e = ap valuesRead (ends-right R e)
+    pub from-right : endWhere whole bytes to ≡ answered tt → valuesFrom whole first bytes at k ≡ answered us
+    from-right e = ap valuesRead (right-where R whole e)
 
     -- a block, and what stands behind it
-    pub from-then : (n : ℕ) → k ≤ n → valuesFrom first bytes at n ≡ afterBlock us (valuesFrom first bytes to (n - k))
+    pub from-then : (n : ℕ) → k ≤ n → valuesFrom whole first bytes at n ≡ afterBlock us (valuesFrom whole first bytes to (n - k))
     from-then n le =
         let S : Stream Unit = bare (modeOf first) in
-        let whole : k + (n - k) ≡ n = omega arith in
-        ap (λ (m : ℕ). valuesFrom first bytes at m) (sym whole)
-        ∙ ap (λ (q : Reading Unit). valuesRead (ended q))
+        let all : k + (n - k) ≡ n = omega arith in
+        ap (λ (m : ℕ). valuesFrom whole first bytes at m) (sym all)
+        ∙ ap (λ (q : Reading Unit). valuesRead (endedWhere whole q))
         (read-then S k (n - k) (stateAt at) (drop (at .place) (bitsOf bytes)) ∙ ap (thenRead S (n - k)) (R .values))
-        ∙ ap valuesRead (ended-prepend us (readFrom first bytes to (n - k)))
-        ∙ go (ended (readFrom first bytes to (n - k)))
+        ∙ ap valuesRead (prepend-where whole us (readFrom first bytes to (n - k)))
+        ∙ go (endedWhere whole (readFrom first bytes to (n - k)))
       where
         go : (q : Reading Unit) → valuesRead (prepend us q) ≡ afterBlock us (valuesRead q)
         go (done vs s b) = refl

@@ -4,6 +4,7 @@ pub mod Held
 pub mod Extremes
 pub mod Stepping
 pub mod Writing
+pub mod Entering
 pub mod Accepting
 pub mod ReadingRun
 pub mod Repeating

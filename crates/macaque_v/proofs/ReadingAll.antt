@@ -1,6 +1,6 @@
 -- A whole stream in lent bytes, as the calls speak of it: the values of the theory's stream, and the state that reopening answers. Assumes nothing.
 use mathlib.Core.Path.{_≡_, refl, sym, ap, ap₂, _∙_, subst}
-use mathlib.Core.Bool.{Bool, false, false≢true}
+use mathlib.Core.Bool.{Bool, true, false, false≢true}
 use mathlib.Core.List.{List, _++_}
 use mathlib.Core.Option.{Option, none, some}
 use Prim.Native.Nat.{ℕ, _+_, _-_, _^_, _≤_, _<_}
@@ -108,7 +108,7 @@ module _ (bytes : List ℕ) (o : Opening) where
 
   -- ---- the values
 
-  pub same-values : (n : ℕ) → valuesIn bytes n o ≡ valuesFrom (isFirst o) bytes (startOf o) n
+  pub same-values : (n : ℕ) → valuesIn bytes n o ≡ valuesFrom true (isFirst o) bytes (startOf o) n
   same-values n = sym (alike-values (bare (modeOf (isFirst o))) gatherKnown (ended (readFrom (isFirst o) bytes (startOf o) n)) _ (all-alike n))
 
   pub values-right : {n : ℕ} {vs : List ℕ} {to : Cursor} → Reads (isFirst o) bytes (startOf o) n vs to → endSaid bytes to ≡ answered tt → valuesIn bytes n o ≡ answered vs

@@ -1,5 +1,6 @@
 // MacaqueV: a stream of values, each coded by how it differs from the last one that was kept.
 
+pub mod noting;
 pub mod read;
 pub mod read_run;
 pub mod span;

@@ -10,7 +10,7 @@ ghost use Rattle.stream.specs.Read.{bufferAfter};
 ghost use Rattle.macaque_v.specs.State.{isFirst};
 ghost use Rattle.macaque_v.specs.inner.ReadRun.{ReadableAt};
 ghost use Rattle.macaque_v.specs.Read.{startOf, gridCauses, drawn, gridAnswer, gridMemory, sumAnswer};
-ghost use Rattle.macaque_v.specs.inner.Read.{valuesFrom, drawnAt};
+ghost use Rattle.macaque_v.specs.inner.Read.{valuesFrom, drawnAt, endWhere};
 ghost use Rattle.macaque_v.specs.Read.{reopenCauses, reopenAnswer, reopenMemory, saysOpen};
 ghost use Rattle.macaque_v.specs.inner.Read.{reopening, resumed, StateSays};
 use crate::MacaqueV;
@@ -41,7 +41,15 @@ pub fn grid(bytes: &[u8], count: usize, opening: Opening, out: &mut [u32]) -> Gr
 {
     match judge_grid(count, out.len()) {
         Verdict::Refused(r) => GridAnswer::Refused(r),
-        Verdict::Passed => draw(bytes, is_first(opening), start(opening), count, 0, out),
+        Verdict::Passed => draw(
+            bytes,
+            is_first(opening),
+            start(opening),
+            count,
+            0,
+            out,
+            true,
+        ),
     }
 }
 
@@ -140,11 +148,19 @@ pub fn start(opening: Opening) -> Cursor
 // ---- drawing
 
 // The next n values, to the places of `out` from i on, a block at a time: what stands behind a block is read and found right before the block
-// is copied. The array has 28 places more than a block takes.
-fn draw(bytes: &[u8], first: bool, at: Cursor, n: usize, i: usize, out: &mut [u32]) -> GridAnswer
+// is copied. The array has 28 places more than a block takes. They are the stream's last ones where `whole` is true, and nothing may follow them then.
+pub fn draw(
+    bytes: &[u8],
+    first: bool,
+    at: Cursor,
+    n: usize,
+    i: usize,
+    out: &mut [u32],
+    whole: bool,
+) -> GridAnswer
     requires { ⌜ ReadableAt (now bytes) at × (at .count + n ≤ mostValues) × (i + n ≤ length (now out)) ⌝ }
-    ensures answer { λ r. ⌜ saysGrid r ≡ drawn (valuesFrom first (now (bytes .entry)) at n) ⌝ }
-    ensures values { λ r. ⌜ now (out .exit) ≡ drawnAt i (now (out .entry)) (valuesFrom first (now (bytes .entry)) at n) ⌝ }
+    ensures answer { λ r. ⌜ saysGrid r ≡ drawn (valuesFrom whole first (now (bytes .entry)) at n) ⌝ }
+    ensures values { λ r. ⌜ now (out .exit) ≡ drawnAt i (now (out .entry)) (valuesFrom whole first (now (bytes .entry)) at n) ⌝ }
 {
     let mut values = [0u32; 1052];
     let k = read_run::smaller(1024, n);
@@ -152,14 +168,14 @@ fn draw(bytes: &[u8], first: bool, at: Cursor, n: usize, i: usize, out: &mut [u3
         Run::Refused(r) => GridAnswer::Refused(r),
         Run::To(to) => {
             if k < n {
-                match draw(bytes, first, to, n - k, i + k, out) {
+                match draw(bytes, first, to, n - k, i + k, out, whole) {
                     GridAnswer::Refused(r) => {
                         return GridAnswer::Refused(r);
                     }
                     GridAnswer::Drawn => {}
                 }
             } else {
-                match read_run::judge_end(bytes, to) {
+                match judge_behind(bytes, to, whole) {
                     Verdict::Refused(r) => {
                         return GridAnswer::Refused(r);
                     }
@@ -170,6 +186,17 @@ fn draw(bytes: &[u8], first: bool, at: Cursor, n: usize, i: usize, out: &mut [u3
             GridAnswer::Drawn
         }
     }
+}
+
+// What may follow the last value: nothing, where it is the stream's last.
+fn judge_behind(bytes: &[u8], to: Cursor, whole: bool) -> Verdict
+    requires { ⌜ ReadableAt (now bytes) to × (to .count ≤ mostValues) ⌝ }
+    ensures { λ r. ⌜ saysVerdict r ≡ endWhere whole (now (bytes .entry)) to ⌝ }
+{
+    if whole {
+        return read_run::judge_end(bytes, to);
+    }
+    Verdict::Passed
 }
 
 // ---- reopening

@@ -11,9 +11,9 @@ use Rattle.models.specs.Bound.{boundAllowed}
 use Rattle.models.specs.Limits.{mostValues, metadataAllowed}
 use Rattle.models.specs.declared.ErrorBound.{ErrorBound}
 
--- ---- the order: "where several of 1, 2, 3, 12, 4, 10, 9, 11 apply, the first in that order is given"
+-- ---- the order: "where several of 1, 2, 3, 12, 4, 10, 9, 11 apply, the first in that order is given"; 02 puts 13 "after 12"
 abbrev pub order : List ℕ
-order = 1 ∷ 2 ∷ 3 ∷ 12 ∷ 4 ∷ 10 ∷ 9 ∷ 11 ∷ []
+order = 1 ∷ 2 ∷ 3 ∷ 12 ∷ 13 ∷ 4 ∷ 10 ∷ 9 ∷ 11 ∷ []
 
 -- what of an order stands from a number on; nothing, where the number is none of its own
 abbrev pub fromOn : ℕ → List ℕ → List ℕ

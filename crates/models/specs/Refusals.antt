@@ -1,4 +1,4 @@
--- The number that 01, "Refusal numbers", gives to each cause, where in a stream it was met, and the result that is told from what was said of it.
+-- The number that 01, "Refusal numbers", and 02 for the place table (13), give to each cause, where in a stream it was met, and the result that is told from what was said of it.
 use mathlib.Core.Path.{_≡_, refl}
 use mathlib.Core.Bool.{cond}
 use mathlib.Core.List.{List, [], _∷_}
@@ -7,7 +7,7 @@ use lib.ListN.{getD}
 use Rattle.models.specs.Answers.{faultIn, Said, answered, refused, SaidOn, answeredOn, refusedOn, Stepped, Injective, told-apart}
 use Rattle.models.specs.declared.Fault.{Fault}
 use Rattle.models.specs.declared.Refusal.{Refusal}
-use Rattle.models.specs.declared.Refusal.the-variants.{BoundNotAllowed, StateNotAllowed, OverLimit, OutputTooShort, EndsEarly, NoWindow, WindowNotAllowed, Leftover, FormNotAllowed, TimesNotAllowed, NoModel, CountsDisagree}
+use Rattle.models.specs.declared.Refusal.the-variants.{BoundNotAllowed, StateNotAllowed, OverLimit, OutputTooShort, EndsEarly, NoWindow, WindowNotAllowed, Leftover, FormNotAllowed, TimesNotAllowed, NoModel, CountsDisagree, TableDoesNotMatch}
 
 abbrev pub number : Refusal → ℕ
 number BoundNotAllowed = 1
@@ -22,6 +22,7 @@ number FormNotAllowed = 9
 number TimesNotAllowed = 10
 number NoModel = 11
 number CountsDisagree = 12
+number TableDoesNotMatch = 13
 
 -- where in a stream: the number of the value that was being read, and the bit place. "Other numbers .. show 0 and 0."
 pub record Where : Type 0 where
@@ -47,6 +48,7 @@ whereOf FormNotAllowed = nowhere
 whereOf TimesNotAllowed = nowhere
 whereOf NoModel = nowhere
 whereOf CountsDisagree = nowhere
+whereOf TableDoesNotMatch = nowhere
 
 -- the fault that a refusal's answer says
 abbrev pub faultOf : Refusal → Fault
@@ -67,11 +69,12 @@ causes value place =
     ∷ TimesNotAllowed
     ∷ NoModel
     ∷ CountsDisagree
+    ∷ TableDoesNotMatch
     ∷ []
 
 -- the refusal that says a fault
 abbrev pub refusalOf : Fault → Refusal
-refusalOf f = getD (causes (f .value) (f .place)) (f .number - 1) CountsDisagree
+refusalOf f = getD (causes (f .value) (f .place)) (f .number - 1) TableDoesNotMatch
 
 pub refusal-told : (r : Refusal) → refusalOf (faultOf r) ≡ r
 refusal-told BoundNotAllowed = refl
@@ -86,6 +89,7 @@ refusal-told FormNotAllowed = refl
 refusal-told TimesNotAllowed = refl
 refusal-told NoModel = refl
 refusal-told CountsDisagree = refl
+refusal-told TableDoesNotMatch = refl
 
 -- no two refusals say the same number, value and place
 pub faultOf-injective : Injective faultOf

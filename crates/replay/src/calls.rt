@@ -7,7 +7,10 @@ use models::Fault;
 use replaying::lists::Told;
 
 // How many calls there are; they are numbered from 0 in the order of include/modelardb.h.
-pub const CALLS: u64 = 38;
+pub const CALLS: u64 = 42;
+
+// What is answered for a line that has no number of entries: no call answers it.
+const NO_TABLE: u64 = 99;
 
 // The numbers that a call is handed, in the order of its parameters: those of 32 bits, and the others.
 pub struct Numbers {
@@ -22,7 +25,7 @@ pub struct Numbers {
 }
 
 // What a call answers: number, value and place. Of its memory, t holds timestamps, p and q bytes, v values, s a row of words that is
-// only read and r one that is written.
+// only read and r one that is written. u is the number of entries in use and the words of their table.
 pub fn answer(
     call: u64,
     x: Numbers,
@@ -32,6 +35,7 @@ pub fn answer(
     q: &mut [u8],
     v: &mut [u32],
     r: &mut [u64],
+    u: &mut [u64],
 ) -> Told {
     if call <= 8 {
         return of_streams(call, x, p, v, r);
@@ -45,7 +49,10 @@ pub fn answer(
     if call <= 33 {
         return of_segments(call, x, t, p, q, v, r);
     }
-    of_the_reader(call, x, s, p, v, r)
+    if call <= 37 {
+        return of_the_reader(call, x, s, p, v, r);
+    }
+    of_the_table(call, x, p, v, r, u)
 }
 
 fn of_streams(call: u64, x: Numbers, p: &mut [u8], v: &mut [u32], r: &mut [u64]) -> Told {
@@ -201,6 +208,83 @@ fn of_the_reader(call: u64, x: Numbers, s: &[u64], p: &[u8], v: &mut [u32], r: &
         35 => told(exports_reader::modelardb_reader_next(p, r, v)),
         36 => told(exports_reader::modelardb_reader_end(p, s)),
         _ => told(exports_reader::modelardb_reader_last_value(p, x.k as usize, x.a, x.b, v)),
+    }
+}
+
+fn of_the_table(
+    call: u64,
+    x: Numbers,
+    p: &mut [u8],
+    v: &mut [u32],
+    r: &mut [u64],
+    u: &mut [u64],
+) -> Told {
+    if u.len() == 0 {
+        return given(NO_TABLE);
+    }
+    let mut entries = u[0] as usize;
+    if 39 < call {
+        return of_table_reading(call, x, p, v, &u[1..], entries);
+    }
+    let answer = of_table_writing(call, x, p, v, r, &mut u[1..], &mut entries);
+    u[0] = entries as u64;
+    answer
+}
+
+fn of_table_writing(
+    call: u64,
+    x: Numbers,
+    p: &mut [u8],
+    v: &[u32],
+    r: &mut [u64],
+    u: &mut [u64],
+    entries: &mut usize,
+) -> Told {
+    let used = x.k as usize;
+    let count = x.m as usize;
+    let k = x.n as usize;
+    match call {
+        38 => told(exports_table::modelardb_table_compress_values(r, v, p, u, entries)),
+        _ => told(exports_table::modelardb_table_reopen(
+            p,
+            used,
+            count,
+            k,
+            x.a,
+            x.b,
+            x.c,
+            x.d,
+            r,
+            u,
+            entries,
+        )),
+    }
+}
+
+fn of_table_reading(
+    call: u64,
+    x: Numbers,
+    p: &[u8],
+    v: &mut [u32],
+    u: &[u64],
+    entries: usize,
+) -> Told {
+    let count = x.k as usize;
+    let from = x.m as usize;
+    let to = x.n as usize;
+    match call {
+        40 => told(exports_table::modelardb_table_check(p, count, x.a, x.b, u, entries)),
+        _ => told(exports_table::modelardb_table_range(
+            p,
+            count,
+            x.a,
+            x.b,
+            u,
+            entries,
+            from,
+            to,
+            v,
+        )),
     }
 }
 

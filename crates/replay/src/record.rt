@@ -38,11 +38,13 @@ fn is_replayed(call: u64, all: &[u64], marks: &[usize; MARKS]) -> bool {
     let mut q = lists::bytes();
     let mut v = lists::values();
     let mut r = lists::row();
+    let mut u = lists::table();
     let in_t = lists::load_times(all, marks, line::T, &mut t);
     let in_p = lists::load_bytes(all, marks, line::P, &mut p);
     let in_q = lists::load_bytes(all, marks, line::Q, &mut q);
     let in_v = lists::load_values(all, marks, line::V, &mut v);
     let in_r = lists::load_row(all, marks, line::R, &mut r);
+    let in_u = lists::load_row(all, marks, line::U, &mut u);
     agrees(
         call,
         &t[..in_t],
@@ -50,6 +52,7 @@ fn is_replayed(call: u64, all: &[u64], marks: &[usize; MARKS]) -> bool {
         &mut q[..in_q],
         &mut v[..in_v],
         &mut r[..in_r],
+        &mut u[..in_u],
         all,
         marks,
     )
@@ -62,12 +65,13 @@ fn agrees(
     q: &mut [u8],
     v: &mut [u32],
     r: &mut [u64],
+    u: &mut [u64],
     all: &[u64],
     marks: &[usize; MARKS],
 ) -> bool {
     let s = lists::list(all, marks, line::S);
-    let told = calls::answer(call, numbers(all, marks), t, s, p, q, v, r);
-    is_left(told, p, q, v, r, all, marks)
+    let told = calls::answer(call, numbers(all, marks), t, s, p, q, v, r, u);
+    is_left(told, p, q, v, r, u, all, marks)
 }
 
 // Whether the call answered what the line says, and left all memory as it says.
@@ -77,6 +81,7 @@ fn is_left(
     q: &[u8],
     v: &[u32],
     r: &[u64],
+    u: &[u64],
     all: &[u64],
     marks: &[usize; MARKS],
 ) -> bool {
@@ -85,6 +90,7 @@ fn is_left(
         & lists::are_bytes(q, all, marks, line::Q)
         & lists::are_values(v, all, marks, line::V)
         & lists::is_row(r, all, marks, line::R)
+        & lists::is_row(u, all, marks, line::U)
 }
 
 fn numbers(all: &[u64], marks: &[usize; MARKS]) -> Numbers {

@@ -1,6 +1,6 @@
 // A line of the list, read byte by byte into words:
 //
-//    CALL x .. w .. t .. p .. q .. v .. r .. s .. : NUMBER VALUE PLACE p .. q .. v .. r ..
+//    CALL x .. w .. t .. p .. q .. v .. r .. u .. s .. : NUMBER VALUE PLACE p .. q .. v .. r .. u ..
 //
 // hexadecimal words between single letters that name the lists (calls.rt says what each holds), first
 // the call's number and what it is handed, then what it must answer and leave. A value and a place that
@@ -27,13 +27,15 @@ pub const V: usize = 6;
 
 pub const R: usize = 7;
 
-pub const S: usize = 8;
+pub const U: usize = 8;
 
-pub const ANSWER: usize = 9;
+pub const S: usize = 9;
 
-pub const SHIFT: usize = 6;
+pub const ANSWER: usize = 10;
 
-const LAST: usize = 13;
+pub const SHIFT: usize = 7;
+
+const LAST: usize = 15;
 
 // What is known of a line so far. Its marks are, for each list, where its words begin, 0 for a list that
 // is not named, and ENDS places on, where they end.
@@ -203,6 +205,7 @@ fn list_of(byte: u8) -> usize {
         b'q' => Q,
         b'v' => V,
         b'r' => R,
+        b'u' => U,
         b's' => S,
         b':' => ANSWER,
         _ => 0,

@@ -27,6 +27,13 @@ pub fn times() -> [i64; 65_600]
     [0; 65_600]
 }
 
+// The entries in use and the words of a table: of 65,536 values 4,096 words.
+pub fn table() -> [u64; 4_200]
+    ensures { λ r. ⌜ 4200 ≡ length r ⌝ }
+{
+    [0; 4_200]
+}
+
 pub fn row() -> [u64; 32]
     ensures { λ r. ⌜ 32 ≡ length r ⌝ }
 {
@@ -74,6 +81,7 @@ pub fn may_be_loaded(all: &[u64], marks: &[usize; MARKS]) -> bool {
         & fits(list(all, marks, line::Q), 20_000, 0xff)
         & fits(list(all, marks, line::V), 65_600, 0xffff_ffff)
         & fits(list(all, marks, line::R), 32, 0xffff_ffff_ffff_ffff)
+        & fits(list(all, marks, line::U), 4_200, 0xffff_ffff_ffff_ffff)
         & fits(list(all, marks, line::S), 32, 0xffff_ffff_ffff_ffff)
 }
 

@@ -22,6 +22,13 @@ use Rattle.stream.proofs.Gathered.{SeenIn, seen-read}
 use Rattle.stream.proofs.Reopen.{any-opened, goes-on}
 use Rattle.stream.proofs.Holds.{padded-back}
 
+-- the bits in use where new ones are laid behind a cut within the first `used` bytes
+pub cut-and-laid : (used : ℕ) (buf : List ℕ) → used ≤ length buf → (p : ℕ) → p ≤ 8 * used → (new : List Bool) → p + length new ≤ 8 * length buf
+    → bitsOf (take (wholeBytes (p + length new)) (laidIn (cutIn buf p) p new)) ≡ padded (take p (bitsOf (take used buf)) ++ new)
+cut-and-laid used buf fits p le new room =
+    ap bitsOf (cutIn-laidIn-used buf p (omega arith) new room) ∙ padded-back (take p (bitsOf buf) ++ new)
+    ∙ ap (λ (z : List Bool). padded (z ++ new)) (sym (take-bits buf used p fits le))
+
 pub any-resumed : {A : Type 0} (rule : ℕ → ℕ → ℕ) (S : Stream A) → Good (S .format) → Keeps (S .format .width) rule → (l : ℕ) → l < 2 ^ S .format .width
     → (n k used : ℕ) (buf : List ℕ) → k ≤ n → n ≤ mostValues → used ≤ length buf → (vs : List ℕ) (t : State A) (r : List Bool)
     → readAll S n (fresh S l) (bitsOf (take used buf)) ≡ done vs t r → Resumed rule S l n k used buf vs
@@ -45,10 +52,7 @@ any-resumed {A} rule S good K l hl n k used buf le most fits vs t r h =
       reads = λ ys by room.
           let new : List Bool = written rule S m ys in
           let end : (wrote rule S m ys) .place ≡ m .place + length new = place-after S m (kept rule S m ys) in
-          let front : take (m .place) (bitsOf buf) ≡ take (m .place) bits = sym (take-bits buf used (m .place) fits p) in
-          ap (λ (z : ℕ). readAll S (k + length ys) f (bitsOf (take (wholeBytes z) (laidIn (cutIn buf (m .place)) (m .place) new)))) end
-          ∙ ap (λ (z : List ℕ). readAll S (k + length ys) f (bitsOf z)) (cutIn-laidIn-used buf (m .place) (omega arith) new (omega arith))
-          ∙ ap (readAll S (k + length ys) f) (padded-back (take (m .place) (bitsOf buf) ++ new))
-          ∙ ap (λ (z : List Bool). readAll S (k + length ys) f (padded (z ++ new))) front
+          ap (readAll S (k + length ys) f) (ap (λ (z : ℕ). bitsOf (take (wholeBytes z) (laidIn (cutIn buf (m .place)) (m .place) new))) end
+          ∙ cut-and-laid used buf fits (m .place) p new (omega arith))
           ∙ goes-on S good l hl rule K k bits (take k vs) m (o .rest) (o .reads) ys by;
     }

@@ -31,29 +31,36 @@ use Rattle.stream.proofs.Near.{Near, NearIn, wrote-near, all-near}
 
 -- ---- causes in two parts
 
-split : (first later : List Cause) → NoneHolds (first ++ later) → NoneHolds first × NoneHolds later
+pub split : (first later : List Cause) → NoneHolds (first ++ later) → NoneHolds first × NoneHolds later
 split [] later h = (tt, h)
 split (n when t ∷ first) later h = let r = split first later (h .1) in ((h .0, r .0), r .1)
 
-joined : (first later : List Cause) → NoneHolds first → NoneHolds later → NoneHolds (first ++ later)
+pub joined : (first later : List Cause) → NoneHolds first → NoneHolds later → NoneHolds (first ++ later)
 joined [] later f l = l
 joined (n when t ∷ first) later f l = (f .0, joined first later (f .1) l)
 
--- lent memory that no refusal touches: as long as it was, or what it was, where it is so without one
-pub as-long : (buf after : List ℕ) (causes : List Cause) → (NoneHolds causes → length after ≡ length buf) → length (judgedMemory buf causes after) ≡ length buf
+-- lent memory, which no refusal touches, is told by f as it was where it is so without a refusal: as long as it was, or what it was
+pub alike-after : {X : Type 0} (f : List ℕ → X) (buf after : List ℕ) (causes : List Cause) → (NoneHolds causes → f after ≡ f buf) → f (judgedMemory buf causes after) ≡ f buf
 unfolding judge
-as-long buf after [] h = h tt
-as-long buf after (n when true ∷ causes) h = refl
-as-long buf after (n when false ∷ causes) h = as-long buf after causes (λ free. h (refl, free))
+alike-after f buf after [] h = h tt
+alike-after f buf after (n when true ∷ causes) h = refl
+alike-after f buf after (n when false ∷ causes) h = alike-after f buf after causes (λ free. h (refl, free))
 
-stays : (buf after : List ℕ) (causes : List Cause) → after ≡ buf → judgedMemory buf causes after ≡ buf
-unfolding judge
-stays buf after [] h = h
-stays buf after (n when true ∷ causes) h = refl
-stays buf after (n when false ∷ causes) h = stays buf after causes h
+pub as-long : (buf after : List ℕ) (causes : List Cause) → (NoneHolds causes → length after ≡ length buf) → length (judgedMemory buf causes after) ≡ length buf
+as-long = alike-after length
+
+pub stays : (buf after : List ℕ) (causes : List Cause) → (NoneHolds causes → after ≡ buf) → judgedMemory buf causes after ≡ buf
+stays = alike-after (λ (z : List ℕ). z)
+
+-- what holds where nothing refuses a reopening
+pub reopen-says : (first : List Cause) (room used n k : ℕ) → NoneHolds (reopenCauses first room used n k) → (n ≤ mostValues) × (k ≤ n) × (used ≤ room)
+reopen-says first room used n k free =
+    let later = split first _ free .1 in
+    let tests = neither (ltb n k) (ltb room used) (later .1 .0) in
+    (ltb-false mostValues n (later .0), ltb-false n k (tests .0), ltb-false room used (tests .1))
 
 -- what was read, and the state behind it
-read-whole : {A : Type 0} (q : Reading A) (vs : List ℕ) → valuesRead q ≡ answered vs → (t : State A) × (r : List Bool) × (q ≡ done vs t r)
+pub read-whole : {A : Type 0} (q : Reading A) (vs : List ℕ) → valuesRead q ≡ answered vs → (t : State A) × (r : List Bool) × (q ≡ done vs t r)
 read-whole (done us t r) vs h = (t, r, ap (λ (z : List ℕ). done z t r) (same-answer h))
 read-whole (stopped f) vs h = absurd (not-answered h)
 
@@ -107,7 +114,7 @@ module _ {A W : Type 0} (C : Coder A W) (good : GoodCoder C) where
   pub an-empty-write-changes-nothing : (s : State A) (buf : List ℕ) → Below 8 buf
       → ((n : W) → writeAnswer C s [] buf ≡ answeredOn n → n ≡ C .hold s) × (writeMemory C s [] buf ≡ buf)
   unfolding encode after keptFrom
-  an-empty-write-changes-nothing s buf small = (λ n h. wrote-on s [] buf n h .0, stays buf _ _ (laidIn-nothing buf (s .place) small))
+  an-empty-write-changes-nothing s buf small = (λ n h. wrote-on s [] buf n h .0, stays buf _ _ (λ free. laidIn-nothing buf (s .place) small))
 
   -- a state that may be used and is near the start: where room and count limit allow, nothing refuses
   pub allowed : (s : State A) (ys buf : List ℕ) → NoneHolds (C .first) → usable F (length buf) s ≡ true → Near F s
@@ -126,14 +133,14 @@ module _ {A W : Type 0} (C : Coder A W) (good : GoodCoder C) where
       (joined (C .first) _ free (ap not mayHere, (le-ltb mostValues (s .count + length ys) most, (ap not (le-leb (t .place) (8 * bytes) (omega arith)), tt)))))
 
   module _ (l : ℕ) where
-    in-theory : {xs buf : List ℕ} {m : W} → MadeBy C l xs buf m → ((C .state m) .place ≡ (stateOver C l xs) .place) × Made (C .rule) S l xs buf (stateOver C l xs)
+    pub in-theory : {xs buf : List ℕ} {m : W} → MadeBy C l xs buf m → ((C .state m) .place ≡ (stateOver C l xs) .place) × Made (C .rule) S l xs buf (stateOver C l xs)
     in-theory {xs} {buf} {m} M =
         let at : (C .state m) .place ≡ (stateOver C l xs) .place =
         ap (λ (w : W). (C .state w) .place) (M .writer) ∙ ap (λ (t : State A). t .place) (good .holds (stateOver C l xs)) in
         (at, record { state = refl; bytes = subst (λ (p : ℕ). take (wholeBytes p) buf ≡ streamOf (C .rule) S l xs) at (M .bytes) })
 
     -- a stream of the theory, held in words
-    by-theory : {xs buf : List ℕ} {s : State A} (m : W) → m ≡ C .hold s → Made (C .rule) S l xs buf s → MadeBy C l xs buf m
+    pub by-theory : {xs buf : List ℕ} {s : State A} (m : W) → m ≡ C .hold s → Made (C .rule) S l xs buf s → MadeBy C l xs buf m
     by-theory {xs} {buf} {s} m e M =
         let at : (C .state m) .place ≡ s .place = ap (λ (w : W). (C .state w) .place) e ∙ ap (λ (t : State A). t .place) (good .holds s) in
         record {
@@ -167,9 +174,8 @@ module _ {A W : Type 0} (C : Coder A W) (good : GoodCoder C) where
     pub reopening-keeps-the-length : (buf : List ℕ) (used n k : ℕ) → l < 2 ^ F .width → length (reopenMemory C l buf used n k) ≡ length buf
     reopening-keeps-the-length buf used n k hl =
         as-long buf _ (reopenCauses (C .first) (length buf) used n k) (λ free.
-        let later = split (C .first) _ free .1 in
-        let tests = neither (ltb n k) (ltb (length buf) used) (later .1 .0) in
-        by-reading (ltb-false mostValues n (later .0)) (ltb-false n k (tests .0)) (ltb-false (length buf) used (tests .1)) (readAll S n (fresh S l) (bitsOf (take used buf))) refl)
+        let says = reopen-says (C .first) (length buf) used n k free in
+        by-reading (says .0) (says .1) (says .2) (readAll S n (fresh S l) (bitsOf (take used buf))) refl)
       where
         by-reading : n ≤ mostValues → k ≤ n → used ≤ length buf → (q : Reading A) → readAll S n (fresh S l) (bitsOf (take used buf)) ≡ q
             → length (bufferAfter (reopening S l (take used buf) n k) buf) ≡ length buf

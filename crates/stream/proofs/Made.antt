@@ -68,8 +68,9 @@ module _ {A : Type 0} (rule : ℕ → ℕ → ℕ) (S : Stream A) (l : ℕ) wher
         (subst (λ (t : State A). Ruled (S .format) t) (sym (M .state)) (after-ruled S good f vs hf (kept-below S (S .format .width) rule K f xs hf bx) (fresh-ruled S l)))
 
     module _ (good : Good (S .format)) (K : Keeps (S .format .width) rule) (hl : l < 2 ^ S .format .width) (bx : Below (S .format .width) xs) where
-      whole : bitsOf (take (wholeBytes (s .place)) buf) ≡ padded (written rule S (fresh S l) xs)
-      whole = ap (λ (n : ℕ). bitsOf (take (wholeBytes n) buf)) stands ∙ holds-bits buf (written rule S (fresh S l) xs) holds
+      -- the bits in use
+      pub made-bits : bitsOf (take (wholeBytes (s .place)) buf) ≡ padded (written rule S (fresh S l) xs)
+      made-bits = ap (λ (n : ℕ). bitsOf (take (wholeBytes n) buf)) stands ∙ holds-bits buf (written rule S (fresh S l) xs) holds
 
       -- reopened at k: the state after the first k inputs, and the cut bytes are made of these
       pub made-reopen : (k : ℕ) → k ≤ length xs
@@ -82,7 +83,7 @@ module _ {A : Type 0} (rule : ℕ → ℕ → ℕ) (S : Stream A) (l : ℕ) wher
           let D : List Bool = written rule S m (drop k xs) in
           let parts : written rule S f xs ≡ E ++ D = ap (written rule S f) (sym (take-append-drop k xs)) ∙ written-append S rule f (take k xs) (drop k xs) in
           let opens : reopen S (length xs) k f (bitsOf (take (wholeBytes (s .place)) buf)) ≡ reopened m =
-          ap (reopen S (length xs) k f) whole ∙ fresh-reopen S good l hl rule K xs bx k le in (
+          ap (reopen S (length xs) k f) made-bits ∙ fresh-reopen S good l hl rule K xs bx k le in (
             opens,
             record {
               state = refl;
@@ -98,7 +99,7 @@ module _ {A : Type 0} (rule : ℕ → ℕ → ℕ) (S : Stream A) (l : ℕ) wher
           ≡ done (kept rule S (fresh S l) xs) s (replicate (padding (s .place)) false)
       made-read =
           let f : State A = fresh S l in
-          ap (readAll S (length xs) f) whole ∙ fresh-read S good l hl rule K xs bx
+          ap (readAll S (length xs) f) made-bits ∙ fresh-read S good l hl rule K xs bx
           ∙ ap (λ (n : ℕ). done (kept rule S f xs) (wrote rule S f xs) (replicate (padding n) false)) (sym stands)
           ∙ ap (λ (t : State A). done (kept rule S f xs) t (replicate (padding (s .place)) false)) (sym (M .state))
 

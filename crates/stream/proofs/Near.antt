@@ -53,7 +53,7 @@ module _ {A : Type 0} (S : Stream A) (good : Good (S .format)) where
       go (some p) = tt
   near-ended (stopped f) near = tt
 
-  read-near : (n : ℕ) (s : State A) (bs : List Bool) → s .last < 2 ^ S .format .width → Near (S .format) s → NearIn (S .format) (readN S n s bs)
+  pub read-near : (n : ℕ) (s : State A) (bs : List Bool) → s .last < 2 ^ S .format .width → Near (S .format) s → NearIn (S .format) (readN S n s bs)
   unfolding readN
   read-near zero s bs small near = near
   read-near (suc n) s bs small near = go (stepAt S s bs) refl (λ t b h k. read-near n t b h k)

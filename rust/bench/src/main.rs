@@ -7,6 +7,7 @@ mod out;
 mod series;
 mod short;
 mod sides;
+mod table;
 
 use jobs::{Job, Lists};
 use oracle::builds::AT_HAND;
@@ -17,7 +18,7 @@ use sides::{MOST_VALUES, Ours, Side};
 use std::process::ExitCode;
 
 const USAGE: &str = "usage: bench [ROUNDS [JOB]], a whole number above 0 and how a job's name begins (written, read, \
-    summed, reopened); or bench --quick";
+    summed, reopened, tabled, range); or bench --quick";
 
 const BOUNDS: [(&str, ErrorBound); 3] = [
     ("lossless", Lossless),
@@ -31,6 +32,11 @@ const JOBS: [(&str, Job, [f64; 3]); 3] = [
     ("read", Job::Read, [0.10, 0.25, 0.45]),
     ("summed", Job::Summed, [0.15, 0.35, 0.65]),
 ];
+
+/// The names of the jobs that long streams are timed on.
+fn jobs() -> impl Iterator<Item = &'static str> {
+    JOBS.iter().map(|job| job.0).chain(["reopened"])
+}
 
 /// At most this part of the text as published, in every row.
 const PUBLISHED_GOAL: f64 = 0.70;
@@ -77,7 +83,7 @@ impl Bench {
         }
         let number = words.first().map_or(Some(5), |word| word.parse().ok());
         let wanted = words.get(1).cloned().unwrap_or_default();
-        let mut names = JOBS.iter().map(|job| job.0).chain(["reopened"]);
+        let mut names = jobs().chain(["tabled", "range"]);
         let is_job = names.any(|name| name.starts_with(&wanted));
         Some(Self {
             rounds: number.filter(|&rounds| rounds > 0 && words.len() <= 2 && is_job)?,
@@ -96,8 +102,9 @@ impl Bench {
         let nights = series::rooms(self.streams / 66, MOST_VALUES);
         let sides = self.beside_the_rust(&rooms);
         let long = self.long_streams(&rooms, &nights);
+        let tables = self.tabled(&rooms) & self.ranges(&nights);
         self.short_calls(&rooms[..500]);
-        sides && long
+        sides && long && tables
     }
 
     fn is_wanted(&self, job: &str) -> bool {
@@ -192,6 +199,9 @@ impl Bench {
 
     /// The jobs and reopening at the end, a value of the longest streams beside one of short ones.
     fn long_streams(&self, rooms: &[Vec<f32>], nights: &[Vec<f32>]) -> bool {
+        if !jobs().any(|name| self.is_wanted(name)) {
+            return true;
+        }
         say!("Nanoseconds a value, streams of 65,536 values beside those of 1,000\n");
         head("| job | bound | 65,536 | 1,000 | ratio | goal |", "");
         let mut pairs = BOUNDS.map(|(name, bound)| {

@@ -43,7 +43,7 @@ pub fn short_stream_read(
 }
 
 /// The nanoseconds of one call, by the best of the rounds over all items.
-fn each<T>(items: &[T], rounds: u32, mut call: impl FnMut(&T)) -> f64 {
+pub fn each<T>(items: &[T], rounds: u32, mut call: impl FnMut(&T)) -> f64 {
     let mut best = f64::INFINITY;
     for _ in 0..10 * rounds {
         let begin = Instant::now();

@@ -1,7 +1,7 @@
 //! What is compared: the proved library through its safe crate, and the Rust's text by its own entry
 //! points, on one list or stream whose first value is stored in full.
 
-use modelardb_rattle::{self as library, MacaqueV, Opening};
+use modelardb_rattle::{self as library, MacaqueV, Opening, PlaceTable, TabledWriter};
 use oracle::paper::models::ErrorBound;
 use oracle::rust::Direct;
 
@@ -38,9 +38,43 @@ impl Side for Ours {
     }
 }
 
-/// A writer behind the values, and its buffer with room for 45 bits a value, the most that one takes.
+/// The proved library, with a place table written beside each stream.
+pub struct Tabled;
+
+impl Side for Tabled {
+    fn write(&self, bound: ErrorBound, values: &[f32]) -> Vec<u8> {
+        tabled(bound, values).0
+    }
+
+    fn read(&self, bytes: &[u8], out: &mut Vec<f32>) {
+        Ours.read(bytes, out);
+    }
+
+    fn sum(&self, bytes: &[u8], count: usize) -> f32 {
+        Ours.sum(bytes, count)
+    }
+}
+
+/// The bytes of a stream of the values, and its table.
+pub fn tabled(bound: ErrorBound, values: &[f32]) -> (Vec<u8>, PlaceTable) {
+    let mut buffer = room_for(values);
+    let writer = TabledWriter::new(of_library(bound), Opening::First);
+    let mut writer = writer.expect("an allowed bound");
+    let written = writer.compress_values(values, &mut buffer);
+    written.expect("room for every value");
+    let (writer, table) = writer.into_parts();
+    buffer.truncate(writer.bytes_used());
+    (buffer, table)
+}
+
+/// A buffer with room for 45 bits a value, the most that one takes.
+fn room_for(values: &[f32]) -> Vec<u8> {
+    vec![0; (45 * values.len()).div_ceil(8)]
+}
+
+/// A writer behind the values, and its buffer.
 pub fn written(bound: ErrorBound, values: &[f32]) -> (MacaqueV, Vec<u8>) {
-    let mut buffer = vec![0; (45 * values.len()).div_ceil(8)];
+    let mut buffer = room_for(values);
     let writer = MacaqueV::new(of_library(bound), Opening::First);
     let mut writer = writer.expect("an allowed bound");
     let written = writer.compress_values(values, &mut buffer);

@@ -7,6 +7,7 @@ mod choice;
 mod fit;
 mod reader;
 mod segments;
+mod table;
 
 pub use choice::{
     MODEL_BUILDER_WORDS, SELECTED_MODEL_WORDS, choose_model, model_builder_finish,
@@ -22,6 +23,10 @@ pub use segments::{
     MOST_RESIDUALS_BYTES, MOST_VALUES_BYTES, Pair, SEGMENT_WORDS, StoredSegment,
     decode_values_for_pmc_mean, decode_values_for_swing, encode_values_for_pmc_mean,
     encode_values_for_swing, segment_grid, segment_sum_by_average, segment_sum_over, segment_write,
+};
+
+pub use table::{
+    ENTRY_WORDS, VALUES_PER_ENTRY, table_check, table_compress_values, table_range, table_reopen,
 };
 
 use crate::Fault;

@@ -8,7 +8,8 @@
 //! A state changes in place: what fits or is written is part of it from then on. So writers, readers,
 //! models and builders are no `Copy`; to keep one as it was, clone it.
 //!
-//! [`compare::differences`] shows where two streams part.
+//! [`compare::differences`] shows where two streams part. A [`TabledWriter`] keeps a [`PlaceTable`] beside its
+//! stream, which reads a range of it without the rest.
 //!
 //! [`choose_model`] says which model stores a run of values, [`PMCMean`] or [`Swing`]; a [`Segment`]
 //! holds that model and the values behind it, which [`MacaqueV`] writes as a stream.
@@ -32,6 +33,7 @@ pub mod macaque_v;
 pub mod models;
 pub mod numbers;
 pub mod parameters;
+pub mod place_table;
 pub mod pmc_mean;
 mod refusal;
 pub mod segments;
@@ -45,6 +47,7 @@ pub use models::{
     maximum_allowed_deviation, maximum_allowed_deviation_bits,
 };
 pub use numbers::{narrow, narrow_bits, widen, widen_bits};
+pub use place_table::{PlaceTable, TabledWriter};
 pub use pmc_mean::PMCMean;
 pub use refusal::{Fault, Refusal};
 pub use segments::{Model, Segment};

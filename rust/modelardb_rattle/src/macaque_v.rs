@@ -93,7 +93,7 @@ impl Opening {
 #[derive(Clone, PartialEq, Eq)]
 pub struct MacaqueV {
     /// The state as it crosses the C face: see [`STATE_WORDS`].
-    row: [u64; STATE_WORDS],
+    pub(crate) row: [u64; STATE_WORDS],
 }
 
 impl MacaqueV {

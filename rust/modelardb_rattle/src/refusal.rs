@@ -3,9 +3,10 @@
 use std::error::Error;
 use std::fmt::{Display, Formatter, Result};
 
-/// The twelve causes, in the order of their numbers and under the names of the proved library. Where
-/// several apply, the first is answered in the order 1, 2, 3, 12, 4, 10, 9, 11, and then 5 to 8 by the
-/// first place in the stream. A refused call has changed nothing that it was lent.
+/// The thirteen causes, in the order of their numbers and under the names of the proved library. Where
+/// several apply, the first is answered in the order 1, 2, 3, 12, 13, 4, 10, 9, 11, and then 5 to 8 by the
+/// first place in the stream; a check of a place table judges what its entries hold behind those. A refused
+/// call has changed nothing that it was lent.
 ///
 /// The four of a stream, 5 to 8, say where reading stood when it could not go on: `value` is the number
 /// of the value that was being read, counted from 0, and `place` the bit at which its code begins,
@@ -92,16 +93,23 @@ pub enum Refusal {
     /// at least one is not finite: such a segment can be stored, but not read.
     NoModel,
     /// 12: counts or lengths do not go together: `k` is above the count, more is used than the buffer
-    /// holds, timestamps and values are not equally many, or the residuals leave no timestamp to the
-    /// model. Hand in what belongs together.
+    /// holds, timestamps and values are not equally many, the residuals leave no timestamp to the
+    /// model, a range begins behind its end or ends behind the count, or a place table ends inside an
+    /// entry. Hand in what belongs together.
     CountsDisagree,
+    /// 13: the place table does not match. It has not as many entries as the count asks for, one for each 64
+    /// values and for the rest; or, in a check, an entry is not the stream's own; or, in a range, the entry to
+    /// start from is missing, has its place behind the stream's bytes, or is none that a stream can have. Call the
+    /// check: where it finds the stream broken, bytes are missing; else hand in the table that was written beside
+    /// these bytes, with their count. Where it is lost, read the whole stream.
+    TableDoesNotMatch,
 }
 
 /// A refusal in three numbers, as it crosses the C face. Number 0 is that of an accepted call.
 #[derive(Clone, Copy, Debug, Default, PartialEq, Eq, Hash)]
 #[repr(C)]
 pub struct Fault {
-    /// The refusal's number, 1 to 12, or 0.
+    /// The refusal's number, 1 to 13, or 0.
     pub number: u32,
     /// Of 5 to 8 the value that was being read, counted from 0, of 8 the count; else 0.
     pub value: u32,
@@ -129,7 +137,7 @@ impl From<u32> for Fault {
 }
 
 /// What was wrong, in the order of the numbers.
-const CAUSES: [&str; 12] = [
+const CAUSES: [&str; 13] = [
     "the error bound is not allowed: an absolute one must be finite and above 0, a relative one above 0 and at most 100",
     "the state is not allowed: its fields do not go together, or not with the buffer that it was lent",
     "a number is above its limit, 65,536 values, 255 residuals, model 1 or a file's mode 1, or the metadata size M is above 65,535 or below 1",
@@ -141,11 +149,12 @@ const CAUSES: [&str; 12] = [
     "the parameter bytes' length or flag, or the residual count byte, is not allowed",
     "the timestamps are not strictly increasing, one is outside -2^52 to 2^52, a line does not end behind its start, or a Swing segment owns one timestamp only",
     "there is no model: the state is of length 0, or the line has ends that differ, at least one not finite",
-    "the counts do not match: k above the count, more used than the buffer holds, lists of unequal lengths, or no value left for the model",
+    "the counts do not match: k above the count, more used than the buffer holds, lists of unequal lengths, no value left for the model, a range that begins behind its end or ends behind the count, or a place table that ends inside an entry",
+    "the place table does not match: not as many entries as the count asks for, one that is not the stream's, or none that a range can start from",
 ];
 
 impl Refusal {
-    /// The refusal's number, 1 to 12.
+    /// The refusal's number, 1 to 13.
     ///
     /// ```
     /// assert_eq!(modelardb_rattle::Refusal::NoModel.number(), 11);
@@ -164,6 +173,7 @@ impl Refusal {
             Refusal::TimesNotAllowed => 10,
             Refusal::NoModel => 11,
             Refusal::CountsDisagree => 12,
+            Refusal::TableDoesNotMatch => 13,
         }
     }
 
@@ -211,6 +221,7 @@ impl Refusal {
             10 => Refusal::TimesNotAllowed,
             11 => Refusal::NoModel,
             12 => Refusal::CountsDisagree,
+            13 => Refusal::TableDoesNotMatch,
             _ => return None,
         })
     }
@@ -259,13 +270,13 @@ mod tests {
     /// One of each number; value and place are left out where a refusal has none.
     #[test]
     fn each_refusal_stands_for_its_three_numbers() {
-        for number in 1..=12 {
+        for number in 1..=13 {
             let told = Fault {
                 number,
                 value: 65_536,
                 place: 2_949_120,
             };
-            let refusal = Refusal::from_fault(told).expect("one of twelve");
+            let refusal = Refusal::from_fault(told).expect("one of thirteen");
             assert_eq!(refusal.number(), number);
             let carried = match number {
                 5..=8 => told,
@@ -274,7 +285,7 @@ mod tests {
             assert_eq!(refusal.fault(), carried);
             assert_eq!(Refusal::from_fault(carried), Some(refusal));
         }
-        assert_eq!(Refusal::from_fault(13.into()), None);
+        assert_eq!(Refusal::from_fault(14.into()), None);
     }
 
     #[test]
@@ -299,6 +310,7 @@ mod tests {
             ),
             (Refusal::OutputTooShort, "refused 4: the lent output"),
             (Refusal::CountsDisagree, "refused 12: the counts"),
+            (Refusal::TableDoesNotMatch, "refused 13: the place table"),
         ] {
             assert!(refusal.to_string().starts_with(begin), "{refusal}");
         }

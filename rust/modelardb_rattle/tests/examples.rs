@@ -1,6 +1,6 @@
 //! The examples on the shipped readings: the shipped stream is what the library writes, an upload that is cut at
 //! any value goes on as one run, a flipped bit is often read as other values, a cut is told at the first value that
-//! is missing, a bad line is named, and the README shows what they print.
+//! is missing, an hour of a night is read without the rest, a bad line is named, and the README shows what they print.
 
 #[path = "../examples/flipped/damage.rs"]
 mod damage;
@@ -8,16 +8,20 @@ mod damage;
 mod day;
 #[path = "../examples/morning/show.rs"]
 mod morning;
+#[path = "../examples/night/show.rs"]
+mod night;
 #[path = "../examples/shared/readings.rs"]
 mod readings;
 #[path = "../examples/day/store.rs"]
 mod store;
+#[path = "../examples/night/stored.rs"]
+mod stored;
 #[path = "../examples/morning/upload.rs"]
 mod upload;
 #[path = "../examples/upload/written.rs"]
 mod upload_file;
 
-use modelardb_rattle::ErrorBound;
+use modelardb_rattle::{ErrorBound, Opening};
 use readings::Readings;
 use upload::{cut, resumed, written};
 
@@ -110,6 +114,10 @@ fn a_bad_line_is_named_by_its_number() {
             "room:2: 06:00 is not later than the time before it",
         ),
         ("06:00\n", "room:1: \"06:00\" is not a time and a value"),
+        (
+            "22:00 20\n06:00 21\n05:00 21\n",
+            "room:3: 05:00 is not later than the time before it",
+        ),
         ("# Room 1\n", "room: no readings"),
     ] {
         assert_eq!(readings::of_text("room", text).err().as_deref(), Some(why));
@@ -117,9 +125,47 @@ fn a_bad_line_is_named_by_its_number() {
 }
 
 #[test]
+fn a_time_before_the_first_is_of_the_next_day() {
+    let night = readings::of_text("room", "22:00 20\n23:59 21\n00:00 21\n06:00 19\n");
+    assert_eq!(night.expect("a night").times, [1320, 1439, 1440, 1800]);
+}
+
+#[test]
 fn the_readme_shows_the_morning() {
     let Readings { names, values, .. } = shipped("morning.txt");
     let text = morning::show(&names, &values, ErrorBound::Absolute(0.5)).expect("an upload");
+    assert!(README.contains(&text), "README lacks:\n{text}");
+}
+
+/// Every hour of the night, and the first one of which there are no readings.
+#[test]
+fn an_hour_of_the_night_is_read_without_the_rest() {
+    let readings = shipped("night.txt");
+    let stored = stored::store(&readings.values, ErrorBound::Lossless).expect("room");
+    let check = stored
+        .table
+        .check(&stored.bytes, stored.count, Opening::First);
+    assert_eq!((stored.count, check), (421, Ok(())));
+    for hour in (18..24).chain(0..9) {
+        let text = night::show(&readings, &stored, &format!("{hour:02}:00")).expect("readings");
+        assert_eq!(
+            text.lines().count(),
+            if hour == 8 { 4 } else { 6 },
+            "{text}"
+        );
+    }
+    let none = night::show(&readings, &stored, "09:00");
+    assert_eq!(
+        none.unwrap_err(),
+        "no readings in the hour from 09:00 on: there are those from 18:00 to 08:00, and a time before the first is the next day's"
+    );
+}
+
+#[test]
+fn the_readme_shows_the_night() {
+    let readings = shipped("night.txt");
+    let stored = stored::store(&readings.values, ErrorBound::Lossless).expect("room");
+    let text = night::show(&readings, &stored, "21:00").expect("an hour");
     assert!(README.contains(&text), "README lacks:\n{text}");
 }
 

@@ -20,8 +20,8 @@ fn named() -> BTreeMap<&'static str, usize> {
 #[test]
 fn each_refusal_has_the_crates_number() {
     let named = named();
-    for number in 1..=12 {
-        let refusal = Refusal::from_fault(number.into()).expect("one of twelve");
+    for number in 1..=13 {
+        let refusal = Refusal::from_fault(number.into()).expect("one of thirteen");
         let (shown, mut name) = (format!("{refusal:?}"), String::new());
         for letter in shown.chars().take_while(|letter| letter.is_alphabetic()) {
             if letter.is_uppercase() && !name.is_empty() {
@@ -65,7 +65,7 @@ fn every_call_that_can_be_refused_answers_a_fault() {
     });
     let calls: Vec<(&str, &str)> = calls.collect();
     assert_eq!(calls[..2], [("widen", "uint64_t"), ("narrow", "uint32_t")]);
-    assert_eq!(calls.len(), 38);
+    assert_eq!(calls.len(), 42);
     for (name, answer) in &calls[2..] {
         assert_eq!(*answer, "modelardb_fault", "{name}");
     }
@@ -88,6 +88,8 @@ fn limits_lengths_and_models_are_the_crates() {
         ("CHOSEN_WORDS", ffi::SELECTED_MODEL_WORDS),
         ("SEGMENT_WORDS", ffi::SEGMENT_WORDS),
         ("READER_WORDS", ffi::READER_WORDS),
+        ("ENTRY_WORDS", ffi::ENTRY_WORDS),
+        ("VALUES_PER_ENTRY", ffi::VALUES_PER_ENTRY),
         ("PMC_MEAN", ModelBuilder::PMC_MEAN_ID as usize),
         ("SWING", ModelBuilder::SWING_ID as usize),
     ] {
@@ -141,6 +143,29 @@ fn a_writers_words_stand_where_the_header_says() {
     );
 }
 
+/// The entry before value 64 holds what the writer's row held there.
+#[test]
+fn an_entrys_words_stand_where_the_header_says() {
+    let bits = [1.0, 3.0, 2.0, 2.5].map(f32::to_bits).repeat(20);
+    let (mut row, mut buffer) = ([0; ffi::STATE_WORDS], [0; 400]);
+    let (mut table, mut entries) = ([7; 2 * ffi::ENTRY_WORDS + 1], 0);
+    assert_eq!(ffi::macaque_v_new((0, 0), (0, 0), &mut row), ACCEPTED);
+    let mut before = row;
+    assert_eq!(
+        ffi::macaque_v_compress_values(&mut before, &bits[..64], &mut [0; 400]),
+        ACCEPTED
+    );
+    assert_eq!(
+        ffi::table_compress_values(&mut row, &bits, &mut buffer, &mut table, &mut entries),
+        ACCEPTED
+    );
+    let names = ["PLACE", "LAST", "LEADING", "TRAILING"];
+    let at = |entry: usize| words(&table[ffi::ENTRY_WORDS * entry..], "ENTRY", &names);
+    assert_eq!(at(0), [0, 0, 255, 0]);
+    assert_eq!(at(1), words(&before, "WRITER", &names));
+    assert_eq!((entries, table[2 * ffi::ENTRY_WORDS]), (2, 7));
+}
+
 #[test]
 fn a_fresh_model_alone_has_0_in_its_last_word_and_a_builders_1() {
     let mut builder = [9; ffi::MODEL_BUILDER_WORDS];
@@ -191,6 +216,7 @@ fn a_row_too_short_for_the_state_that_is_read_is_2_behind_1() {
     ] {
         let asked = [
             ffi::macaque_v_compress_values(&mut row, &[0], &mut []),
+            ffi::table_compress_values(&mut row, &[0], &mut [], &mut [], &mut 9),
             ffi::pmc_mean_fit_value(&mut row, 0),
             ffi::pmc_mean_bytes_per_value(&row, 0, &mut []),
             ffi::pmc_mean_model(&row, &mut []),
@@ -200,7 +226,7 @@ fn a_row_too_short_for_the_state_that_is_read_is_2_behind_1() {
             ffi::model_builder_try_to_update_models(&mut row, i64::MAX, 0),
             ffi::model_builder_finish(&row, 0, &mut []),
         ];
-        assert_eq!(asked, [Fault::from(number); 9], "{row:X?}");
+        assert_eq!(asked, [Fault::from(number); 10], "{row:X?}");
     }
     // A builder's row may hold the words of the second bound too.
     let mut row = [0, 0, 0, 0, 0, 0, 0, 1, no_bound];
@@ -252,6 +278,13 @@ fn every_reading_call_says_where_the_stream_broke() {
     let reopened = ffi::macaque_v_reopen(&mut buffer, 6, (3, 1), (0, 0), (0, 0), &mut row);
     assert_eq!((reopened, buffer), (told, bytes));
     assert_eq!(ffi::reader_last_value(&bytes, 3, (0, 0), &mut out), told);
+    let (table, mut entries) = ([0, 0, 255, 0], 1);
+    let lent = (&table[..], &mut entries);
+    let reopened = ffi::table_reopen(&mut buffer, 6, (3, 1), (0, 0), (0, 0), &mut row, lent);
+    assert_eq!((reopened, buffer, entries), (told, bytes, 1));
+    assert_eq!(ffi::table_check(&bytes, 3, (0, 0), (&table, 1)), told);
+    let range = ffi::table_range(&bytes, 3, (0, 0), (&table, 1), 1..3, &mut out);
+    assert_eq!(range, told);
     assert_eq!((row, out), ([7; ffi::STATE_WORDS], [7; 3]));
 
     let mut reader = [0; ffi::READER_WORDS];

@@ -2,9 +2,9 @@
 //! what a thread needs besides.
 
 use modelardb_rattle::{
-    ErrorBound, Line, MacaqueV, ModelBuilder, Opening, PMCMean, Refusal, Segment, Swing,
-    choose_model, is_value_within_error_bound, macaque_v, maximum_allowed_deviation, parameters,
-    pmc_mean, swing,
+    ErrorBound, Line, MacaqueV, ModelBuilder, Opening, PMCMean, PlaceTable, Refusal, Segment,
+    Swing, TabledWriter, choose_model, is_value_within_error_bound, macaque_v,
+    maximum_allowed_deviation, parameters, pmc_mean, swing,
 };
 use std::thread;
 
@@ -40,6 +40,39 @@ fn a_grid_takes_5_kib_for_each_1024_values() {
         let last = in_a_thread(5 * 1024 * blocks + BESIDES, read);
         assert_eq!(last, Ok((count - 1) as f32));
     }
+}
+
+#[test]
+fn a_range_takes_5_kib_for_each_1024_values() {
+    for blocks in [1, 2, 16, 64] {
+        let count = 1024 * blocks;
+        let bytes = stream(count).expect("room for the values");
+        let table = PlaceTable::from_words(vec![0, 0, 255, 0]);
+        let read = move || table.range(&bytes, count, Opening::First, 0..count);
+        let values = in_a_thread(5 * 1024 * blocks + BESIDES, read);
+        assert_eq!(
+            values.map(|values| values[count - 1]),
+            Ok((count - 1) as f32)
+        );
+    }
+}
+
+#[test]
+fn writing_reopening_and_checking_with_a_table_take_less_than_16_kib() {
+    let count = MacaqueV::MOST_VALUES;
+    let entries = in_a_thread(16 << 10, move || {
+        let values: Vec<f32> = (0..count).map(|number| number as f32).collect();
+        let (lossless, first) = (ErrorBound::Lossless, Opening::First);
+        let mut buffer = vec![0; 6 * count];
+        let mut writer = TabledWriter::new(lossless, first)?;
+        writer.compress_values(&values, &mut buffer)?;
+        let (used, table) = (writer.writer().bytes_used(), writer.table());
+        table.check(&buffer[..used], count, first)?;
+        table.range(&buffer[..used], count, first, count - 12..count)?;
+        let on = TabledWriter::reopen(&mut buffer, used, count, count, first, lossless, table)?;
+        Ok::<_, Refusal>(on.table().entries())
+    });
+    assert_eq!(entries, Ok(PlaceTable::entries_for(count)));
 }
 
 #[test]

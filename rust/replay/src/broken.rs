@@ -2,14 +2,15 @@
 //! there.
 
 use crate::record::Record;
+use crate::table;
 use modelardb_rattle::ffi::STATE_WORDS;
 use side_by_side::inputs::ONE;
 
 /// What memory holds before a call.
 const STALE: u8 = 0x5A;
 
-/// How many repeats stand in front.
-const REPEATS: [usize; 3] = [1, 4, 9];
+/// How many repeats stand in front, the last of them where there is a place table.
+const REPEATS: [usize; 4] = [1, 4, 9, 70];
 
 /// The bits behind them, and how many values those are to be: a header that is cut off, a keep code before
 /// any window, a window of no bits, a set padding bit, a further byte.
@@ -35,9 +36,10 @@ struct Broken {
 pub fn records(call: usize) -> Vec<Record> {
     let mut records = vec![];
     for mode in [0, 1] {
-        for repeats in REPEATS {
+        let with_table = REPEATS.len() - usize::from(call < 38);
+        for repeats in &REPEATS[..with_table] {
             for (tail, more) in TAILS {
-                let broken = Broken::new(mode, repeats, tail, more);
+                let broken = Broken::new(mode, *repeats, tail, more);
                 records.extend(broken.record(call));
             }
         }
@@ -97,8 +99,30 @@ impl Broken {
                 p: self.bytes,
                 ..record
             },
+            39..=41 => self.with_its_table(record),
             _ => return None,
         })
+    }
+
+    /// With the table of the values before the tail. A range takes in the value that breaks.
+    fn with_its_table(self, record: Record) -> Record {
+        let (count, used) = (self.count as u64, self.bytes.len() as u64);
+        let begin = self.read as u64 - 1;
+        let (x, w, room) = match record.call {
+            39 => (vec![self.mode, ONE, 0, 0], vec![used, count, count / 2], 0),
+            40 => (vec![self.mode, ONE], vec![count], 0),
+            _ => (vec![self.mode, ONE], vec![count, begin, count], 2),
+        };
+        let words = if record.call == 39 { STATE_WORDS } else { 0 };
+        Record {
+            u: table::of_repeats(self.mode, self.read),
+            x,
+            w,
+            v: vec![STALE.into(); room],
+            r: vec![STALE.into(); words],
+            p: self.bytes,
+            ..record
+        }
     }
 
     /// As the residuals behind a line of 1.0, or an average, at two timestamps of their own.

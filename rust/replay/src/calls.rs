@@ -5,10 +5,10 @@ use modelardb_rattle::Fault;
 use modelardb_rattle::ffi::StoredSegment;
 use oracle::paper::models::ErrorBound;
 use oracle::paper::{Answer, models, numbers};
-use side_by_side::face::{self, choice, fit, reader, segments};
+use side_by_side::face::{self, choice, fit, reader, segments, table};
 
 /// Their names, and the refusals that each can give.
-pub const CALLS: [(&str, &[u64]); 38] = [
+pub const CALLS: [(&str, &[u64]); 42] = [
     ("modelardb_widen", &[]),
     ("modelardb_narrow", &[]),
     ("modelardb_is_value_within_error_bound", &[1, 4]),
@@ -56,6 +56,10 @@ pub const CALLS: [(&str, &[u64]); 38] = [
     ("modelardb_reader_next", &[2, 3, 4, 5, 6, 7]),
     ("modelardb_reader_end", &[2, 8]),
     ("modelardb_reader_last_value", &[3, 4, 5, 6, 7, 8]),
+    ("modelardb_table_compress_values", &[1, 2, 3, 4, 12, 13]),
+    ("modelardb_table_reopen", &[1, 3, 4, 5, 6, 7, 8, 12, 13]),
+    ("modelardb_table_check", &[3, 5, 6, 7, 8, 12, 13]),
+    ("modelardb_table_range", &[3, 4, 5, 6, 7, 12, 13]),
 ];
 
 /// What a call answers: number, value and place, or, of the two that are never refused, what they give.
@@ -78,7 +82,8 @@ fn answer(record: &mut Record) -> Told {
         15..22 => told(of_swing(record)),
         22..26 => told(of_the_choice(record)),
         26..34 => told(of_segments(record)),
-        _ => told(of_the_reader(record)),
+        34..38 => told(of_the_reader(record)),
+        _ => told(of_the_table(record)),
     }
 }
 
@@ -257,4 +262,38 @@ fn of_the_reader(record: &mut Record) -> Fault {
         36 => reader::end(p, s),
         _ => reader::last_value(p, w[0] as usize, (x[0], x[1]), v),
     }
+}
+
+/// The first word of `u` is how many entries are in use.
+fn of_the_table(record: &mut Record) -> Fault {
+    let Record {
+        call,
+        x,
+        w,
+        p,
+        v,
+        r,
+        u,
+        ..
+    } = record;
+    let size = |place: usize| w[place] as usize;
+    let [used, words @ ..] = &mut u[..] else {
+        unreachable!("a table has a number of entries");
+    };
+    let mut entries = *used as usize;
+    let fault = match call {
+        38 => table::compress_values(r, v, p, words, &mut entries),
+        39 => {
+            let (opening, bound) = ((x[0], x[1]), (x[2], x[3]));
+            let lent = (&*words, &mut entries);
+            table::reopen(p, size(0), (size(1), size(2)), opening, bound, r, lent)
+        }
+        40 => table::check(p, size(0), (x[0], x[1]), (words, entries)),
+        _ => {
+            let values = size(1)..size(2);
+            table::range(p, size(0), (x[0], x[1]), (words, entries), values, v)
+        }
+    };
+    *used = entries as u64;
+    fault
 }

@@ -2,6 +2,7 @@
 
 use crate::calls::answered;
 use crate::record::Record;
+use crate::table;
 use modelardb_rattle::Fault;
 use modelardb_rattle::ffi::{
     MODEL_BUILDER_WORDS, PMC_MEAN_WORDS, READER_WORDS, SEGMENT_WORDS, SELECTED_MODEL_WORDS,
@@ -12,7 +13,7 @@ use side_by_side::face::{self, choice, fit, reader, segments};
 use side_by_side::inputs::{ABOUT_MOST, Inputs, ONE, SPECIAL};
 
 /// What memory holds before a call.
-const STALE: u8 = 0x5A;
+pub const STALE: u8 = 0x5A;
 
 /// Records that no drawing finds: at the limits of counts, lists and states, and above them.
 pub fn at_limits(call: usize) -> Vec<Record> {
@@ -62,6 +63,7 @@ fn within_limits(call: usize) -> Vec<Record> {
             r: vec![STALE.into(); SEGMENT_WORDS],
             ..record
         }],
+        38.. => table::within_limits(call),
         _ => vec![],
     }
 }
@@ -86,12 +88,12 @@ fn above_limits(call: usize) -> Vec<Record> {
                 ..record.clone()
             })
             .to_vec(),
-        5 => {
+        5 | 38 => {
             record.v = vec![0; MOST_VALUES + 1];
             vec![record]
         }
-        6..=8 | 13 | 14 | 37 => {
-            let place = usize::from(call == 6);
+        6..=8 | 13 | 14 | 37 | 39..=41 => {
+            let place = usize::from(call == 6 || call == 39);
             record.w[place] = MOST_VALUES as u64 + 1;
             vec![record]
         }
@@ -122,7 +124,7 @@ fn above_limits(call: usize) -> Vec<Record> {
 }
 
 /// The most values, written with the first in full into so many bytes.
-fn written(bytes: usize) -> Record {
+pub fn written(bytes: usize) -> Record {
     let mut row = vec![0; STATE_WORDS];
     face::new((0, 0), (0, 0), &mut row);
     Record {
@@ -134,7 +136,7 @@ fn written(bytes: usize) -> Record {
 }
 
 /// A stream of the most values, reopened behind the first k.
-fn reopened(k: u64) -> Record {
+pub fn reopened(k: u64) -> Record {
     Record {
         x: vec![1, ONE, 0, 0],
         w: vec![MOST_VALUES as u64 / 4, MOST_VALUES as u64, k],
@@ -164,7 +166,8 @@ pub fn drawn(call: usize, inputs: &mut Inputs) -> Record {
         22..26 => of_the_choice(call, inputs),
         26..31 => of_parameters(call, inputs),
         31..34 => of_reading(inputs),
-        _ => of_the_reader(call, inputs),
+        34..38 => of_the_reader(call, inputs),
+        _ => table::drawn(call, inputs),
     };
     Record { call, ..record }
 }
@@ -172,7 +175,7 @@ pub fn drawn(call: usize, inputs: &mut Inputs) -> Record {
 // ---- numbers and memory
 
 /// A bound's two words: one in eight of a kind that there is not.
-fn bound(inputs: &mut Inputs) -> Vec<u32> {
+pub fn bound(inputs: &mut Inputs) -> Vec<u32> {
     let (kind, bits) = face::bound_words(inputs.any_bound());
     match inputs.below(8) {
         0 => vec![3 + inputs.below(3) as u32, bits],
@@ -181,7 +184,7 @@ fn bound(inputs: &mut Inputs) -> Vec<u32> {
 }
 
 /// How a stream opens: one in ten in a mode that there is not.
-fn opening(inputs: &mut Inputs) -> Vec<u32> {
+pub fn opening(inputs: &mut Inputs) -> Vec<u32> {
     let (mode, value) = face::opening_words(inputs.opening());
     match inputs.below(10) {
         0 => vec![2 + inputs.below(3) as u32, value],
@@ -190,7 +193,7 @@ fn opening(inputs: &mut Inputs) -> Vec<u32> {
 }
 
 /// Lent memory for so many words: as many, a few more or, one time in five, fewer.
-fn room<T: Clone>(inputs: &mut Inputs, words: usize, stale: T) -> Vec<T> {
+pub fn room<T: Clone>(inputs: &mut Inputs, words: usize, stale: T) -> Vec<T> {
     let length = match inputs.below(5) {
         0 => inputs.below(words as u64 + 1) as usize,
         _ => words + inputs.below(3) as usize,
@@ -199,7 +202,7 @@ fn room<T: Clone>(inputs: &mut Inputs, words: usize, stale: T) -> Vec<T> {
 }
 
 /// A state with, one time in three, one of its words changed, and one in ten without its last word.
-fn handed(inputs: &mut Inputs, mut row: Vec<u64>) -> Vec<u64> {
+pub fn handed(inputs: &mut Inputs, mut row: Vec<u64>) -> Vec<u64> {
     if inputs.below(3) == 0 {
         let place = inputs.below(row.len() as u64) as usize;
         row[place] = match inputs.below(3) {
@@ -576,8 +579,11 @@ mod tests {
         let accepted = [0; 3];
         assert_eq!(answers(5), [accepted, [4, 0, 0]]);
         assert_eq!(answers(6), [accepted; 3]);
-        for call in [7, 8, 13, 14, 19, 30, 37] {
+        for call in [7, 8, 13, 14, 19, 30, 37, 40] {
             assert_eq!(answers(call), [accepted], "call {call}");
         }
+        assert_eq!(answers(38), [accepted, [4, 0, 0], [4, 0, 0]]);
+        assert_eq!(answers(39), [accepted; 3]);
+        assert_eq!(answers(41), [accepted; 2]);
     }
 }

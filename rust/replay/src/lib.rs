@@ -6,6 +6,7 @@ mod broken;
 mod calls;
 mod draw;
 mod record;
+mod table;
 
 pub use calls::{CALLS, Told};
 

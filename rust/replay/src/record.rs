@@ -5,7 +5,7 @@ use std::fmt::Write;
 
 /// What each list holds is said in crates/replay/src/calls.rt: `x` and `w` the numbers of 32 and of 64 bits in
 /// the order of the parameters, `t` timestamps, `p` and `q` bytes, `v` values, `s` a row that is
-/// only read and `r` one that is written.
+/// only read and `r` one that is written, `u` how many entries of a place table are in use and then its words.
 #[derive(Clone, Default)]
 pub struct Record {
     pub call: usize,
@@ -16,6 +16,7 @@ pub struct Record {
     pub q: Vec<u8>,
     pub v: Vec<u32>,
     pub r: Vec<u64>,
+    pub u: Vec<u64>,
     pub s: Vec<u64>,
 }
 
@@ -47,12 +48,13 @@ impl Record {
     }
 
     /// The memory that a call may change.
-    fn lent(&self) -> [(char, Vec<u64>); 4] {
+    fn lent(&self) -> [(char, Vec<u64>); 5] {
         [
             ('p', wide(&self.p)),
             ('q', wide(&self.q)),
             ('v', wide(&self.v)),
             ('r', self.r.clone()),
+            ('u', self.u.clone()),
         ]
     }
 }

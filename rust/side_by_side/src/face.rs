@@ -5,6 +5,7 @@ pub mod choice;
 pub mod fit;
 pub mod reader;
 pub mod segments;
+pub mod table;
 
 use modelardb_rattle::ffi::{STATE_WORDS, Words};
 use modelardb_rattle::{Fault, Refusal};
@@ -23,13 +24,10 @@ pub fn new(bound: Words, opening: Words, row: &mut [u64]) -> Fault {
     })
 }
 
-/// The words of the bound and of the mode stay as they are handed in.
 pub fn compress_values(row: &mut [u64], values: &[u32], buffer: &mut [u8]) -> Fault {
     told(|| {
         let after = state_in(row)?.compress_values(values, buffer)?;
-        let kept = [row[0], row[1], row[7]];
-        put(row, after);
-        [row[0], row[1], row[7]] = kept;
+        put_written(row, after);
         Ok(())
     })
 }
@@ -182,6 +180,13 @@ fn state_in(row: &[u64]) -> Answer<MacaqueV> {
         place: row[8] as usize,
         length: row[9] as usize,
     })
+}
+
+/// The words of a state after a write. Those of the bound and of the mode stay as they are handed in.
+fn put_written(row: &mut [u64], after: MacaqueV) {
+    let kept = [row[0], row[1], row[7]];
+    put(row, after);
+    [row[0], row[1], row[7]] = kept;
 }
 
 /// The state's words to the front of the row.

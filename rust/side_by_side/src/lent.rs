@@ -5,11 +5,12 @@ use modelardb_rattle::Fault;
 use std::fmt::Debug;
 use std::sync::LazyLock;
 
-/// What stands guard beside bytes, values, words and times.
+/// What stands guard beside bytes, values, words, times and counts.
 pub const BYTE_GUARD: u8 = 0xA5;
 pub const VALUE_GUARD: u32 = 0xA5A5_5A5A;
 pub const WORD_GUARD: u64 = 0xA5A5_5A5A_A5A5_5A5A;
 pub const TIME_GUARD: i64 = 0x5A5A_A5A5_5A5A_A5A5;
+pub const COUNT_GUARD: usize = 0xA5A5_5A5A;
 
 /// What lent bytes, values and words hold before a call.
 pub const STALE: u8 = 0x5A;

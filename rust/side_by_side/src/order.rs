@@ -4,15 +4,15 @@ use crate::context::Context;
 use modelardb_rattle::Fault;
 use modelardb_rattle::ffi::Words;
 use oracle::paper::refusal::{
-    BOUND, COUNTS, ENDS_EARLY, FORM, LEFTOVER, LIMIT, NO_MODEL, NO_WINDOW, OUTPUT, STATE, TIMES,
-    WINDOW,
+    BOUND, COUNTS, ENDS_EARLY, FORM, LEFTOVER, LIMIT, NO_MODEL, NO_WINDOW, OUTPUT, STATE, TABLE,
+    TIMES, WINDOW,
 };
 
 /// "Where several of 1, 2, 3, 12, 4, 10, 9, 11 apply, the first in that order is given. Refusals 5 to 8
-/// come after those": of these a stream has one, at its first place.
-const ORDER: [u32; 12] = [
-    BOUND, STATE, LIMIT, COUNTS, OUTPUT, TIMES, FORM, NO_MODEL, ENDS_EARLY, NO_WINDOW, WINDOW,
-    LEFTOVER,
+/// come after those": of these a stream has one, at its first place. "13, table doesn't match ... after 12".
+const ORDER: [u32; 13] = [
+    BOUND, STATE, LIMIT, COUNTS, TABLE, OUTPUT, TIMES, FORM, NO_MODEL, ENDS_EARLY, NO_WINDOW,
+    WINDOW, LEFTOVER,
 ];
 
 /// The answer's number must be that of the first of the causes.

@@ -1,6 +1,6 @@
 -- `exports::fault_with` meets its contract, test by test. Assumes nothing.
 use borrow.Author.Needs.{needs}
-use borrow.Author.Tests.{le-leb, lt-leb, eq-eqb, ne-eqb}
+use borrow.Author.Tests.{le-leb, lt-leb}
 use mathlib.Core.Path.{_≡_, ap, _∙_}
 use Prim.Native.Nat.{ℕ, _≤_, _<_}
 use Rattle.models.specs.Answers.{fault}
@@ -14,18 +14,19 @@ module _ (need room : ℕ) (f : Fault) where
   unfolding refusalFault
   at-most-3 h = rw (le-leb (f .number) 3 h)
 
-  is-12 : f .number ≡ 12 → f ≡ refusalFault need room f
-  unfolding refusalFault
-  is-12 h = rw (h)
+  module _ (above : 3 < f .number) where
+    at-least-12 : 12 ≤ f .number → f ≡ refusalFault need room f
+    unfolding refusalFault
+    at-least-12 h = rw (lt-leb (f .number) 3 above, le-leb 12 (f .number) h)
 
-  module _ (above : 3 < f .number) (other : ¬ (f .number ≡ 12)) where
+  module _ (above : 3 < f .number) (below : f .number < 12) where
     no-room : room < need → fault 4 ≡ refusalFault need room f
     unfolding refusalFault
-    no-room h = rw (lt-leb (f .number) 3 above, ne-eqb (f .number) 12 other, lt-leb need room h)
+    no-room h = rw (lt-leb (f .number) 3 above, lt-leb 12 (f .number) below, lt-leb need room h)
 
     with-room : need ≤ room → f ≡ refusalFault need room f
     unfolding refusalFault
-    with-room h = rw (lt-leb (f .number) 3 above, ne-eqb (f .number) 12 other, le-leb need room h)
+    with-room h = rw (lt-leb (f .number) 3 above, lt-leb 12 (f .number) below, le-leb need room h)
 
 returns : tie.Need-returns
 returns c =
@@ -35,7 +36,7 @@ returns c =
 returns-2 : tie.Need-returns-2
 returns-2 c =
     let a = c .before .before .before .args in
-    is-12 (a .need) (a .room) _ (c .if2 .taken) ∙ ap (refusalFault (a .need) (a .room)) (c .before .before .fault-of .ensures)
+    at-least-12 (a .need) (a .room) _ (c .before .if1 .left) (c .if2 .taken) ∙ ap (refusalFault (a .need) (a .room)) (c .before .before .fault-of .ensures)
 
 returns-3 : tie.Need-returns-3
 returns-3 c =

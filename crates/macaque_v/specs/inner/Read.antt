@@ -1,20 +1,21 @@
 -- Words of inner contracts and of proofs, beside specs/Read. Assumes nothing.
 use mathlib.Core.Path.{_≡_}
-use mathlib.Core.Bool.{Bool}
+use mathlib.Core.Bool.{Bool, true, false}
 use mathlib.Core.List.{List, _++_}
 use Prim.Native.Nat.{ℕ, _+_, _*_, _≤_}
 use lib.ListN.{length, take, drop}
-use Rattle.models.specs.Answers.{Said, answered, refused}
+use Rattle.models.specs.Answers.{Said, Done, answered, refused}
 use Rattle.models.specs.Refusals.{faultOf}
 use Rattle.models.specs.declared.ErrorBound.{ErrorBound}
 use Rattle.models.specs.declared.Refusal.{Refusal}
 use Rattle.stream.specs.Format.{State, windowIn}
 use Rattle.stream.specs.Read as stream
-use Rattle.stream.specs.Read.{ended, Reopened, reopened, unopened}
+use Rattle.stream.specs.Read.{Reading, ended, Reopened, reopened, unopened}
 use Rattle.stream.specs.Calls as theory
 use Rattle.stream.specs.Calls.{valuesRead}
 use Rattle.macaque_v.specs.State.{Known, streamIn, isFirst, openingValue}
 use Rattle.macaque_v.specs.Write.{coderOf}
+use Rattle.macaque_v.specs.ReadRun.{endSaid}
 use Rattle.macaque_v.specs.inner.ReadRun.{readFrom, minMaxIn}
 use Rattle.macaque_v.specs.declared.MacaqueV.{MacaqueV}
 use Rattle.macaque_v.specs.declared.Opening.{Opening}
@@ -22,9 +23,17 @@ use Rattle.macaque_v.specs.declared.read_run.Cursor.{Cursor}
 use Rattle.macaque_v.specs.declared.read_run.Walk.{Walk}
 use Rattle.macaque_v.specs.declared.read_run.Walk.the-variants as OfWalk
 
--- the n values from where reading stands, at the end of a stream
-abbrev pub valuesFrom : Bool → List ℕ → Cursor → ℕ → Said (List ℕ)
-valuesFrom first bytes at n = valuesRead (ended (readFrom first bytes at n))
+-- the n values from where reading stands: a stream's last ones where `whole` is true, and nothing may follow them then
+abbrev pub endedWhere : {A : Type 0} → Bool → Reading A → Reading A
+endedWhere true q = ended q
+endedWhere false q = q
+
+abbrev pub endWhere : Bool → List ℕ → Cursor → Said Done
+endWhere true bytes at = endSaid bytes at
+endWhere false bytes at = answered tt
+
+abbrev pub valuesFrom : Bool → Bool → List ℕ → Cursor → ℕ → Said (List ℕ)
+valuesFrom whole first bytes at n = valuesRead (endedWhere whole (readFrom first bytes at n))
 
 -- ---- grid
 

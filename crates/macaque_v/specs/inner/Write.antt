@@ -8,6 +8,8 @@ use Rattle.bits.specs.Bits.{laidIn}
 use Rattle.models.specs.declared.ErrorBound.{ErrorBound}
 use Rattle.stream.specs.Format.{State, rawNext, windowIn}
 use Rattle.stream.specs.Write.{keptOne, written}
+use Rattle.stream.specs.Table.{Entry, entriesFor, added}
+use Rattle.stream.specs.TableCalls.{laidEntries}
 use Rattle.coding.specs.Keep.{keepRule}
 use Rattle.coding.specs.inner.Code.{Coded}
 use Rattle.coding.specs.declared.code.Code.{Code}
@@ -26,6 +28,14 @@ writtenBy m xs = written (ruleBy m) (streamBy m) (stateOf m) xs
 abbrev pub laidWhere : Bool → List ℕ → ℕ → List Bool → List ℕ
 laidWhere true buf p bits = laidIn buf p bits
 laidWhere false buf p bits = buf
+
+-- the entries that m adds to a table for a list of inputs, behind those that its length asks for; or none
+abbrev pub entriesBy : MacaqueV → List ℕ → List Entry
+entriesBy m xs = added (ruleBy m) (streamBy m) (stateOf m) xs
+
+abbrev pub notedWhere : Bool → List ℕ → MacaqueV → List ℕ → List ℕ
+notedWhere true words m xs = laidEntries words (entriesFor (m .length)) (entriesBy m xs)
+notedWhere false words m xs = words
 
 -- of n values the one at r, if any, is stored raw
 abbrev pub RawAt : MacaqueV → ℕ → ℕ → Type 0

@@ -1,5 +1,5 @@
-//! Readings from a file: a time as 06:05 and a value on each line, the times increasing; a line that begins
-//! with # is skipped, and so is an empty one.
+//! Readings from a file: a time as 06:05 and a value on each line, the times increasing, those before the first
+//! one's on the next day; a line that begins with # is skipped, and so is an empty one.
 
 use modelardb_rattle::ErrorBound;
 
@@ -8,7 +8,7 @@ use modelardb_rattle::ErrorBound;
 pub struct Readings {
     /// The times as they stand there.
     pub names: Vec<String>,
-    /// Their minutes of the day.
+    /// Their minutes from the first day's midnight on.
     pub times: Vec<i64>,
     pub values: Vec<f32>,
 }
@@ -40,7 +40,7 @@ impl Readings {
         let [name, value] = words[..] else {
             return Err(format!("{line:?} is not a time and a value"));
         };
-        let time = minute(name).ok_or_else(|| format!("{name:?} is no time of the day"))?;
+        let time = self.minute(name)?;
         if self.times.last().is_some_and(|&last| last >= time) {
             return Err(format!("{name} is not later than the time before it"));
         }
@@ -48,6 +48,13 @@ impl Readings {
         self.times.push(time);
         self.names.push(name.to_string());
         Ok(())
+    }
+
+    /// The minute at a time as 06:05: where the first reading's time is later, that of the next day.
+    pub fn minute(&self, name: &str) -> Result<i64, String> {
+        let minute = minute(name).ok_or_else(|| format!("{name:?} is no time of the day"))?;
+        let is_next_day = self.times.first().is_some_and(|&first| minute < first);
+        Ok(minute + if is_next_day { 24 * 60 } else { 0 })
     }
 }
 

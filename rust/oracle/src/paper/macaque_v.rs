@@ -39,7 +39,7 @@ impl Window {
 
     /// "Its window is the opening one or, at length 1 or more only, has leading + trailing at most
     /// 31."
-    fn may_stand(self, length: usize) -> bool {
+    pub(super) fn may_stand(self, length: usize) -> bool {
         self == Window::OPENING
             || (length >= 1 && u32::from(self.leading) + u32::from(self.trailing) <= 31)
     }
@@ -131,11 +131,16 @@ impl MacaqueV {
         may_be_used(self.place, self.length, self.window, bytes)
     }
 
+    /// Refuses a write of so many values on this state, over so many bytes: 1 2 3.
+    pub(super) fn judge_write(self, values: usize, bytes: usize) -> Answer<()> {
+        self.error_bound.judge()?;
+        refuse_if(!self.may_be_used(bytes), refusal::STATE)?;
+        refuse_if(self.length + values > MOST_VALUES, refusal::LIMIT)
+    }
+
     /// Writes values behind the place; the state after them. Refusals: 1 2 3 4.
     pub fn compress_values(self, values: &[u32], buffer: &mut [u8]) -> Answer<Self> {
-        self.error_bound.judge()?;
-        refuse_if(!self.may_be_used(buffer.len()), refusal::STATE)?;
-        refuse_if(self.length + values.len() > MOST_VALUES, refusal::LIMIT)?;
+        self.judge_write(values.len(), buffer.len())?;
         let (mut after, mut bits) = (self, vec![]);
         for &value in values {
             let (code, next) = after.step(value);
@@ -155,7 +160,7 @@ impl MacaqueV {
     }
 
     /// The bits that one value is written as, and the state after it.
-    fn step(self, input: u32) -> (Vec<bool>, Self) {
+    pub(super) fn step(self, input: u32) -> (Vec<bool>, Self) {
         if self.length == 0 && self.with_first {
             return (field(input, 32), self.with(input, self.window, 32));
         }
@@ -274,6 +279,11 @@ impl<'a> Reader<'a> {
     pub fn next_value(&self) -> Read<(Row, Self)> {
         refuse_if(!self.may_be_used(), refusal::STATE)?;
         refuse_if(self.length == MOST_VALUES, refusal::LIMIT)?;
+        self.read_on()
+    }
+
+    /// The value whose code begins at the place, and the reader after it. Refusals: 5 to 7.
+    pub(super) fn read_on(&self) -> Read<(Row, Self)> {
         let row = self.row()?;
         let next = Self {
             last_value: row.value,
@@ -357,14 +367,24 @@ impl<'a> Reader<'a> {
 
 /// "Reading takes exactly the stream's bytes and a count; count 0 needs no bytes."
 pub fn read_all(bytes: &[u8], count: usize, opening: Opening) -> Read<Vec<Row>> {
-    let (mut reader, mut rows) = (Reader::open(bytes, opening), vec![]);
+    let read = read_through(bytes, count, opening)?;
+    Ok(read.into_iter().map(|(_, row)| row).collect())
+}
+
+/// The same, each value with the reader before it.
+pub(super) fn read_through(
+    bytes: &[u8],
+    count: usize,
+    opening: Opening,
+) -> Read<Vec<(Reader<'_>, Row)>> {
+    let (mut reader, mut read) = (Reader::open(bytes, opening), vec![]);
     for _ in 0..count {
         let (row, next) = reader.next_value()?;
-        rows.push(row);
+        read.push((reader, row));
         reader = next;
     }
     reader.end()?;
-    Ok(rows)
+    Ok(read)
 }
 
 /// The values of a stream. Refusals: 3 4, then 5 to 8.

@@ -8,6 +8,7 @@ pub mod listing;
 pub mod macaque_v;
 pub mod models;
 pub mod numbers;
+pub mod place_table;
 pub mod pmc_mean;
 pub mod segments;
 pub mod swing;
@@ -76,9 +77,11 @@ pub mod refusal {
     pub const NO_MODEL: u32 = 11;
     /// k above count, used above buffer, unequal lengths, or no model value left.
     pub const COUNTS: u32 = 12;
+    /// Table doesn't match.
+    pub const TABLE: u32 = 13;
 }
 
-/// Refuses with `number` where its cause applies. The calls judge in the order 1, 2, 3, 12, 4, 10,
+/// Refuses with `number` where its cause applies. The calls judge in the order 1, 2, 3, 12, 13, 4, 10,
 /// 9, 11, and after those 5 to 8 at the first place in the stream.
 pub fn refuse_if(applies: bool, number: u32) -> Answer<()> {
     if applies { Err(number) } else { Ok(()) }

@@ -8,6 +8,7 @@ mod differences;
 mod library_fit;
 mod library_segments;
 mod library_stream;
+mod library_table;
 mod list_program;
 mod macaque_v;
 mod numbers;
@@ -58,6 +59,13 @@ pub const ALL: &[Part] = &[
     Part::new("library: segments' causes", library_segments::causes),
     Part::new("library: segments of a run", library_segments::paths),
     Part::new("library: broken streams", broken::broken),
+    Part::new("library: tables written", library_table::written),
+    Part::new("library: tables resumed", library_table::resumed),
+    Part::new("library: tables' ranges", library_table::ranges),
+    Part::new("library: tables of others", library_table::others),
+    Part::new("library: tables of damaged streams", library_table::damaged),
+    Part::new("library: tables' words", library_table::words),
+    Part::new("library: tables' causes", library_table::causes),
     Part::new("parameter bytes", parameters::parameters),
     Part::new("segments", segments::segments),
     Part::new("list", list_program::list_program),

@@ -1,6 +1,7 @@
 -- `macaque_v::MacaqueV::compress_values` meets its contract: refused by the first cause that holds, else written. Assumes nothing.
 use borrow.Author.Needs.{needs}
 use mathlib.Core.Path.{_≡_, sym, ap, _∙_}
+use mathlib.Core.Bool.{false≢true}
 use Prim.Native.Nat.{ℕ}
 use lib.ListN.{length}
 use Rattle.bits.specs.Bits.{laidIn}
@@ -30,11 +31,11 @@ clear : (c : tie.After-enum-told)
     ≡ answered tt
 clear c = sym (judged (c .before .before)) ∙ ap saysVerdict (c .enum-told .given .1)
 
-write-all-requires : tie.Need-write-all-requires
-write-all-requires c κs =
-    let a = c .before .before .before .before .before .before .before .args in
-    let s = accepted (a .self) (a .values .now) (a .buffer .now) (clear (c .before)) in
-    (s .0, (λ _. s .1), s .2)
+write-noting-requires : tie.Need-write-noting-requires
+write-noting-requires c κs =
+    let a = c .before .before .before .before .before .before .before .before .args in
+    let s = accepted (a .self) (a .values .now) (a .buffer .now) (clear (c .before .before)) in
+    (s .0, (λ _. s .1), s .2, λ e. absurd (false≢true e))
 
 returns : tie.Need-returns
 unfolding writeAnswer writeMemory
@@ -50,12 +51,12 @@ returns c =
 returns-2 : tie.Need-returns-2
 unfolding writeAnswer writeMemory
 returns-2 c =
-    let a = c .before .before .before .before .before .before .before .before .before .before .args in
+    let a = c .before .before .before .before .before .before .before .before .before .before .before .before .args in
     let causes = writeCauses (a .self) (a .values .now) (lentBytes (length (a .buffer .now))) in
-    let h = clear (c .before .before .before .before) in
-    let w = c .before .before .write-all .ensures in (
+    let h = clear (c .before .before .before .before .before .before) in
+    let w = c .before .before .before .write-noting .ensures in (
       ap answeredOn (w .0) ∙ judging.accepted (refusing (a .self)) (answeredOn (writerAt (a .self) (wroteBy (a .self) (a .values .now)))) causes (none causes h),
-      w .1 ∙ judging.accepted (keeping (a .buffer .now)) (laidIn (a .buffer .now) (a .self .place) (writtenBy (a .self) (a .values .now))) causes (none causes h),
+      w .1 .0 ∙ judging.accepted (keeping (a .buffer .now)) (laidIn (a .buffer .now) (a .self .place) (writtenBy (a .self) (a .values .now))) causes (none causes h),
     )
 
 pub compress-values-spec : {M : Type 1} → statement M
@@ -66,7 +67,8 @@ compress-values-spec =
     (λ c κs. search needs)
     (λ c. search needs)
     (λ c. search needs)
-    write-all-requires
+    (λ c. search needs)
+    write-noting-requires
     returns
     (λ c. search needs)
     returns-2)

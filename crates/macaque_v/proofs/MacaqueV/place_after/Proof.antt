@@ -6,11 +6,11 @@ use Rattle.macaque_v.specs.declared.MacaqueV.{MacaqueV}
 use Rattle.macaque_v.proofs.MacaqueV.place_after.Statement.{statement}
 use Rattle.macaque_v.proofs.MacaqueV.place_after.Tie as tie
 
-write-all-requires : tie.Need-write-all-requires
-write-all-requires c κs = (search needs, (λ (e : false ≡ true). absurd (false≢true e)), search needs)
+write-noting-requires : tie.Need-write-noting-requires
+write-noting-requires c κs = (search needs, (λ (e : false ≡ true). absurd (false≢true e)), search needs, λ (e : false ≡ true). absurd (false≢true e))
 
 returns : tie.Need-returns
-returns c = ap (λ (w : MacaqueV). w .place) (c .before .write-all .ensures .0)
+returns c = ap (λ (w : MacaqueV). w .place) (c .before .before .write-noting .ensures .0)
 
 pub place-after-spec : {M : Type 1} → statement M
-place-after-spec = tie.close (tie.spec (λ c. search needs) write-all-requires returns)
+place-after-spec = tie.close (tie.spec (λ c. search needs) (λ c. search needs) write-noting-requires returns)

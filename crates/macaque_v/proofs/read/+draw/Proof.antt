@@ -13,15 +13,14 @@ use Rattle.macaque_v.specs.inner.ReadRun.{Reads, FillSays}
 use Rattle.macaque_v.specs.Read.{drawn}
 use Rattle.macaque_v.specs.inner.Read.{valuesFrom, drawnAt, Right}
 use Rattle.macaque_v.specs.declared.read_run.Run.{Run}
-use Rattle.macaque_v.proofs.ReadingEnd.{ends-wrong}
-use Rattle.macaque_v.proofs.Drawing.{from-wrong, from-early, from-right, from-then, drawn-behind, refused-behind, right-rest, right-none, right-copied}
+use Rattle.macaque_v.proofs.Drawing.{wrong-where, from-wrong, from-early, from-right, from-then, drawn-behind, refused-behind, right-rest, right-none, right-copied}
 use Rattle.macaque_v.proofs.read.draw.Reads as draw
 use Rattle.macaque_v.proofs.read.draw.Kinds as draw-kinds
 use Rattle.macaque_v.proofs.read.+draw.Lts-draw as draw-lts
 use Rattle.macaque_v.proofs.read_run.copy.Reads as copy-reads
 use Rattle.macaque_v.proofs.read_run.fill.Reads as fill-reads
 use Rattle.macaque_v.proofs.read_run.smaller.Reads as smaller-reads
-use Rattle.macaque_v.proofs.read_run.judge_end.Reads as judge-end-reads
+use Rattle.macaque_v.proofs.read.judge_behind.Reads as judge-behind-reads
 use Rattle.macaque_v.proofs.read.+draw.{statement}
 use Rattle.macaque_v.proofs.read.+draw.Tie.{close}
 
@@ -43,8 +42,8 @@ calls t = (
   fill-reads.Learnt,
   draw-below t,
   draw.Post,
-  judge-end-reads.Asked,
-  judge-end-reads.Learnt,
+  judge-behind-reads.Asked,
+  judge-behind-reads.Learnt,
   copy-reads.Asked,
   copy-reads.Learnt,
 )
@@ -62,7 +61,7 @@ filled t c =
 -- nothing stands behind the block, or the rest was drawn
 right : (t : ℕ) (c : draw-lts.Joined1 (calls t) (draw-at t) draw.Post)
     → Right (take (c .before .before .before .before .before .before .before .smaller .result) (c .before .before .before .before .before .fill .last .1 .1 .1 .1 .0))
-    (valuesFrom (c .before .before .before .before .before .before .before .before .before .before .args .first) (c .before .before .before .before .before .before .before .before .before .before .args .bytes .now) (c .before .before .before .before .before .before .before .before .before .before .args .at) (c .before .before .before .before .before .before .before .before .before .before .args .n))
+    (valuesFrom (c .before .before .before .before .before .before .before .before .before .before .args .whole) (c .before .before .before .before .before .before .before .before .before .before .args .first) (c .before .before .before .before .before .before .before .before .before .before .args .bytes .now) (c .before .before .before .before .before .before .before .before .before .before .args .at) (c .before .before .before .before .before .before .before .before .before .before .args .n))
     (c .before .before .before .before .before .before .before .before .before .before .args .i + c .before .before .before .before .before .before .before .smaller .result) (c .before .before .before .before .before .before .before .before .before .before .args .out .now) (c .if1 .out)
 right t c =
     let a = c .before .before .before .before .before .before .before .before .before .before .args in
@@ -72,14 +71,14 @@ right t c =
     let to = c .before .before .to .given .0 .0 in
     ⊎-elim
     (λ w.
-    let all = from-then (a .first) (a .bytes .now) (a .at) R (a .n) (omega arith) in
-    let said : saysGrid (w .2 .result) ≡ drawn (valuesFrom (a .first) (a .bytes .now) to (a .n - k)) = w .2 .ensures .0 in
-    right-rest us (a .i + k) (a .out .now) (c .if1 .out) (valuesFrom (a .first) (a .bytes .now) to (a .n - k)) all
+    let all = from-then (a .whole) (a .first) (a .bytes .now) (a .at) R (a .n) (omega arith) in
+    let said : saysGrid (w .2 .result) ≡ drawn (valuesFrom (a .whole) (a .first) (a .bytes .now) to (a .n - k)) = w .2 .ensures .0 in
+    right-rest us (a .i + k) (a .out .now) (c .if1 .out) (valuesFrom (a .whole) (a .first) (a .bytes .now) to (a .n - k)) all
     (ap saysGrid (sym (w .6 .given .1)) ∙ said) (w .7 ∙ w .2 .ensures .1) (ap length (w .7) ∙ w .2 .kept .1 .1 .1 .1 .1 .0))
     (λ w.
     let e : k ≡ a .n = omega arith in
     right-none us (a .i + k) (a .out .now) (c .if1 .out)
-    (ap (valuesFrom (a .first) (a .bytes .now) (a .at)) (sym e) ∙ from-right (a .first) (a .bytes .now) (a .at) R (sym (w .1 .ensures) ∙ ap saysVerdict (w .3 .given .1))) (w .4))
+    (ap (valuesFrom (a .whole) (a .first) (a .bytes .now) (a .at)) (sym e) ∙ from-right (a .whole) (a .first) (a .bytes .now) (a .at) R (sym (w .1 .ensures) ∙ ap saysVerdict (w .3 .given .1))) (w .4))
     (c .if1 .came)
 
 draw-smaller-requires : (t : ℕ) → draw-lts.Need-smaller-requires (calls t) (draw-at t) draw.Post
@@ -121,8 +120,8 @@ draw-returns t c =
     let us = take k (c .before .before .before .before .before .before .before .before .before .before .before .before .fill .last .1 .1 .1 .1 .0) in
     let d = c .before .before .before .before .before .draw in
     let to = c .before .before .before .before .before .before .before .before .before .to .given .0 .0 in
-    let rest = valuesFrom (a .first) (a .bytes .now) to (a .n - k) in
-    let all = from-then (a .first) (a .bytes .now) (a .at) (filled t (c .before .before .before .before .before .before .before .before .before)) (a .n) (omega arith) in
+    let rest = valuesFrom (a .whole) (a .first) (a .bytes .now) to (a .n - k) in
+    let all = from-then (a .whole) (a .first) (a .bytes .now) (a .at) (filled t (c .before .before .before .before .before .before .before .before .before)) (a .n) (omega arith) in
     let said : saysGrid (d .result) ≡ drawn rest = d .ensures .0 in
     let says = ap saysGrid (sym (c .before .r2 .given .1)) ∙ said in (
       says ∙ sym (ap drawn all ∙ drawn-behind us rest),
@@ -132,8 +131,8 @@ draw-returns t c =
 draw-enum-told : (t : ℕ) → draw-lts.Need-enum-told (calls t) (draw-at t) draw.Post
 draw-enum-told t c = search needs
 
-draw-judge-end-requires : (t : ℕ) → draw-lts.Need-judge-end-requires (calls t) (draw-at t) draw.Post
-draw-judge-end-requires t c κs =
+draw-judge-behind-requires : (t : ℕ) → draw-lts.Need-judge-behind-requires (calls t) (draw-at t) draw.Post
+draw-judge-behind-requires t c κs =
     let R = filled t (c .before .before) in
     (R .readable, omega (arith, R .counted))
 
@@ -152,8 +151,8 @@ draw-returns-2 t c =
     let k = f .before .before .smaller .result in
     let a = f .before .before .before .before .before .args in
     let e : k ≡ a .n = omega arith in
-    let stops = ends-wrong (filled t read) (ap saysVerdict (sym (r .r3 .given .1)) ∙ d .judge-end .ensures) in
-    let wrong = ap (valuesFrom (a .first) (a .bytes .now) (a .at)) (sym e) ∙ from-wrong (a .first) (a .bytes .now) (a .at) k (r .r3 .given .0 .0) stops in
+    let stops = wrong-where (filled t read) (a .whole) (ap saysVerdict (sym (r .r3 .given .1)) ∙ d .judge-behind .ensures) in
+    let wrong = ap (valuesFrom (a .whole) (a .first) (a .bytes .now) (a .at)) (sym e) ∙ from-wrong (a .whole) (a .first) (a .bytes .now) (a .at) k (r .r3 .given .0 .0) stops in
     (sym (ap drawn wrong), sym (ap (drawnAt (a .i) (a .out .now)) wrong))
 
 draw-slice-aggregate-copy : (t : ℕ) → draw-lts.Need-slice-aggregate-copy (calls t) (draw-at t) draw.Post
@@ -169,7 +168,7 @@ draw-returns-3 t c =
     let f = c .before .before .before .before .fill in
     let k = c .before .before .before .before .before .before .smaller .result in
     let says = subst (λ (q : Run). FillSays (a .first) (a .bytes .now) (a .at) k (replicate 1052 0) (f .last .1 .1 .1 .1 .0) q) (c .before .r .given .1) (f .ensures) in
-    let wrong = from-early (a .first) (a .bytes .now) (a .at) (a .n) k (c .before .r .given .0 .0) (c .before .before .before .before .before .before .before .before .before .pre .1 .0) (omega arith) says in
+    let wrong = from-early (a .whole) (a .first) (a .bytes .now) (a .at) (a .n) k (c .before .r .given .0 .0) (c .before .before .before .before .before .before .before .before .before .pre .1 .0) (omega arith) says in
     (sym (ap drawn wrong), sym (ap (drawnAt (a .i) (a .out .now)) wrong))
 
 draw-same-length-2 : (t : ℕ) → draw-lts.Need-same-length-2 (calls t) (draw-at t) draw.Post
@@ -206,7 +205,7 @@ pub +draw-spec : {M : Type 1} → statement M
     (draw-same-length t)
     (draw-returns t)
     (draw-enum-told t)
-    (draw-judge-end-requires t)
+    (draw-judge-behind-requires t)
     (draw-enum-known-r-3 t)
     (draw-returns-2 t)
     (draw-enum-told-2 t)

@@ -1,7 +1,7 @@
 -- `macaque_v::read::grid` meets its contract: refused by the first cause that holds, else by the stream, else drawn. Assumes nothing.
 use borrow.Author.Needs.{needs}
 use mathlib.Core.Path.{sym, ap, ap₂, _∙_}
-use mathlib.Core.Bool.{Bool}
+use mathlib.Core.Bool.{Bool, true}
 use Prim.Native.Nat.{_≤_}
 use native.Mathlib.Omega.{arith}
 use borrow.Author.Tests.{ltb-false}
@@ -48,7 +48,7 @@ returns-2 c =
     let causes = gridCauses (a .count) (length (a .out .now)) in
     let ok = c .before .before .before .before .before .before .enum-told .given .1 in
     let says = c .before .before .before .before .before .before .before .before .judge-grid .ensures in
-    let values = ap₂ (λ (first : Bool) (at : Cursor). valuesFrom first (a .bytes .now) at (a .count))
+    let values = ap₂ (λ (first : Bool) (at : Cursor). valuesFrom true first (a .bytes .now) at (a .count))
     (c .before .before .before .before .before .is-first .ensures) (c .before .before .before .before .start .ensures .0)
     ∙ sym (same-values (a .bytes .now) (a .opening) (a .count)) in (
       d .ensures .0 ∙ ap drawn values ∙ when-passed causes _ says refused _ ok,

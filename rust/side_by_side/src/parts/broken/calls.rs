@@ -8,6 +8,7 @@ use crate::lent::{STALE_VALUE, STALE_WORD};
 use crate::parts::library_segments::both as segments;
 use crate::parts::library_stream::both::{self, At};
 use crate::parts::library_stream::reading;
+use crate::parts::library_table::both as tables;
 use modelardb_rattle::Fault;
 use modelardb_rattle::ffi::{READER_WORDS, STATE_WORDS, StoredSegment};
 use oracle::paper::MOST_RESIDUALS;
@@ -39,6 +40,39 @@ impl Broken {
             context.same("the bits", told, reopened, || format!("{self} at {k}"));
         }
         self.value_by_value(context, told);
+        self.with_a_table(context, told);
+    }
+
+    /// With its place table, of one entry or of none: checked, reopened, and all of it as a range, where 8 is not
+    /// judged.
+    fn with_a_table(&self, context: &mut Context, told: Fault) {
+        let Self { bytes, count, .. } = self;
+        let opening = face::opening_words(self.opening);
+        let entry = self.entry();
+        let table = tables::Table::new(&entry, usize::from(*count > 0));
+        let stream = (&bytes[..], *count, opening);
+        let checked = tables::checked(context, stream, &table);
+        let out = vec![STALE_VALUE; *count];
+        let (range, _) = tables::ranged(context, stream, &table, 0..*count, &out);
+        let before = tables::Writer {
+            row: vec![STALE_WORD; STATE_WORDS],
+            buffer: bytes.clone(),
+            table,
+        };
+        let at = At {
+            used: bytes.len(),
+            count: *count,
+            k: count / 2,
+            opening,
+            bound: (0, 0),
+        };
+        let (reopened, _) = tables::reopened(context, &before, at);
+        let of_range = match told.number {
+            LEFTOVER => Fault::ACCEPTED,
+            _ => told,
+        };
+        let (expected, answers) = ([told, told, of_range], [checked, reopened, range]);
+        context.same("the bits", expected, answers, || self.to_string());
     }
 
     /// By a reader: its next is refused where the others are, or its end is.

@@ -10,6 +10,7 @@ use crate::parts::library_stream::Stream;
 use crate::parts::list_program;
 use crate::shape;
 use modelardb_rattle::Fault;
+use modelardb_rattle::ffi::ENTRY_WORDS;
 use oracle::paper::macaque_v::Opening;
 use oracle::paper::models::ErrorBound::{Absolute, Lossless, Relative};
 use std::fmt::{Display, Formatter, Result};
@@ -74,6 +75,15 @@ fn damages(bytes: &[u8], count: usize) -> Vec<(Vec<u8>, usize)> {
 }
 
 impl Broken {
+    /// Entry 0 of its place table.
+    fn entry(&self) -> [u64; ENTRY_WORDS] {
+        let last = match self.opening {
+            Opening::WithFirst => 0,
+            Opening::On(value) => value,
+        };
+        [0, last.into(), 255, 0]
+    }
+
     fn through_every_call(&self, context: &mut Context) {
         let refused = shape::refusal_of(&self.bytes, self.count, self.opening);
         let told = refused.map_or(Fault::ACCEPTED, face::fault);

@@ -4,7 +4,7 @@ use super::Broken;
 use crate::context::Context;
 use crate::face::placed;
 use crate::inputs::ONE;
-use modelardb_rattle::{self as library, Reader, Refusal, Segment};
+use modelardb_rattle::{self as library, PlaceTable, Reader, Refusal, Segment, TabledWriter};
 use oracle::paper::MOST_RESIDUALS;
 use oracle::paper::macaque_v::{Opening, read_all, sum};
 use std::result;
@@ -47,6 +47,15 @@ impl Broken {
         let paper = read_all(&self.bytes, count, self.opening).map(|_| ());
         let input = || format!("safe calls on {self}");
         context.same("safe writer", paper, placed(reopened.map(|_| ())), input);
+        let words = if count > 0 { &self.entry()[..] } else { &[] };
+        let table = PlaceTable::from_words(words.to_vec());
+        let reopened =
+            TabledWriter::reopen(&mut buffer, used, count, count, opening, lossless, &table);
+        let said = [
+            reopened.map(|_| ()),
+            table.check(&self.bytes, count, opening),
+        ];
+        context.same("safe table", [paper; 2], said.map(placed), input);
         if opening == library::Opening::First || !(1..=MOST_RESIDUALS).contains(&count) {
             return;
         }

@@ -9,7 +9,7 @@ mod marked;
 pub mod reading;
 mod repeats;
 mod resumed;
-mod states;
+pub mod states;
 
 pub use causes::causes;
 pub use damaged::damaged;
@@ -29,18 +29,18 @@ use oracle::paper::macaque_v::Opening;
 use oracle::paper::models::ErrorBound;
 
 /// How many bytes any such values fit in: none takes more than 45 bits.
-fn room_for(count: usize) -> usize {
+pub fn room_for(count: usize) -> usize {
     (45 * count).div_ceil(8)
 }
 
 /// A stream as the library and the paper both wrote it in one go.
 pub struct Stream {
-    bound: Words,
-    opening: Words,
-    values: Vec<u32>,
+    pub bound: Words,
+    pub opening: Words,
+    pub values: Vec<u32>,
     /// The writer's row before any value, and after them all.
-    fresh: Vec<u64>,
-    row: Vec<u64>,
+    pub fresh: Vec<u64>,
+    pub row: Vec<u64>,
     pub bytes: Vec<u8>,
 }
 
@@ -63,18 +63,18 @@ impl Stream {
     }
 
     /// A stream of so many values, of any bound and opening.
-    fn any(context: &mut Context, count: usize) -> Self {
+    pub fn any(context: &mut Context, count: usize) -> Self {
         let values = context.inputs.values(count);
         let (bound, opening) = (context.inputs.bound(), context.inputs.opening());
         Self::new(context, bound, opening, &values)
     }
 
-    fn count(&self) -> usize {
+    pub fn count(&self) -> usize {
         self.values.len()
     }
 
     /// Reopened behind the first k values.
-    fn at(&self, k: usize) -> At {
+    pub fn at(&self, k: usize) -> At {
         At {
             used: self.bytes.len(),
             count: self.count(),

@@ -68,7 +68,7 @@ fn written_from(context: &mut Context, row: &[u64], bytes: &[u8]) {
 }
 
 /// A state that may be used, with none to three of its words changed, and a buffer about its size.
-fn any_state(context: &mut Context) -> (Vec<u64>, Vec<u8>) {
+pub fn any_state(context: &mut Context) -> (Vec<u64>, Vec<u8>) {
     let inputs = &mut context.inputs;
     let length = inputs.below(24);
     let leading = inputs.below(32);

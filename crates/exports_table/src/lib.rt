@@ -1,0 +1,158 @@
+// The C face of the place table beside a stream. A writer's state crosses as its row of ten words, and how a
+// stream opens as a mode and a value (crates/exports_stream). A table crosses as its lent words, four to an
+// entry, and the number of entries in use beside it; a call that changes that number is handed a place for it.
+// A call answers a fault, of number 0 where nothing is refused, and a refusal changes nothing that was lent.
+ghost use mathlib.Core.Path.{_≡_};
+ghost use Rattle.models.specs.Answers.{verdict};
+ghost use Rattle.models.specs.Calls.{saysVerdict};
+ghost use Rattle.exports_table.specs.Calls.{tableWriteFault, tableWriteRow, tableWriteBuffer, tableWriteWords, tableWriteEntries};
+ghost use Rattle.exports_table.specs.Calls.{tableReopenCausesWith, tableReopenFault, tableReopenRow, tableReopenBuffer, tableReopenEntries};
+ghost use Rattle.exports_table.specs.Calls.{tableCheckFault, tableRangeFault, tableRangeOut};
+use exports_stream::row;
+use macaque_v::read::OpenAnswer;
+use models::ErrorBound;
+use models::Fault;
+use models::GridAnswer;
+use models::Refusal;
+use models::Verdict;
+use place_table::CheckAnswer;
+use place_table::TableOpenAnswer;
+use place_table::TableWriteAnswer;
+
+// ---- the writer's calls
+
+// Writes the values behind the state's place, and behind the entries in use that of each value whose number is a
+// multiple of 64; the row becomes the state after them, and the number that of the entries now in use.
+#[no_mangle]
+pub extern "C" fn modelardb_table_compress_values(
+    state: &mut [u64],
+    values: &[u32],
+    buffer: &mut [u8],
+    table: &mut [u64],
+    entries: &mut usize,
+) -> Fault
+    ensures fault { λ r. ⌜ r ≡ tableWriteFault (now (state .entry)) (now (values .entry)) (now (buffer .entry)) (now (table .entry)) (now (entries .entry)) ⌝ }
+    ensures row { λ r. ⌜ now (state .exit) ≡ tableWriteRow (now (state .entry)) (now (values .entry)) (now (buffer .entry)) (now (table .entry)) (now (entries .entry)) ⌝ }
+    ensures bytes { λ r. ⌜ now (buffer .exit) ≡ tableWriteBuffer (now (state .entry)) (now (values .entry)) (now (buffer .entry)) (now (table .entry)) (now (entries .entry)) ⌝ }
+    ensures words { λ r. ⌜ now (table .exit) ≡ tableWriteWords (now (state .entry)) (now (values .entry)) (now (buffer .entry)) (now (table .entry)) (now (entries .entry)) ⌝ }
+    ensures number { λ r. ⌜ now (entries .exit) ≡ tableWriteEntries (now (state .entry)) (now (values .entry)) (now (buffer .entry)) (now (table .entry)) (now (entries .entry)) ⌝ }
+{
+    let given = *entries;
+    match place_table::compress_values(row::writer_of(state), values, buffer, table, given) {
+        TableWriteAnswer::Refused(r, _) => models::fault_of(r),
+        TableWriteAnswer::Written(after, n) => {
+            *entries = n;
+            exports::put_said(Verdict::Passed, &row::written_words(state, after), state)
+        }
+    }
+}
+
+// The writer behind the first k of the `count` values in the buffer's first `used` bytes into the row, and how many
+// entries of their table are of these into `entries`. The table's words are neither read nor changed.
+#[no_mangle]
+pub extern "C" fn modelardb_table_reopen(
+    buffer: &mut [u8],
+    used: usize,
+    count: usize,
+    k: usize,
+    mode: u32,
+    opening: u32,
+    kind: u32,
+    bound: u32,
+    state: &mut [u64],
+    table: &[u64],
+    entries: &mut usize,
+) -> Fault
+    ensures fault { λ r. ⌜ r ≡ tableReopenFault (now (buffer .entry)) used count k mode opening kind bound (now (state .entry)) (now (table .entry)) (now (entries .entry)) ⌝ }
+    ensures row { λ r. ⌜ now (state .exit) ≡ tableReopenRow (now (buffer .entry)) used count k mode opening kind bound (now (state .entry)) (now (table .entry)) (now (entries .entry)) ⌝ }
+    ensures bytes { λ r. ⌜ now (buffer .exit) ≡ tableReopenBuffer (now (buffer .entry)) used count k mode opening kind bound (now (state .entry)) (now (table .entry)) (now (entries .entry)) ⌝ }
+    ensures number { λ r. ⌜ now (entries .exit) ≡ tableReopenEntries (now (buffer .entry)) used count k mode opening kind bound (now (state .entry)) (now (table .entry)) (now (entries .entry)) ⌝ }
+{
+    let given = *entries;
+    let b = exports::bound_of(kind, bound);
+    let n = exports_stream::count_in(mode, count);
+    match judge_reopen(b, buffer.len(), used, n, k, table.len(), given, state.len()) {
+        Verdict::Refused(r) => models::fault_of(r),
+        Verdict::Passed => {
+            let o = exports_stream::opening_of(mode, opening);
+            match place_table::reopen(buffer, used, n, k, o, b, table, given) {
+                TableOpenAnswer::Refused(r) => models::fault_of(r),
+                TableOpenAnswer::Opened(m, stay) => {
+                    *entries = stay;
+                    exports_stream::put_opened(OpenAnswer::Opened(m), state)
+                }
+            }
+        }
+    }
+}
+
+// ---- the reading calls
+
+// Whether the entries in use are those of the stream, `count` values in these bytes.
+#[no_mangle]
+pub extern "C" fn modelardb_table_check(
+    bytes: &[u8],
+    count: usize,
+    mode: u32,
+    opening: u32,
+    table: &[u64],
+    entries: usize,
+) -> Fault
+    ensures { λ r. ⌜ r ≡ tableCheckFault (now (bytes .entry)) count mode opening (now (table .entry)) entries ⌝ }
+{
+    let n = exports_stream::count_in(mode, count);
+    let o = exports_stream::opening_of(mode, opening);
+    match place_table::check(bytes, n, o, table, entries) {
+        CheckAnswer::Refused(r) => models::fault_of(r),
+        CheckAnswer::Belongs => exports::ACCEPTED,
+    }
+}
+
+// The values p to q - 1 of a stream of `count`, into the first places of `out`: read from the entry at or before p.
+#[no_mangle]
+pub extern "C" fn modelardb_table_range(
+    bytes: &[u8],
+    count: usize,
+    mode: u32,
+    opening: u32,
+    table: &[u64],
+    entries: usize,
+    p: usize,
+    q: usize,
+    out: &mut [u32],
+) -> Fault
+    ensures fault { λ r. ⌜ r ≡ tableRangeFault (now (bytes .entry)) count mode opening (now (table .entry)) entries p q (now (out .entry)) ⌝ }
+    ensures values { λ r. ⌜ now (out .exit) ≡ tableRangeOut (now (bytes .entry)) count mode opening (now (table .entry)) entries p q (now (out .entry)) ⌝ }
+{
+    let n = exports_stream::count_in(mode, count);
+    let o = exports_stream::opening_of(mode, opening);
+    match place_table::range(bytes, n, o, table, entries, p, q, out) {
+        GridAnswer::Refused(r) => models::fault_of(r),
+        GridAnswer::Drawn => exports::ACCEPTED,
+    }
+}
+
+// ---- the causes of refusal of a reopening: the row has to hold the state
+
+// What is judged before the buffer is touched.
+fn judge_reopen(
+    error_bound: ErrorBound,
+    room: usize,
+    used: usize,
+    count: usize,
+    k: usize,
+    words: usize,
+    entries: usize,
+    row_words: usize,
+) -> Verdict
+    ensures { λ r. ⌜ saysVerdict r ≡ verdict (tableReopenCausesWith «error_bound» room used count k words entries «row_words») ⌝ }
+{
+    match place_table::judge_reopen(error_bound, room, used, count, k, words, entries) {
+        Verdict::Refused(r) => Verdict::Refused(r),
+        Verdict::Passed => models::when(
+            Refusal::OutputTooShort,
+            row_words < row::WORDS,
+            Verdict::Passed,
+        ),
+    }
+}

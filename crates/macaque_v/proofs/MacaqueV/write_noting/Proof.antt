@@ -1,0 +1,279 @@
+-- `macaque_v::MacaqueV::write_noting` meets its contract. The invariant: the pen stands behind the first i values, where they are laid the buffer, with the
+-- bits that wait, is as these values leave it, and where they are noted the table is. Assumes nothing.
+use borrow.Author.Needs.{needs}
+use mathlib.Core.Path.{_≡_, sym, ap, _∙_, subst}
+use mathlib.Core.Bool.{Bool, true}
+use mathlib.Core.List.{List}
+use Prim.Native.Nat.{ℕ, _+_, _-_, _*_, _^_, _≤_, _<_}
+use native.Mathlib.Omega.{arith}
+use lib.ListN.{length}
+use lib.Seq.{take-all}
+use lib.Dec.{ltb, eqb}
+use Rattle.bits.specs.Bits.{field}
+use Rattle.bits.proofs.Fields.{length-field}
+use Rattle.bits.proofs.InBytes.{length-laidIn}
+use Rattle.models.specs.Limits.{mostValues}
+use Rattle.stream.specs.Format.{State}
+use Rattle.stream.specs.Write.{bitsOne}
+use Rattle.macaque_v.specs.State.{Known}
+use Rattle.macaque_v.specs.Write.{streamBy, wroteBy, writerAt}
+use Rattle.macaque_v.specs.inner.Write.{writtenBy, laidWhere, RawAt, leftBy}
+use Rattle.macaque_v.specs.declared.MacaqueV.{MacaqueV}
+use borrow.Author.Tests.{ltb-true}
+use Rattle.models.proofs.Tests.{and-left, and-right}
+use Rattle.macaque_v.proofs.Stepping.{PenAt}
+use Rattle.macaque_v.proofs.Entering.{Noting, Room, note-start, note-more, note-fits, note-idle, note-end}
+use Rattle.macaque_v.proofs.Writing.{Laying, lay-start, lay-next, lay-long, lay-end, lay-none, place-grows, afterFirst, keptAt, after-most, pen-start, pen-more, left-is, next-place, step-digits}
+use Rattle.macaque_v.proofs.MacaqueV.write_noting.Statement.{statement}
+use Rattle.macaque_v.proofs.MacaqueV.write_noting.Tie as tie
+
+abbrev Inv-loop : tie.InvT-loop
+Inv-loop self values buffer₀ lay table₀ note error-bound count raw due₀ pen₀ waiting₀ i₀ buffer table due pen waiting i =
+    (i ≤ length values) × PenAt self (afterFirst self values i) i pen × Laying lay self values buffer₀ i buffer waiting × Noting note self values table₀ i table due
+
+abbrev μ-loop : tie.MeasureT-loop
+μ-loop self values buffer₀ lay table₀ note error-bound count raw due₀ pen₀ waiting₀ i₀ buffer table due pen waiting i = length values - i
+
+-- the least and the greatest value are words of 32 bits
+small : (c : tie.Start Inv-loop μ-loop) → (c .args .self .«min_value» < 2 ^ 32) × (c .args .self .«max_value» < 2 ^ 32)
+small c = (omega arith, omega arith)
+
+-- ---- in the loop: the arguments, and the buffer that it begins with, which is as it was
+abbrev self : tie.At-loop Inv-loop μ-loop → MacaqueV
+self c = c .before .before .before .before .before .before .before .before .before .before .before .args .self
+
+abbrev values : tie.At-loop Inv-loop μ-loop → List ℕ
+values c = c .before .before .before .before .before .before .before .before .before .before .before .args .values .now
+
+abbrev lay : tie.At-loop Inv-loop μ-loop → Bool
+lay c = c .before .before .before .before .before .before .before .before .before .before .before .args .lay
+
+abbrev buffer₀ : tie.At-loop Inv-loop μ-loop → List ℕ
+buffer₀ c = c .before .before .before .opened .last .0
+
+begun : (c : tie.At-loop Inv-loop μ-loop) → buffer₀ c ≡ c .before .before .before .before .before .before .before .before .before .before .before .args .buffer .now
+begun c = c .before .before .before .opened .ensures .1
+
+-- the table that it begins with, and what is noted in it
+abbrev note : tie.At-loop Inv-loop μ-loop → Bool
+note c = c .before .before .before .before .before .before .before .before .before .before .before .args .note
+
+abbrev table₀ : tie.At-loop Inv-loop μ-loop → List ℕ
+table₀ c = c .before .before .before .before .before .before .before .before .before .before .before .args .table .now
+
+entered : (c : tie.At-loop Inv-loop μ-loop) → Room (note c) (self c) (values c) (table₀ c)
+entered c = c .before .before .before .before .before .before .before .before .before .before .before .pre .3
+
+-- which value is raw
+abbrev raw : tie.At-loop Inv-loop μ-loop → ℕ
+raw c = c .before .before .before .before .before .before .before .raw-at .result
+
+rawAt : (c : tie.At-loop Inv-loop μ-loop) → RawAt (self c) (length (values c)) (raw c)
+rawAt c = c .before .before .before .before .before .before .before .raw-at .ensures
+
+-- where the pen stands
+here : (c : tie.At-loop Inv-loop μ-loop) → c .loop .pen .place ≡ (afterFirst (self c) (values c) (c .loop .i)) .place
+here c = ap (λ (s : State Known). s .place) (sym (c .loop .inv .1 .state))
+
+most : (c : tie.At-loop Inv-loop μ-loop) → (afterFirst (self c) (values c) (c .loop .i)) .place ≤ self c .place + 45 * c .loop .i
+most c = after-most (self c) (values c) (c .loop .i) (c .loop .inv .0)
+
+-- the buffer where values are laid: as long as it was, and the bits that wait
+laying : (c : tie.At-loop Inv-loop μ-loop) → lay c ≡ true → Laying true (self c) (values c) (buffer₀ c) (c .loop .i) (c .loop .buffer) (c .loop .waiting)
+laying c e = subst (λ (b : Bool). Laying b (self c) (values c) (buffer₀ c) (c .loop .i) (c .loop .buffer) (c .loop .waiting)) e (c .loop .inv .2)
+
+room : (c : tie.At-loop Inv-loop μ-loop) → lay c ≡ true → wroteBy (self c) (values c) .place ≤ 8 * length (buffer₀ c)
+room c e = omega (arith, ap length (begun c), c .before .before .before .before .before .before .before .before .before .before .before .pre .1 e)
+
+-- ---- one value more
+abbrev atLoop : tie.After-step Inv-loop μ-loop → tie.At-loop Inv-loop μ-loop
+atLoop c = c .before .before .before .before .before .before .before
+
+digits : (c : tie.After-step Inv-loop μ-loop)
+    → field (c .step .result .width) (c .step .result .bits) ≡ bitsOne (streamBy (self (atLoop c))) (afterFirst (self (atLoop c)) (values (atLoop c)) (atLoop c .loop .i)) (keptAt (self (atLoop c)) (values (atLoop c)) (atLoop c .loop .i))
+digits c =
+    let l = atLoop c in
+    step-digits (self l) (values l) (l .loop .i) (omega arith) (l .loop .pen) (l .loop .inv .1) (eqb (l .loop .i) (raw l)) (rawAt l (l .loop .i) (omega arith)) (c .step .result) (c .step .ensures)
+
+moved : (c : tie.After-step Inv-loop μ-loop) → PenAt (self (atLoop c)) (afterFirst (self (atLoop c)) (values (atLoop c)) (atLoop c .loop .i + 1)) (atLoop c .loop .i + 1) (c .step .result .pen)
+moved c =
+    let l = atLoop c in
+    pen-more (self l) (values l) (l .loop .i) (omega arith) (l .loop .pen) (l .loop .inv .1) (eqb (l .loop .i) (raw l)) (rawAt l (l .loop .i) (omega arith)) (c .step .result) (c .step .ensures) (omega (arith, c .step .ok))
+
+-- the table after it
+entering : (c : tie.After-step Inv-loop μ-loop) → Noting (note (atLoop c)) (self (atLoop c)) (values (atLoop c)) (table₀ (atLoop c)) (atLoop c .loop .i + 1) (c .before .before .before .before .noted .last .0) (c .before .before .before .before .noted .result)
+entering c =
+    let l = atLoop c in
+    let N = c .before .before .before .before .noted in
+    note-more (self l) (values l) (l .loop .i) (omega arith) (note l) (table₀ l) (l .loop .table) (N .last .0) (l .loop .due) (N .result) (l .loop .pen) (l .loop .inv .1) (l .loop .inv .3) (entered l) (N .ensures .0) (N .ensures .1)
+
+-- ---- the end: the writer that is left
+left : (c : tie.After-loop Inv-loop μ-loop) → leftBy (self (c .before)) (c .before .loop .pen) (c .before .loop .i) ≡ writerAt (self (c .before)) (wroteBy (self (c .before)) (values (c .before)))
+left c =
+    let l = c .before in
+    left-is (self l) (values l) (l .loop .i) (l .loop .inv .0) (l .loop .pen) (l .loop .inv .1)
+    ∙ ap (λ (ys : List ℕ). writerAt (self l) (wroteBy (self l) ys)) (take-all (l .loop .i) (values l) (c .loop-test .left))
+
+loop-holds : tie.Need-loop-holds Inv-loop μ-loop
+loop-holds c =
+    let a = c .before .before .before .before .before .before .before .before .before .before .args in
+    let o = c .before .before .opened in (
+      omega arith,
+      pen-start (a .self) (a .values .now) (c .before .before .before .before .pen .result) (c .before .before .before .before .pen .ensures) (small (c .before .before .before .before .before .before .before .before .before .before) .0) (small (c .before .before .before .before .before .before .before .before .before .before) .1),
+      lay-start (a .lay) (a .self) (a .values .now) (a .buffer .now) (o .last .0) (o .result) (o .ensures .1) (λ n. c .slice-known3 .given n .fits) (o .ensures .0) (c .before .before .before .before .before .before .before .before .before .before .pre .1),
+      note-start (a .note) (a .self) (a .values .now) (a .table .now) (c .before .before .before .before .before .first-due .result) (c .before .before .before .before .before .first-due .ensures),
+    )
+
+noted-requires : tie.Need-noted-requires Inv-loop μ-loop
+noted-requires c κs =
+    let l = c .before .before in
+    let more : l .loop .i < length (values l) = c .before .loop-test .taken in
+    let few : self l .length + l .loop .i < mostValues = omega (arith, l .before .before .before .before .before .before .before .before .before .before .before .pre .0) in (
+      few,
+      note-fits (note l) (self l) (values l) (table₀ l) (l .loop .i) (l .loop .table) (l .loop .due) more (l .loop .inv .3) (entered l),
+      note-idle (note l) (self l) (values l) (table₀ l) (l .loop .i) (l .loop .table) (l .loop .due) more (l .loop .inv .3),
+    )
+
+step-requires : tie.Need-step-requires Inv-loop μ-loop
+step-requires c κs = omega (arith, here (c .before .before .before .before .before .before), most (c .before .before .before .before .before .before))
+
+append-requires : tie.Need-append-requires Inv-loop μ-loop
+append-requires c κs =
+    let l = atLoop (c .before .before) in
+    let r = c .before .before .step .result in
+    let s = c .before .before .step .ensures .code in
+    let L = laying l (c .before .if1 .taken) in
+    let next = next-place (self l) (values l) (l .loop .i) (omega arith) (r .width) (r .bits) (digits (c .before .before)) in (
+      L .1 .waits,
+      omega (arith, s .short),
+      omega (arith, L .0, L .1 .here, next, room l (c .before .if1 .taken), place-grows (self l) (values l) (l .loop .i + 1)),
+      s .small,
+    )
+
+add-i : tie.Need-add-i Inv-loop μ-loop
+add-i c =
+    let l = atLoop (c .before .before .before .before .before .before) in
+    omega (arith, c .before .before .before .before .before .before .before .before .before .before .before .before .loop-test .taken, l .before .before .before .before .before .before .before .before .before .before .before .pre .0)
+
+loop-again : tie.Need-loop-again Inv-loop μ-loop
+loop-again c =
+    let k = c .before .before .before .before .before .before in
+    let l = atLoop k in
+    let more : l .loop .i < length (values l) = k .before .before .before .before .before .before .loop-test .taken in
+    let A = c .before .before .before .append in
+    let lays = c .before .before .before .before .before .if1 .taken in (
+      omega (arith, more),
+      moved k,
+      subst (λ (b : Bool). Laying b (self l) (values l) (buffer₀ l) (l .loop .i + 1) (A .last .0) (A .result)) (sym lays)
+          (lay-next (self l) (values l) (l .loop .i) more (k .step .result .width) (k .step .result .bits) (digits k) (k .step .ensures .code .some) (buffer₀ l) (l .loop .buffer) (A .last .0) (l .loop .waiting) (A .result) (room l lays) (laying l lays) (A .ensures)),
+      entering k,
+    )
+
+add-i-2 : tie.Need-add-i-2 Inv-loop μ-loop
+add-i-2 c =
+    let l = atLoop (c .before .before) in
+    omega (arith, c .before .before .before .before .before .before .before .before .loop-test .taken, l .before .before .before .before .before .before .before .before .before .before .before .pre .0)
+
+loop-again-2 : tie.Need-loop-again-2 Inv-loop μ-loop
+loop-again-2 c =
+    let l = atLoop (c .before .before) in
+    let more : l .loop .i < length (values l) = c .before .before .before .before .before .before .before .before .loop-test .taken in
+    let counts = c .before .if1 .left in (
+      omega (arith, more),
+      moved (c .before .before),
+      subst (λ (b : Bool). Laying b (self l) (values l) (buffer₀ l) (l .loop .i + 1) (l .loop .buffer) (l .loop .waiting)) (sym counts)
+          (subst (λ (b : Bool). Laying b (self l) (values l) (buffer₀ l) (l .loop .i) (l .loop .buffer) (l .loop .waiting)) counts (l .loop .inv .2)),
+      entering (c .before .before),
+    )
+
+mul-put : tie.Need-mul-put Inv-loop μ-loop
+mul-put c =
+    let l = c .before .before .before .before in
+    let L = laying l (and-left _ _ (c .before .before .if2 .taken)) in
+    omega (arith, L .1 .here, most l, l .loop .inv .0, l .before .before .before .before .before .before .before .before .before .before .before .pre .2)
+
+put-requires : tie.Need-put-requires Inv-loop μ-loop
+put-requires c κs =
+    let l = c .before .before .before .before in
+    let t = and-left _ _ (c .before .before .if2 .taken) in
+    let L = laying l t in
+    (omega (arith, L .1 .waits .fewer), omega (arith, L .0, L .1 .here, room l t, place-grows (self l) (values l) (l .loop .i)), L .1 .waits .small)
+
+same-length : tie.Need-same-length Inv-loop μ-loop
+same-length c =
+    let l = c .before .before .before .before .before .before .before .before in
+    let w = l .loop .waiting in
+    let t = and-left (lay l) (ltb 0 (l .loop .i)) (c .before .before .before .before .before .before .if2 .taken) in
+    let L = laying l t in
+    ap length (c .before .before .before .put .ensures)
+    ∙ length-laidIn (l .loop .buffer) (8 * w .at) (field (w .held) (w .word)) (omega (arith, L .0, L .1 .here, length-field (w .held) (w .word), room l t, place-grows (self l) (values l) (l .loop .i)))
+    ∙ L .0
+    ∙ ap length (begun l)
+
+table-long : tie.Need-same-length-2 Inv-loop μ-loop
+table-long c = c .before .before .before .before .before .before .before .before .loop .inv .3 .long
+
+returns : tie.Need-returns Inv-loop μ-loop
+returns c =
+    let l = c .before .before .before .before .before .before .before .before in
+    let t = c .before .before .before .before .before .before .if2 .taken in (
+      c .left-by .ensures ∙ left (c .before .before .before .before .before .before .before),
+      (
+        lay-end (lay l) (self l) (values l) (buffer₀ l) (l .loop .i) (l .loop .buffer) (l .loop .waiting) (c .before .before .before .put .last .0) (l .loop .inv .2) (and-left (lay l) (ltb 0 (l .loop .i)) t)
+            (ltb-true 0 (l .loop .i) (and-right (lay l) (ltb 0 (l .loop .i)) t)) (c .before .before .before .before .before .before .before .loop-test .left) (c .before .before .before .put .ensures)
+            ∙ ap (λ (b : List ℕ). laidWhere (lay l) b (self l .place) (writtenBy (self l) (values l))) (begun l),
+        note-end (note l) (self l) (values l) (table₀ l) (l .loop .i) (l .loop .table) (l .loop .due) (l .loop .inv .3) (c .before .before .before .before .before .before .before .loop-test .left),
+      ),
+    )
+
+same-length-3 : tie.Need-same-length-3 Inv-loop μ-loop
+same-length-3 c =
+    let l = c .before .before .before in
+    lay-long (lay l) (self l) (values l) (buffer₀ l) (l .loop .i) (l .loop .buffer) (l .loop .waiting) (l .loop .inv .2) ∙ ap length (begun l)
+
+table-long-2 : tie.Need-same-length-4 Inv-loop μ-loop
+table-long-2 c = c .before .before .before .loop .inv .3 .long
+
+returns-2 : tie.Need-returns-2 Inv-loop μ-loop
+returns-2 c =
+    let l = c .before .before .before in (
+      c .left-by2 .ensures ∙ left (c .before .before),
+      (
+        lay-none (lay l) (self l) (values l) (buffer₀ l) (l .loop .i) (l .loop .buffer) (l .loop .waiting) (λ n. l .before .slice-known3 .given n .fits) (l .loop .inv .2) (c .before .if2 .left) (c .before .before .loop-test .left)
+            ∙ ap (λ (b : List ℕ). laidWhere (lay l) b (self l .place) (writtenBy (self l) (values l))) (begun l),
+        note-end (note l) (self l) (values l) (table₀ l) (l .loop .i) (l .loop .table) (l .loop .due) (l .loop .inv .3) (c .before .before .loop-test .left),
+      ),
+    )
+
+pub write-noting-spec : {M : Type 1} → statement M
+write-noting-spec =
+    tie.close
+    (tie.spec
+    Inv-loop
+    μ-loop
+    (λ c κs. search needs)
+    (λ c κs. search needs)
+    (λ c κs. search needs)
+    (λ c κs. search needs)
+    loop-holds
+    noted-requires
+    (λ c. search needs)
+    (λ c. search needs)
+    step-requires
+    append-requires
+    add-i
+    (λ c. omega arith)
+    loop-again
+    add-i-2
+    (λ c. omega arith)
+    loop-again-2
+    mul-put
+    put-requires
+    (λ c κs. omega arith)
+    same-length
+    table-long
+    returns
+    (λ c κs. omega arith)
+    same-length-3
+    table-long-2
+    returns-2)

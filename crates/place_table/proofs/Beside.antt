@@ -1,0 +1,60 @@
+-- The plain calls beneath those with a table: what nothing refuses there, and what they answer. Assumes nothing.
+use mathlib.Core.Path.{_≡_, refl, sym, ap, _∙_}
+use mathlib.Core.Bool.{not}
+use mathlib.Core.List.{List}
+use Prim.Native.Nat.{ℕ, _+_, _*_, _^_, _≤_, _<_}
+use native.Mathlib.Omega.{arith}
+use borrow.Author.Tests.{ltb-false, eqb-true, not-false}
+use lib.Dec.{ltb, eqb}
+use lib.ListN.{length}
+use Rattle.models.specs.Answers.{Said, answered, refused, NoneHolds, verdict}
+use Rattle.models.specs.Limits.{mostValues}
+use Rattle.models.specs.declared.ErrorBound.{ErrorBound}
+use Rattle.models.specs.declared.Fault.{Fault}
+use Rattle.models.proofs.Judged.{passed, not-answered, not-refused, same-answer, same-fault}
+use Rattle.models.proofs.Tests.{neither}
+use Rattle.stream.specs.Calls.{lentBytes}
+use Rattle.stream.specs.Read.{Reopened, reopened, unopened}
+use Rattle.stream.specs.Table.{entriesFor}
+use Rattle.stream.specs.TableCalls as theory
+use Rattle.stream.specs.TableCalls.{Beside, entriesLent}
+use Rattle.macaque_v.specs.State.{Known}
+use Rattle.macaque_v.specs.Write.{wroteBy, coderOf}
+use Rattle.macaque_v.specs.Calls.{writeCauses}
+use Rattle.macaque_v.specs.inner.Read.{resumed}
+use Rattle.macaque_v.specs.declared.MacaqueV.{MacaqueV}
+use Rattle.macaque_v.proofs.Accepting as plain
+use Rattle.place_table.specs.Calls.{tableWriteCauses}
+
+-- ---- writing
+
+pub record Accepted (m : MacaqueV) (xs buf : List ℕ) (words entries : ℕ) : Type 0 where
+  pub few : m .length + length xs ≤ mostValues
+  pub room : (wroteBy m xs) .place ≤ 8 * length buf
+  pub near : m .place + 45 * length xs < 2 ^ 64
+  pub number : entries ≡ entriesFor (m .length)
+  pub lent : entriesFor (m .length + length xs) ≤ entriesLent words
+
+pub accepted : (m : MacaqueV) (xs buf : List ℕ) (words entries : ℕ) → NoneHolds (tableWriteCauses m xs (lentBytes (length buf)) words entries) → Accepted m xs buf words entries
+accepted m xs buf words entries free =
+    let last = neither (ltb (entriesLent words) (entriesFor (m .length + length xs))) _ (free .1 .1 .1 .1 .1 .0) in
+    let p = plain.accepted m xs buf (passed (writeCauses m xs (lentBytes (length buf))) (free .0, (free .1 .0, (free .1 .1 .0, (last .1, tt))))) in
+    record {
+      few = p .0;
+      room = p .1;
+      near = p .2;
+      number = eqb-true entries (entriesFor (m .length)) (not-false _ (free .1 .1 .1 .1 .0));
+      lent = ltb-false (entriesLent words) (entriesFor (m .length + length xs)) (last .0);
+    }
+
+-- ---- reopening
+
+module _ (b : ErrorBound) (first : _) where
+  pub unopened-beside : (q : Reopened Known) (f : Fault) → refused f ≡ resumed b first q → refused f ≡ theory.resumedBeside (coderOf b first) q
+  unopened-beside (reopened s) f e = absurd (not-answered e)
+  unopened-beside (unopened r) f e = ap refused (same-fault e)
+
+  pub opened-beside : (q : Reopened Known) (m : MacaqueV) → answered m ≡ resumed b first q
+      → _≡_ {A = Said (Beside MacaqueV)} (answered (record { writer = m; entries = entriesFor (m .length) })) (theory.resumedBeside (coderOf b first) q)
+  opened-beside (reopened s) m e = ap (λ (w : MacaqueV). answered (record { writer = w; entries = entriesFor (w .length) })) (same-answer e)
+  opened-beside (unopened r) m e = absurd (not-refused e)

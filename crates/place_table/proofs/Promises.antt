@@ -1,0 +1,308 @@
+-- The promises of the calls with a place table, in bytes and words: start reading here. `tableWriteAnswer`, `tableReopenAnswer`, `checkAnswer`, `rangeAnswer`, ..
+-- are what the contracts of the calls say that they answer and leave in lent memory. Each is a promise of the theory's calls (proofs/TableCalls and
+-- TableReads of `stream`), in MacaqueV's words. Assumes nothing.
+use mathlib.Core.Path.{_≡_, sym, ap, _∙_, subst}
+use mathlib.Core.Bool.{true}
+use mathlib.Core.List.{List, [], _++_}
+use mathlib.Core.Option.{some}
+use Prim.Native.Nat.{ℕ, _+_, _-_, _*_, _^_, _≤_, _<_}
+use lib.ListN.{length, take, drop, getElem?}
+use Rattle.bits.specs.Bits.{Below, bitsOf, wholeBytes}
+use Rattle.models.specs.Answers.{answered, refused, answeredOn, refusedOn, NoneHolds}
+use Rattle.models.proofs.Judged.{accepted}
+use Rattle.models.specs.Limits.{mostValues}
+use Rattle.models.specs.Bound.{boundAllowed}
+use Rattle.models.specs.declared.ErrorBound.{ErrorBound}
+use Rattle.models.specs.declared.ErrorBound.the-variants.{Lossless}
+use Rattle.models.specs.declared.Fault.{Fault}
+use Rattle.stream.specs.Format.{rawNext, isRaw}
+use Rattle.stream.specs.Read.{StreamRefusal, stopped, readN, readAll}
+use Rattle.stream.specs.Calls.{faultAt, drawn}
+use Rattle.stream.specs.Table.{spacing, Entry, entryOf, entriesFor, entriesIn, noMatch, entryBefore, readsFrom, readsInAll, stateFrom, without}
+use Rattle.stream.specs.TableCalls.{wordsEach, entriesLent, entryAt, tableIn, Beside, MadeByBeside, OwnTable, RangeAnswers}
+use Rattle.stream.proofs.TableEntries.{asked-for}
+use Rattle.stream.proofs.TableMade.{entry-of-run, run-number}
+use Rattle.stream.proofs.TableAny.{few-before, raw-at-entry}
+use Rattle.stream.proofs.TableCalls as calls
+use Rattle.stream.proofs.TableReads as reads
+use Rattle.coding.specs.Keep.{keepRule}
+use Rattle.macaque_v.specs.State.{modeOf, streamIn, stateOf, writerOf, isFirst, openingValue, opened}
+use Rattle.macaque_v.specs.Write.{coderOf, coderBy}
+use Rattle.macaque_v.specs.Calls.{newAnswer, writeAnswer, writeMemory}
+use Rattle.macaque_v.specs.Read.{valuesIn, reopenAnswer, reopenMemory}
+use Rattle.macaque_v.specs.Made.{stateOver, keptOf}
+use Rattle.macaque_v.specs.declared.MacaqueV.{MacaqueV}
+use Rattle.macaque_v.specs.declared.Opening.{Opening}
+use Rattle.macaque_v.proofs.Accepting as writer
+use Rattle.place_table.specs.Calls.{tableWriteAnswer, tableWriteMemory, tableWriteTable, tableReopenAnswer, tableReopenMemory, checkAnswer, rangeCauses, rangeAnswer, rangeMemory}
+use Rattle.place_table.specs.Made.{tableOver, MadeBeside, writerOver, over, WritesBeside, ReopensBeside, TableResumesAsOne, TableResumes}
+
+-- ---- the table of a stream's inputs
+
+-- "bit place, last kept value and window before that value", for value number 64 * i
+pub an-entry-is-the-state-before-its-value : (b : ErrorBound) (o : Opening) (xs : List ℕ) (i : ℕ) → spacing * i < length xs
+    → getElem? (tableOver b o xs) i ≡ some (entryOf (stateOver b o (take (spacing * i) xs)))
+an-entry-is-the-state-before-its-value b o = entry-of-run (keepRule b) (streamIn (isFirst o)) (openingValue o)
+
+-- "an entry for each value number that is a multiple of 64 and below the count"
+pub as-many-entries-as-the-count-asks-for : (b : ErrorBound) (o : Opening) (xs : List ℕ) → length (tableOver b o xs) ≡ entriesFor (length xs)
+as-many-entries-as-the-count-asks-for b o = run-number (keepRule b) (streamIn (isFirst o)) (openingValue o)
+
+-- so reopening at k, which keeps as many as k asks for, keeps exactly those below k
+pub an-entry-is-asked-for-below-the-count : (i n : ℕ) → (i < entriesFor n → spacing * i < n) × (spacing * i < n → i < entriesFor n)
+an-entry-is-asked-for-below-the-count = asked-for
+
+-- "With a first value, entry 0 and no other begins at the raw value."
+pub only-entry-0-begins-at-the-raw-value : (o : Opening) (i : ℕ) (e : Entry)
+    → isRaw (streamIn (isFirst o)) (stateFrom (streamIn (isFirst o)) (spacing * i) e) ≡ rawNext (modeOf (isFirst o)) i
+only-entry-0-begins-at-the-raw-value o = raw-at-entry (streamIn (isFirst o))
+
+-- ---- the spine, as the theory of streams has it
+
+in-theory : {b : ErrorBound} {o : Opening} {xs buf : List ℕ} {m : MacaqueV} {words : List ℕ} {entries : ℕ} → MadeBeside b o xs buf m words entries
+    → MadeByBeside (coderOf b (isFirst o)) (openingValue o) xs buf m words entries
+in-theory M = record { made = writer.in-theory (M .made); lent = M .lent; beside = M .beside }
+
+by-theory : (b : ErrorBound) (o : Opening) {xs buf : List ℕ} {m : MacaqueV} {words : List ℕ} {entries : ℕ}
+    → MadeByBeside (coderOf b (isFirst o)) (openingValue o) xs buf m words entries → MadeBeside b o xs buf m words entries
+by-theory b o M = record { made = writer.by-theory b o (M .made); lent = M .lent; beside = M .beside }
+
+-- the entries in use, and how many they are, are told by the bound, the opening and the inputs
+pub made-once : {b : ErrorBound} {o : Opening} {xs buf other : List ℕ} {m n : MacaqueV} {words us : List ℕ} {entries es : ℕ} → MadeBeside b o xs buf m words entries
+    → MadeBeside b o xs other n us es → (entries ≡ es) × (tableIn words entries ≡ tableIn us es)
+made-once {b} {o} M N =
+    let good = writer.coder-good b (isFirst o) in (
+      calls.its-number-of-entries (coderOf b (isFirst o)) good (openingValue o) (in-theory M)
+          ∙ sym (calls.its-number-of-entries (coderOf b (isFirst o)) good (openingValue o) (in-theory N)),
+      M .beside ∙ sym (N .beside),
+    )
+
+-- a fresh writer has no entries in use, whatever the buffer and the words hold
+pub a-fresh-writer-with-a-table : (b : ErrorBound) (o : Opening) (buf words : List ℕ) (m : MacaqueV) → newAnswer b o ≡ answered m → MadeBeside b o [] buf m words 0
+unfolding newAnswer
+a-fresh-writer-with-a-table b o buf words m h =
+    by-theory b o (calls.a-fresh-writer-with-a-table (coderOf b (isFirst o)) (writer.coder-good b (isFirst o)) (openingValue o) buf words m h)
+
+module _ {b : ErrorBound} {o : Opening} {xs buf : List ℕ} {m : MacaqueV} {words : List ℕ} {entries : ℕ} (M : MadeBeside b o xs buf m words entries) where
+  -- ---- "Writing adds entries": an accepted write leaves the table of both lists, for any list, the empty one too
+  pub a-write-adds-its-entries : (ys : List ℕ) (r : Beside MacaqueV) → tableWriteAnswer m ys buf words entries ≡ answeredOn r
+      → MadeBeside b o (xs ++ ys) (tableWriteMemory m ys buf words entries) (r .writer) (tableWriteTable m ys buf words entries) (r .entries)
+  unfolding tableWriteAnswer tableWriteMemory tableWriteTable
+  a-write-adds-its-entries ys =
+      subst (λ (w : MacaqueV). (r : Beside MacaqueV) → tableWriteAnswer w ys buf words entries ≡ answeredOn r
+      → MadeBeside b o (xs ++ ys) (tableWriteMemory w ys buf words entries) (r .writer) (tableWriteTable w ys buf words entries) (r .entries)) (sym (M .made .writer))
+      (λ r h. by-theory b o (calls.a-write-adds-its-entries (coderOf b (isFirst o)) (writer.coder-good b (isFirst o)) (openingValue o) (in-theory M) ys r h))
+
+  -- and it is accepted, wherever room for bits and entries and the count limit allow
+  pub a-write-is-accepted : Below 32 xs → openingValue o < 2 ^ 32 → boundAllowed b ≡ true → (ys : List ℕ) → length xs + length ys ≤ mostValues
+      → (stateOver b o (xs ++ ys)) .place ≤ 8 * length buf → entriesFor (length xs + length ys) ≤ entriesLent (length words)
+      → tableWriteAnswer m ys buf words entries ≡ answeredOn (over b o (xs ++ ys))
+  unfolding tableWriteAnswer
+  a-write-is-accepted bx hl ok ys most room lent =
+      ap (λ (w : MacaqueV). tableWriteAnswer w ys buf words entries) (M .made .writer)
+      ∙ calls.a-write-with-a-table-is-accepted (coderOf b (isFirst o)) (writer.coder-good b (isFirst o)) (openingValue o) (in-theory M) bx hl (writer.no-bound-refuses b ok) ys
+      most room lent
+
+  -- ---- "reopening at k drops those for k and above": it answers the writer after the first k inputs and how many entries stay, and leaves the buffer as the
+  -- plain call does; the entries below k stay, and are the table of these inputs
+  pub reopening-keeps-the-entries-below : Below 32 xs → openingValue o < 2 ^ 32 → boundAllowed b ≡ true → length xs ≤ mostValues → (k : ℕ) → k ≤ length xs
+      → (tableReopenAnswer buf (wholeBytes (m .place)) (length xs) k o b (length words) entries ≡ answered (over b o (take k xs)))
+      × (tableReopenMemory buf (wholeBytes (m .place)) (length xs) k o b (length words) entries ≡ reopenMemory buf (wholeBytes (m .place)) (length xs) k o b)
+      × MadeBeside b o (take k xs) (tableReopenMemory buf (wholeBytes (m .place)) (length xs) k o b (length words) entries) (writerOver b o (take k xs)) words (entriesFor k)
+  unfolding tableReopenAnswer tableReopenMemory reopenMemory
+  reopening-keeps-the-entries-below bx hl ok few k le =
+      let r =
+      calls.reopening-keeps-the-entries-below (coderOf b (isFirst o)) (writer.coder-good b (isFirst o)) (openingValue o) (in-theory M) bx hl (writer.no-bound-refuses b ok) few
+      k le in
+      (r .0, r .1, by-theory b o (r .2))
+
+  -- "Demand 3 then speaks of the table too": reopened at any k, any further list that room, count limit and lent entries allow is accepted, and leaves the
+  -- buffer, the writer and the table of one fresh run over the first k inputs and the list
+  pub resumed-with-its-table : Below 32 xs → openingValue o < 2 ^ 32 → boundAllowed b ≡ true → length xs ≤ mostValues → (k : ℕ) → k ≤ length xs → (ys : List ℕ)
+      → k + length ys ≤ mostValues → (stateOver b o (take k xs ++ ys)) .place ≤ 8 * length buf → entriesFor (k + length ys) ≤ entriesLent (length words)
+      → TableResumesAsOne b o xs buf (wholeBytes (m .place)) k words entries ys
+  unfolding tableWriteAnswer tableWriteMemory tableWriteTable tableReopenAnswer tableReopenMemory
+  resumed-with-its-table bx hl ok few k le ys most room lent =
+      let r =
+      calls.resumed-with-its-table (coderOf b (isFirst o)) (writer.coder-good b (isFirst o)) (openingValue o) (in-theory M) bx hl (writer.no-bound-refuses b ok) few k le ys most
+      room lent in
+      record { opens = r .opens; accepts = r .accepts; made = by-theory b o (r .made) }
+
+  -- ---- the check accepts the table that a writer made
+  pub a-made-table-is-accepted : Below 32 xs → openingValue o < 2 ^ 32 → length xs ≤ mostValues
+      → checkAnswer (take (wholeBytes (m .place)) buf) (length xs) o words entries ≡ answered tt
+  unfolding checkAnswer
+  a-made-table-is-accepted bx hl few = reads.a-made-table-is-accepted (coderOf b (isFirst o)) (writer.coder-good b (isFirst o)) (openingValue o) hl (in-theory M) bx few
+
+  -- so a range of what was written is the kept values p to q − 1
+  pub a-made-range : Below 32 xs → openingValue o < 2 ^ 32 → length xs ≤ mostValues → (p q : ℕ) → p ≤ q → q ≤ length xs → (out : List ℕ) → q - p ≤ length out
+      → (rangeAnswer (take (wholeBytes (m .place)) buf) (length xs) o words entries p q (length out) ≡ answered tt)
+      × (rangeMemory (take (wholeBytes (m .place)) buf) (length xs) o words entries p q out ≡ take (q - p) (drop p (keptOf b o xs)) ++ drop (q - p) out)
+  unfolding rangeAnswer rangeMemory
+  a-made-range bx hl few = reads.a-made-range (coderOf b (isFirst o)) (writer.coder-good b (isFirst o)) (openingValue o) hl (in-theory M) bx few
+
+-- ---- writing and reopening with any writer, any table and any bytes
+
+module _ (m : MacaqueV) (xs buf words : List ℕ) (entries : ℕ) where
+  -- an accepted write with a table is the plain one, and lays its entries behind those in use
+  pub a-write-with-a-table-is-the-plain-one : (r : Beside MacaqueV) → tableWriteAnswer m xs buf words entries ≡ answeredOn r → WritesBeside m xs buf words entries r
+  unfolding tableWriteAnswer tableWriteMemory tableWriteTable writeAnswer writeMemory
+  a-write-with-a-table-is-the-plain-one r h =
+      let w = calls.a-write-with-a-table-is-the-plain-one (coderBy m) (stateOf m) xs buf words entries r h in
+      record { plain = w .plain; bytes = w .bytes; table = w .table; before = w .before; after = w .after; lent = w .lent }
+
+  -- it is accepted where the plain one is, the number of entries is what the length asks for, and there is room for the new ones
+  pub a-plain-write-goes-with-a-table : (n : MacaqueV) → writeAnswer m xs buf ≡ answeredOn n → entries ≡ entriesFor (m .length)
+      → entriesFor (m .length + length xs) ≤ entriesLent (length words)
+      → tableWriteAnswer m xs buf words entries ≡ answeredOn (record { writer = n; entries = entriesFor (m .length + length xs) })
+  unfolding tableWriteAnswer writeAnswer
+  a-plain-write-goes-with-a-table = calls.a-plain-write-goes-with-a-table (coderBy m) (stateOf m) xs buf words entries
+
+  -- "lent memory is untouched", the buffer and the table, and the writer is handed back
+  pub a-refused-write-changes-nothing : (f : Fault) (n : MacaqueV) → tableWriteAnswer m xs buf words entries ≡ refusedOn f n
+      → (n ≡ m) × (tableWriteMemory m xs buf words entries ≡ buf) × (tableWriteTable m xs buf words entries ≡ words)
+  unfolding tableWriteAnswer tableWriteMemory tableWriteTable
+  a-refused-write-changes-nothing = calls.a-refused-write-changes-nothing (coderBy m) (stateOf m) xs buf words entries
+
+  -- of the words only those of the new entries change, accepted or not: those before them and behind them stay
+  pub a-write-keeps-the-entries-in-use : take (wordsEach * entries) (tableWriteTable m xs buf words entries) ≡ take (wordsEach * entries) words
+  unfolding tableWriteTable
+  a-write-keeps-the-entries-in-use = calls.a-write-keeps-the-entries-in-use (coderBy m) (stateOf m) xs buf words entries
+
+  pub a-write-keeps-the-words-behind : drop (wordsEach * entriesFor (m .length + length xs)) (tableWriteTable m xs buf words entries)
+      ≡ drop (wordsEach * entriesFor (m .length + length xs)) words
+  unfolding tableWriteTable
+  a-write-keeps-the-words-behind = calls.a-write-keeps-the-words-behind (coderBy m) (stateOf m) xs buf words entries
+
+  -- and there are as many words, and as many bytes, as before
+  pub a-write-keeps-the-number-of-words : length (tableWriteTable m xs buf words entries) ≡ length words
+  unfolding tableWriteTable
+  a-write-keeps-the-number-of-words = calls.a-write-keeps-the-number-of-words (coderBy m) (stateOf m) xs buf words entries
+
+  pub a-write-keeps-the-length : length (tableWriteMemory m xs buf words entries) ≡ length buf
+  unfolding tableWriteMemory
+  a-write-keeps-the-length = calls.a-write-keeps-the-length (coderBy m) (writer.coder-good (m .«error_bound») (m .«with_first»)) (stateOf m) xs buf words entries
+
+-- "An empty write changes nothing", of the table either: an accepted one answers the writer that it was handed and as many entries, and whether or not it is
+-- accepted the buffer and the words are what they were
+pub an-empty-write-changes-nothing : (m : MacaqueV) (buf words : List ℕ) (entries : ℕ) → Below 8 buf
+    → ((r : Beside MacaqueV) → tableWriteAnswer m [] buf words entries ≡ answeredOn r → (r .writer ≡ m) × (r .entries ≡ entries))
+    × (tableWriteMemory m [] buf words entries ≡ buf) × (tableWriteTable m [] buf words entries ≡ words)
+unfolding tableWriteAnswer tableWriteMemory tableWriteTable
+an-empty-write-changes-nothing m = calls.an-empty-write-changes-nothing (coderBy m) (stateOf m)
+
+module _ (b : ErrorBound) (o : Opening) (buf : List ℕ) (used n k words entries : ℕ) where
+  -- an accepted reopening with a table is the plain one, and answers as many entries as k asks for
+  pub reopening-with-a-table-is-the-plain-one : openingValue o < 2 ^ 32 → (r : Beside MacaqueV) → tableReopenAnswer buf used n k o b words entries ≡ answered r
+      → ReopensBeside b o buf used n k words entries r
+  unfolding tableReopenAnswer tableReopenMemory reopenAnswer reopenMemory
+  reopening-with-a-table-is-the-plain-one hl r h =
+      let w = calls.reopening-with-a-table-is-the-plain-one (coderOf b (isFirst o)) (writer.coder-good b (isFirst o)) (openingValue o) hl buf used n k words entries r h in
+      record { plain = w .plain; bytes = w .bytes; before = w .before; after = w .after; lent = w .lent }
+
+  -- it is accepted where the plain one is, and the number of entries is lent and what the count asks for
+  pub a-plain-reopening-goes-with-a-table : openingValue o < 2 ^ 32 → (m : MacaqueV) → reopenAnswer buf used n k o b ≡ answered m → entries ≤ entriesLent words
+      → entries ≡ entriesFor n → tableReopenAnswer buf used n k o b words entries ≡ answered (record { writer = m; entries = entriesFor k })
+  unfolding tableReopenAnswer reopenAnswer
+  a-plain-reopening-goes-with-a-table hl =
+      calls.a-plain-reopening-goes-with-a-table (coderOf b (isFirst o)) (writer.coder-good b (isFirst o)) (openingValue o) hl buf used n k words entries
+
+  -- "lent memory is untouched"
+  pub a-refused-reopening-changes-nothing : (f : Fault) → tableReopenAnswer buf used n k o b words entries ≡ refused f → tableReopenMemory buf used n k o b words entries ≡ buf
+  unfolding tableReopenAnswer tableReopenMemory
+  a-refused-reopening-changes-nothing = calls.a-refused-reopening-changes-nothing (coderOf b (isFirst o)) (openingValue o) buf used n k words entries
+
+  pub reopening-keeps-the-length : openingValue o < 2 ^ 32 → length (tableReopenMemory buf used n k o b words entries) ≡ length buf
+  unfolding tableReopenMemory
+  reopening-keeps-the-length hl =
+      calls.reopening-keeps-the-length (coderOf b (isFirst o)) (writer.coder-good b (isFirst o)) (openingValue o) hl buf used n k words entries
+
+-- ---- the check
+
+module _ (o : Opening) (bytes : List ℕ) (count : ℕ) (words : List ℕ) (entries : ℕ) where
+  -- "A checking call goes through the stream once and refuses a table that doesn't belong to it": it accepts a table exactly if the stream is accepted and
+  -- the table is its own
+  pub the-check-accepts-exactly-its-own-table : (checkAnswer bytes count o words entries ≡ answered tt → OwnTable (streamIn (isFirst o)) (openingValue o) bytes count words entries)
+      × (OwnTable (streamIn (isFirst o)) (openingValue o) bytes count words entries → checkAnswer bytes count o words entries ≡ answered tt)
+  unfolding checkAnswer
+  the-check-accepts-exactly-its-own-table = reads.the-check-accepts-exactly-its-own-table (streamIn (isFirst o)) (openingValue o) bytes count words entries
+
+  -- "13, table doesn't match"
+  pub the-check-refuses-any-other-table : count ≤ mostValues → entries ≤ entriesLent (length words) → (vs : List ℕ) → valuesIn bytes count o ≡ answered vs
+      → (tableIn words entries ≡ entriesIn (streamIn (isFirst o)) count (opened o) (bitsOf bytes) → ⊥) → checkAnswer bytes count o words entries ≡ noMatch
+  unfolding checkAnswer
+  the-check-refuses-any-other-table = reads.the-check-refuses-any-other-table (streamIn (isFirst o)) (openingValue o) bytes count words entries
+
+  -- before that, a stream that reading refuses is refused as reading does, with value and place
+  pub the-check-refuses-what-reading-refuses : count ≤ mostValues → entries ≤ entriesLent (length words) → entries ≡ entriesFor count
+      → (f : StreamRefusal) → readAll (streamIn (isFirst o)) count (opened o) (bitsOf bytes) ≡ stopped f → checkAnswer bytes count o words entries ≡ refused (faultAt f)
+  unfolding checkAnswer
+  the-check-refuses-what-reading-refuses = reads.the-check-refuses-what-reading-refuses (streamIn (isFirst o)) (openingValue o) bytes count words entries
+
+  -- ---- "For each table that the check accepts, this must be shown equal to that part of the full reading."
+  module _ (hl : openingValue o < 2 ^ 32) (ok : checkAnswer bytes count o words entries ≡ answered tt) where
+    -- the stream is read as some values
+    pub a-checked-stream-reads : (vs : List ℕ) × (valuesIn bytes count o ≡ answered vs)
+    unfolding checkAnswer
+    a-checked-stream-reads =
+        let good = writer.coder-good Lossless (isFirst o) in
+        reads.a-checked-stream-reads (streamIn (isFirst o)) (good .format) (good .near) (openingValue o) hl bytes count words entries ok
+
+    -- and each range of it is that part of them, where the output has room; later places of it stay
+    pub a-range-is-that-part-of-the-reading : (vs : List ℕ) → valuesIn bytes count o ≡ answered vs → (p q : ℕ) → p ≤ q → q ≤ count → (out : List ℕ) → q - p ≤ length out
+        → (rangeAnswer bytes count o words entries p q (length out) ≡ answered tt)
+        × (rangeMemory bytes count o words entries p q out ≡ take (q - p) (drop p vs) ++ drop (q - p) out)
+    unfolding checkAnswer rangeAnswer rangeMemory
+    a-range-is-that-part-of-the-reading =
+        let good = writer.coder-good Lossless (isFirst o) in
+        reads.a-range-is-that-part-of-the-reading (streamIn (isFirst o)) (good .format) (good .near) (openingValue o) hl bytes count words entries ok
+
+-- ---- a range "takes any table"
+
+-- "with p = q it answers no values", whatever the table and the output
+pub a-range-of-no-values : (o : Opening) (bytes : List ℕ) (count : ℕ) (words : List ℕ) (entries p : ℕ) (out : List ℕ) → count ≤ mostValues → p ≤ count
+    → (rangeAnswer bytes count o words entries p p (length out) ≡ answered tt) × (rangeMemory bytes count o words entries p p out ≡ out)
+unfolding rangeAnswer rangeMemory
+a-range-of-no-values o = reads.a-range-of-no-values (streamIn (isFirst o))
+
+-- else it is accepted, or refused by the first of its causes, or "with 5 to 7 as they arise", at one of the values that it reads; "8 isn't judged"
+pub a-range-with-any-table : (o : Opening) (bytes : List ℕ) (count : ℕ) (words : List ℕ) (entries p q room : ℕ)
+    → RangeAnswers (rangeCauses (length bytes) count words entries p q room) p q (rangeAnswer bytes count o words entries p q room)
+unfolding rangeAnswer
+a-range-with-any-table o = reads.a-range-with-any-table (streamIn (isFirst o))
+
+-- where no cause holds it "answers what reading from there gives": from the entry at or before p, which is then in use, to value q − 1, without the values
+-- before p
+pub a-range-reads-from-its-entry : (o : Opening) (bytes : List ℕ) (count : ℕ) (words : List ℕ) (entries p q room : ℕ)
+    → NoneHolds (rangeCauses (length bytes) count words entries p q room) → p < q
+    → (entryBefore p < entries)
+    × (rangeAnswer bytes count o words entries p q room
+    ≡ drawn (without (p - readsFrom p)
+    (readN (streamIn (isFirst o)) (readsInAll p q) (stateFrom (streamIn (isFirst o)) (readsFrom p) (entryAt words (entryBefore p)))
+    (drop ((entryAt words (entryBefore p)) .place) (bitsOf bytes)))))
+unfolding rangeAnswer
+a-range-reads-from-its-entry o bytes count words entries p q room free lt =
+    let r = reads.a-range-reads-from-its-entry (streamIn (isFirst o)) bytes count words entries p q room free lt in
+    (r .0, sym (accepted refused _ _ free) ∙ ap drawn (r .1))
+
+-- it "starts from the entry at or before p" and looks at no other: two tables that agree in whether that entry is in use and in what it holds give the same
+pub a-range-looks-at-one-entry : (o : Opening) (bytes : List ℕ) (count p q : ℕ) (ws us : List ℕ) (n m : ℕ) → n ≤ entriesLent (length ws) → m ≤ entriesLent (length us)
+    → getElem? (tableIn ws n) (entryBefore p) ≡ getElem? (tableIn us m) (entryBefore p) → (out : List ℕ)
+    → (rangeAnswer bytes count o ws n p q (length out) ≡ rangeAnswer bytes count o us m p q (length out))
+    × (rangeMemory bytes count o ws n p q out ≡ rangeMemory bytes count o us m p q out)
+unfolding rangeAnswer rangeMemory
+a-range-looks-at-one-entry o = reads.a-range-looks-at-one-entry (streamIn (isFirst o))
+
+-- and reads at most 63 values before p, and none from q on
+pub a-range-reads-few-more : (p q : ℕ) → p ≤ q → readsInAll p q < (q - p) + spacing
+a-range-reads-few-more = few-before
+
+-- ---- any accepted stream with its own table, even one that this writer would not write, has its own table again after reopening at k and writing on
+
+pub any-table-resumes : (b : ErrorBound) (o : Opening) (n k used : ℕ) (buf words : List ℕ) (entries : ℕ) → boundAllowed b ≡ true → openingValue o < 2 ^ 32 → k ≤ n
+    → used ≤ length buf → checkAnswer (take used buf) n o words entries ≡ answered tt → TableResumes b o n k used buf words entries
+unfolding tableWriteAnswer tableWriteMemory tableWriteTable tableReopenAnswer tableReopenMemory checkAnswer
+any-table-resumes b o n k used buf words entries ok hl le fits h =
+    let r =
+    reads.any-table-resumes (coderOf b (isFirst o)) (writer.coder-good b (isFirst o)) (openingValue o) hl n k used buf words entries (writer.no-bound-refuses b ok) le fits h in
+    record { writer = writerOf b (isFirst o) (r .state); opens = r .opens; accepts = r .accepts; checks = r .checks }

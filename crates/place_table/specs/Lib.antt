@@ -1,0 +1,4 @@
+-- What the contracts of `place_table` cite.
+pub mod Calls
+pub mod Made
+pub mod inner

@@ -1,0 +1,156 @@
+-- The reading of a range with a table that the check accepts: that part of the full reading. Assumes nothing.
+use mathlib.Core.Path.{_≡_, refl, sym, ap, ap₂, _∙_, subst}
+use mathlib.Core.Logic.{_⊎_, inl, inr}
+use mathlib.Core.Bool.{Bool, true, false}
+use mathlib.Core.List.{List, _++_}
+use mathlib.Core.Option.{some}
+use Prim.Native.Nat.{ℕ, _+_, _-_, _*_, _^_, _≤_, _<_}
+use native.Mathlib.Nat.{eq-or-lt-of-le, mul-le-mul-right}
+use native.Mathlib.Omega.{arith}
+use borrow.Author.Tests.{le-leb, lt-ltb}
+use lib.Dec.{leb, ltb}
+use lib.ListN.{length, take, drop, replicate, getElem?, length-append, length-take}
+use lib.Seq.{drop-append-add, drop-at, length-take-le, take-add}
+use Rattle.bits.specs.Bits.{Below, bitsOf, wholeBytes, padding}
+use Rattle.models.specs.Answers.{answered, refused}
+use Rattle.models.proofs.Tests.{and-both}
+use Rattle.stream.proofs.Branches.{or-some}
+use Rattle.stream.specs.Calls.{faultAt}
+use Rattle.stream.specs.Format.{Format, opening, Stream, State, fresh, isOpening, leavesABit}
+use Rattle.stream.specs.Write.{kept, Keeps}
+use Rattle.stream.specs.Read.{StreamRefusal, Reading, done, stopped, readN, readAll}
+use Rattle.stream.specs.Table.{Entry, entryOf, entriesIn, MadeBeside, checkTable, entryBefore, readsFrom, readsInAll, stateFrom, mayStart, without, readRange}
+use Rattle.stream.specs.Needs.{Good, longest}
+use Rattle.stream.proofs.Writing.{fresh-small}
+use Rattle.stream.proofs.Reading.{prepend, thenRead, read-then, Whole, WholeOf, whole}
+use Rattle.stream.proofs.Formats.{Framed}
+use Rattle.stream.proofs.Rule.{Ruled, RuledIn, fresh-ruled, read-ruled, framed-leaves}
+use Rattle.stream.proofs.Near.{NearIn, read-near}
+use Rattle.stream.proofs.Gathered.{holding, Alike, read-any}
+use Rattle.stream.proofs.Reopen.{Opened, any-opened}
+use Rattle.stream.proofs.Made.{made-read}
+use Rattle.stream.proofs.TableEntries.{entry-read}
+use Rattle.stream.proofs.TableCheck.{check-says, made-checks}
+use Rattle.stream.proofs.TableAny.{range-empty, range-reads}
+
+-- ---- with a stream's own table
+
+-- what a state gathers has no part in the values
+alike-without : {A : Type 0} (S : Stream A) (k : ℕ) (x y : Reading A) → Alike S (S .gather) x y → without k x ≡ without k y
+alike-without S k (done vs s r) (done us t b) e = ap (λ (z : List ℕ). answered (drop k z)) (e .0)
+alike-without S k (done vs s r) (stopped f) e = absurd e
+alike-without S k (stopped f) (done us t b) e = absurd e
+alike-without S k (stopped f) (stopped g) e = ap (λ (f : StreamRefusal). refused (faultAt f)) e
+
+-- nor have values before the k-th
+without-prepend : {A : Type 0} (us : List ℕ) (k d : ℕ) (x : Reading A) → length us ≡ k → without (k + d) (prepend us x) ≡ without d x
+without-prepend us k d (done vs s r) e =
+    ap (λ (n : ℕ). answered (drop (n + d) (us ++ vs))) (sym e) ∙ ap answered (drop-append-add us vs d)
+without-prepend us k d (stopped f) e = refl
+
+-- a state that keeps the rule and stands within the bits has an entry to start from
+ruled-starts : {A : Type 0} (F : Format) (bits : ℕ) (s : State A) → s .last < 2 ^ F .width → Ruled F s → s .place ≤ bits → mayStart F bits (some (entryOf s)) ≡ true
+ruled-starts F bits s small R le =
+    and-both (ltb (s .last) (2 ^ F .width)) _ (lt-ltb (s .last) (2 ^ F .width) small)
+    (and-both (leb (s .place) bits) _ (le-leb (s .place) bits le) (or-some (isOpening (s .win)) (leavesABit F (s .win)) (go (R .window))))
+  where
+    go : (s .win ≡ opening) ⊎ ((0 < s .count) × Framed F (s .win)) → (isOpening (s .win) ≡ true) ⊎ (leavesABit F (s .win) ≡ true)
+    go (inl e) = inl (ap isOpening e)
+    go (inr g) = inr (framed-leaves F (s .win) (g .1))
+
+-- the values p to q − 1 of a list
+drop-take : (p q : ℕ) (vs : List ℕ) → p ≤ q → p ≤ length vs → drop p (take q vs) ≡ take (q - p) (drop p vs)
+drop-take p q vs le long =
+    let up : q ≡ p + (q - p) = omega arith in
+    ap (λ (n : ℕ). drop p (take n vs)) up ∙ ap (drop p) (take-add p (q - p) vs)
+    ∙ drop-at (take p vs) (take (q - p) (drop p vs)) p (length-take-le p vs long)
+
+-- the state before the value of the entry at or before p: the entry that holds it, and where it stands
+record Starts {A : Type 0} (S : Stream A) (l n p : ℕ) (bs : List Bool) (s : State A) (rest : List Bool) : Type 0 where
+  counted : s .count ≡ readsFrom p
+  found : getElem? (entriesIn S n (fresh S l) bs) (entryBefore p) ≡ some (entryOf s)
+  here : rest ≡ drop (s .place) bs
+  within : s .place ≤ length bs
+  near : s .place ≤ n * longest (S .format)
+  may : (bits : ℕ) → s .place ≤ bits → mayStart (S .format) bits (some (entryOf s)) ≡ true
+
+module _ {A : Type 0} (S : Stream A) (good : Good (S .format)) (l : ℕ) (hl : l < 2 ^ S .format .width) (n : ℕ) (bs : List Bool) (vs : List ℕ) where
+  starts-at : (p : ℕ) → p < n → (o : Opened S l n (readsFrom p) bs vs) → Starts S l n p bs (o .state) (o .rest)
+  starts-at p lt o =
+      let F : Format = S .format in
+      let f : State A = fresh S l in
+      let hf : f .last < 2 ^ F .width = fresh-small S (F .width) l hl in
+      let k : ℕ = readsFrom p in
+      let s : State A = o .state in
+      let rest : List Bool = o .rest in
+      let W : Whole S k f bs (take k vs) s rest = subst (WholeOf S k f bs) (o .reads) (whole S good k f bs hf) in
+      let R : Ruled F s = subst (RuledIn F) (o .reads) (read-ruled S good k f bs hf (fresh-ruled S l)) in
+      let near : s .place ≤ s .count * longest F = subst (NearIn F) (o .reads) (read-near S good k f bs hf (omega arith)) in
+      let c : s .count ≡ k = omega (arith, W .counted) in
+      let few : s .count ≤ n = omega arith in
+      record {
+        counted = c;
+        found = entry-read S l n (entryBefore p) bs (omega arith) (take k vs) s rest (o .reads);
+        here = sym (ap (drop (s .place)) (W .cut) ∙ drop-at (W .front) rest (s .place) (omega (arith, W .placed)));
+        within = omega (arith, W .placed, ap length (W .cut), length-append (W .front) rest);
+        near = omega (arith, near, mul-le-mul-right (longest F) few);
+        may = λ bits le. ruled-starts F bits s (W .small) R le;
+      }
+
+  -- read from the state before the entry's value, that is from the start without the values before p
+  opened-range : (p q : ℕ) → p < q → q ≤ n → Opened S l n (readsFrom p) bs vs → Opened S l n q bs vs
+      → readRange S bs (entriesIn S n (fresh S l) bs) p q ≡ answered (take (q - p) (drop p vs))
+  opened-range p q lt le o z =
+      let f : State A = fresh S l in
+      let hf : f .last < 2 ^ S .format .width = fresh-small S (S .format .width) l hl in
+      let k : ℕ = readsFrom p in
+      let m : ℕ = readsInAll p q in
+      let d : ℕ = p - k in
+      let to : k + d ≡ p = omega arith in
+      let all : k + m ≡ q = omega arith in
+      let s : State A = o .state in
+      let rest : List Bool = o .rest in
+      let W : Whole S k f bs (take k vs) s rest = subst (WholeOf S k f bs) (o .reads) (whole S good k f bs hf) in
+      let Q : Whole S q f bs (take q vs) (z .state) (z .rest) = subst (WholeOf S q f bs) (z .reads) (whole S good q f bs hf) in
+      let B : Starts S l n p bs s rest = starts-at p (omega arith) o in
+      range-reads S bs (entriesIn S n f bs) p q lt (entryOf s) (B .found) (B .may (length bs) (B .within))
+      ∙ ap₂ (λ (i : ℕ) (u : List Bool). without d (readN S m (stateFrom S i (entryOf s)) u)) (sym (B .counted)) (sym (B .here))
+      ∙ sym (alike-without S d (readN S m s rest) (readN S m (holding S (S .gather) (S .gather .none) s) rest) (read-any S (S .gather) m s (S .gather .none) rest))
+      ∙ sym (without-prepend (take k vs) k d (readN S m s rest) (W .long))
+      ∙ ap₂ (λ (i : ℕ) (x : Reading A). without i x) to (sym (read-then S k m f bs ∙ ap (thenRead S m) (o .reads)))
+      ∙ ap (λ (i : ℕ). without p (readN S i f bs)) all
+      ∙ ap (without p) (z .reads)
+      ∙ ap answered (drop-take p q vs (omega arith) (omega (arith, Q .long, length-take q vs)))
+
+  -- a range of an accepted stream may start from the stream's own entry at or before p, judged by so many bits as hold each place that is among the
+  -- stream's bits and near the start
+  pub own-entry-starts : (t : State A) (r : List Bool) → readAll S n (fresh S l) bs ≡ done vs t r → (p : ℕ) → p < n
+      → (bits : ℕ) → ((place : ℕ) → place ≤ length bs → place ≤ n * longest (S .format) → place ≤ bits)
+      → mayStart (S .format) bits (getElem? (entriesIn S n (fresh S l) bs) (entryBefore p)) ≡ true
+  own-entry-starts t r h p lt bits holds =
+      let o = any-opened S good l hl n (readsFrom p) (omega arith) bs vs t r h in
+      let B : Starts S l n p bs (o .state) (o .rest) = starts-at p lt o in
+      ap (mayStart (S .format) bits) (B .found) ∙ B .may bits (holds (o .state .place) (B .within) (B .near))
+
+  -- for a table that the check accepts: the values p to q − 1 of the full reading
+  pub checked-range : (t : State A) (r : List Bool) → readAll S n (fresh S l) bs ≡ done vs t r
+      → (table : List Entry) → checkTable S n (fresh S l) bs table ≡ answered tt → (p q : ℕ) → p ≤ q → q ≤ n
+      → readRange S bs table p q ≡ answered (take (q - p) (drop p vs))
+  checked-range t r h table ok p q le most = go (eq-or-lt-of-le le)
+    where
+      go : (p ≡ q) ⊎ (p < q) → readRange S bs table p q ≡ answered (take (q - p) (drop p vs))
+      go (inl e) =
+          let z : 0 ≡ q - p = omega arith in
+          ap (readRange S bs table p) (sym e) ∙ range-empty S bs table p ∙ ap (λ (i : ℕ). answered (take i (drop p vs))) z
+      go (inr lt) =
+          ap (λ (d : List Entry). readRange S bs d p q) (check-says S n (fresh S l) bs table ok .own)
+          ∙ opened-range p q lt most (any-opened S good l hl n (readsFrom p) (omega arith) bs vs t r h) (any-opened S good l hl n q most bs vs t r h)
+
+-- ---- with the table that a writer made: the kept values p to q − 1
+
+pub made-range : {A : Type 0} (rule : ℕ → ℕ → ℕ) (S : Stream A) (l : ℕ) {xs buf : List ℕ} {s : State A} {table : List Entry} → MadeBeside rule S l xs buf s table
+    → Good (S .format) → Keeps (S .format .width) rule → l < 2 ^ S .format .width → Below (S .format .width) xs → (p q : ℕ) → p ≤ q → q ≤ length xs
+    → readRange S (bitsOf (take (wholeBytes (s .place)) buf)) table p q ≡ answered (take (q - p) (drop p (kept rule S (fresh S l) xs)))
+made-range rule S l {xs} {buf} {s} {table} M good K hl bx =
+    checked-range S good l hl (length xs) (bitsOf (take (wholeBytes (s .place)) buf)) (kept rule S (fresh S l) xs) s
+    (replicate (padding (s .place)) false) (made-read rule S l (M .made) good K hl bx) table (made-checks rule S l M good K hl bx)
