@@ -13,7 +13,7 @@ use Rattle.models.specs.declared.Verdict.{Verdict}
 use Rattle.models.specs.declared.Verdict.the-variants.{Passed, Refused}
 use Rattle.models.proofs.Judged.{when-passed, when-refused, not-answered}
 use Rattle.stream.specs.Calls.{lentBytes}
-use Rattle.stream.specs.TableCalls.{Beside}
+use Rattle.places.specs.Calls.{Beside}
 use Rattle.macaque_v.specs.declared.MacaqueV.{MacaqueV}
 use Rattle.place_table.specs.Calls.{tableWriteAnswer}
 use Rattle.exports.specs.Face.{plainFault, rowIn, noState}

@@ -3,7 +3,7 @@
 -- stand for no state, or for no mode, are refused. Assumes nothing.
 use mathlib.Core.Path.{_≡_, refl, sym, ap, _∙_, subst}
 use mathlib.Core.Bool.{true, false}
-use mathlib.Core.List.{List, [], _++_}
+use mathlib.Core.List.{List, [], _∷_, _++_}
 use Prim.Native.Nat.{ℕ, _+_, _-_, _*_, _^_, _≤_, _<_}
 use native.Mathlib.Omega.{arith}
 use borrow.Author.Tests.{le-ltb, le-leb, lt-leb}
@@ -12,7 +12,7 @@ use lib.ListN.{length, take, drop, length-drop}
 use lib.Seq.{length-take-le, take-append-le, drop-append-le}
 use Rattle.bits.specs.Bits.{Below, bitsOf, wholeBytes}
 use Rattle.bits.proofs.Below.{below-take}
-use Rattle.models.specs.Answers.{fault, noFault, Said, answered, refused, SaidOn, answeredOn, refusedOn, stateless, Cause, judge, itself, keeping, NoneHolds}
+use Rattle.models.specs.Answers.{fault, noFault, Said, Done, answered, refused, SaidOn, answeredOn, refusedOn, stateless, Cause, _when_, judge, itself, keeping, NoneHolds}
 use Rattle.models.specs.declared.Fault.{Fault}
 use Rattle.models.specs.Limits.{mostValues}
 use Rattle.models.specs.Bound.{boundAllowed}
@@ -23,26 +23,26 @@ use Rattle.stream.specs.Format.{Stream}
 use Rattle.stream.specs.Write.{keptFrom}
 use Rattle.stream.specs.Read.{readAll}
 use Rattle.stream.specs.Calls.{valuesRead, drawn, drawnIn, gridCauses}
-use Rattle.stream.specs.Table.{entries, entriesFor, entriesIn}
-use Rattle.stream.specs.TableCalls.{entriesLent, tableIn, Beside, OwnTable}
+use Rattle.places.specs.Table.{entries, entriesFor, entriesIn}
+use Rattle.places.specs.Calls.{entriesLent, tableIn, Beside, OwnTable}
 use Rattle.macaque_v.specs.State.{Known, streamIn, isFirst, openingValue, opened}
 use Rattle.macaque_v.specs.Made.{stateOver, keptOf, Made}
 use Rattle.macaque_v.specs.Read.{valuesIn, gridAnswer, gridMemory}
 use Rattle.macaque_v.specs.declared.MacaqueV.{MacaqueV}
 use Rattle.macaque_v.specs.declared.Opening.{Opening}
 use Rattle.macaque_v.proofs.Promises.{lossless-keeps-the-inputs}
-use Rattle.place_table.specs.Calls.{tableReopenCauses, tableReopenAnswer, tableReopenMemory, checkAnswer, rangeAnswer}
+use Rattle.place_table.specs.Calls.{tableReopenCauses, tableReopenAnswer, tableReopenMemory, checkAnswer, rangeAnswer, rangeMemory}
 use Rattle.place_table.specs.Made.{MadeBeside, writerOver, over}
 use Rattle.place_table.proofs.Promises as call
 use Rattle.exports.specs.Face.{boundOf, plainFault, rowIn, noState, stepFault, stepRow}
 use Rattle.exports.specs.Words.{boundFront}
 use Rattle.exports.proofs.Back.{bound-of-held}
 use Rattle.exports_stream.specs.Row.{writerLength, writerRow, writtenRow, standsForState, writerIn, bytesInUse, lengthWord}
-use Rattle.exports_stream.specs.Calls.{openingOf, newFault, newRow, writeFault, writeRow, writeBuffer, gridFault, gridOut, RowMade}
+use Rattle.exports_stream.specs.Calls.{openingOf, countIn, newFault, newRow, writeFault, writeRow, writeBuffer, gridFault, gridOut, RowMade}
 use Rattle.exports_stream.proofs.Words.{short-stands-for-none, written-long, own-words}
 use Rattle.exports_stream.proofs.Promises.{row-made, place-word, length-word, a-new-row, a-row-goes-on, one-more}
 use Rattle.exports_table.specs.Calls.{besideRow, besideWritten, entriesAfter, tableWriteSaid, tableWriteFault, tableWriteRow, tableWriteBuffer, tableWriteWords, tableWriteEntries}
-use Rattle.exports_table.specs.Calls.{tableReopenFault, tableReopenRow, tableReopenBuffer, tableReopenEntries, tableCheckFault, tableRangeFault, tableRangeOut, RowMadeBeside, RowTableResumesAsOne}
+use Rattle.exports_table.specs.Calls.{tableReopenFaceCauses, tableReopenSaid, tableReopenLeft, tableReopenFault, tableReopenRow, tableReopenBuffer, tableReopenEntries, tableCheckFault, tableRangeFault, tableRangeOut, RowMadeBeside, RowTableResumesAsOne}
 use Rattle.exports_table.proofs.Faces.{no-state-refused, stands}
 use Rattle.exports_table.proofs.Told.{a-write-told, a-check-told, as-many-values, read-refused}
 
@@ -235,6 +235,30 @@ module _ (kind bound mode value : ℕ) (row : List ℕ) {xs buf : List ℕ} {m :
       let zero = a-row-with-its-table-is-accepted (r .2) hl (below-take 32 k xs bx) ok ys (omega arith) (omega (arith, room, long)) (omega arith) in
       record { opens = r .0; keeps = r .1; accepts = zero; made = a-row-goes-on-with-its-table (r .2) hl ys by (ap (λ (f : Fault). f .number) zero) }
 
+-- "leaves lent memory and state as they were": a refused reopening changes neither the row nor the buffer nor the number; the words never change
+refused-keeps : {X : Type 0} (before after : X) (causes : List Cause) (q : Said (Beside MacaqueV)) → ((f : Fault) → q ≡ refused f → after ≡ before)
+    → ((judge itself causes (plainFault q)) .number ≡ 0 → ⊥) → judge (keeping before) causes after ≡ before
+unfolding judge
+refused-keeps before after [] (answered r) same h = absurd (h refl)
+refused-keeps before after [] (refused f) same h = same f refl
+refused-keeps before after (n when true ∷ causes) q same h = refl
+refused-keeps before after (n when false ∷ causes) q same h = refused-keeps before after causes q same h
+
+pub a-refused-reopening-changes-nothing : (buf : List ℕ) (used count k mode value kind bound : ℕ) (row words : List ℕ) (in-use : ℕ)
+    → ((tableReopenFault buf used count k mode value kind bound row words in-use) .number ≡ 0 → ⊥)
+    → (tableReopenRow buf used count k mode value kind bound row words in-use ≡ row)
+    × (tableReopenBuffer buf used count k mode value kind bound row words in-use ≡ buf)
+    × (tableReopenEntries buf used count k mode value kind bound row words in-use ≡ in-use)
+unfolding tableReopenFault tableReopenRow tableReopenBuffer tableReopenEntries
+a-refused-reopening-changes-nothing buf used count k mode value kind bound row words in-use h =
+    let causes : List Cause = tableReopenFaceCauses buf used count k mode kind bound row words in-use in
+    let q : Said (Beside MacaqueV) = tableReopenSaid buf used count k mode value kind bound words in-use in (
+      refused-keeps row (rowIn besideRow row q) causes q (λ f e. ap (rowIn besideRow row) e) h,
+      refused-keeps buf (tableReopenLeft buf used count k mode value kind bound words in-use) causes q
+          (call.a-refused-reopening-changes-nothing (boundOf kind bound) (openingOf mode value) buf used (countIn mode count) k (length words) in-use) h,
+      refused-keeps in-use (entriesAfter in-use q) causes q (λ f e. ap (entriesAfter in-use) e) h,
+    )
+
 -- ---- the check, and a range of what it accepts
 
 module _ (bytes : List ℕ) (count mode value : ℕ) (words : List ℕ) (in-use : ℕ) (mode-is : mode ≤ 1) where
@@ -248,7 +272,14 @@ module _ (bytes : List ℕ) (count mode value : ℕ) (words : List ℕ) (in-use 
       let c = call.the-check-accepts-exactly-its-own-table (openingOf mode value) bytes count words in-use in
       rw (le-leb mode 1 mode-is) (λ zero. c .0 (a-check-told bytes count (openingOf mode value) words in-use zero), λ own. ap plainFault (c .1 own))
 
-  -- else it refuses: what the grid refuses as the grid does, with value and place; and of an accepted stream any other table with 13
+  -- else it refuses: with 13 a number of entries that the count does not ask for, whatever the bytes and the entries hold; then what the grid refuses as the
+  -- grid does, with value and place; and of an accepted stream any other table with 13
+  pub the-check-counts-the-entries-first : count ≤ mostValues → in-use ≤ entriesLent (length words) → (in-use ≡ entriesFor count → ⊥)
+      → tableCheckFault bytes count mode value words in-use ≡ fault 13
+  unfolding tableCheckFault
+  the-check-counts-the-entries-first few lent other =
+      rw (le-leb mode 1 mode-is) (ap plainFault (call.the-check-counts-the-entries-first (openingOf mode value) bytes count words in-use few lent other))
+
   pub the-check-refuses-what-the-grid-refuses : count ≤ mostValues → in-use ≤ entriesLent (length words) → in-use ≡ entriesFor count → (f : Fault)
       → valuesIn bytes count (openingOf mode value) ≡ refused f → tableCheckFault bytes count mode value words in-use ≡ f
   unfolding tableCheckFault
@@ -314,6 +345,18 @@ module _ (bytes : List ℕ) (count mode value : ℕ) (words : List ℕ) (in-use 
   a-range-of-no-values p out few most =
       let r = call.a-range-of-no-values (openingOf mode value) bytes count words in-use p out few most in
       rw (le-leb mode 1 mode-is) (ap plainFault (r .0), r .1)
+
+-- "no data": a refused range leaves the output as it was
+pub a-refused-range-changes-nothing : (bytes : List ℕ) (count mode value : ℕ) (words : List ℕ) (in-use p q : ℕ) (out : List ℕ)
+    → ((tableRangeFault bytes count mode value words in-use p q out) .number ≡ 0 → ⊥) → tableRangeOut bytes count mode value words in-use p q out ≡ out
+unfolding tableRangeFault tableRangeOut
+a-refused-range-changes-nothing bytes count mode value words in-use p q out h =
+    go (rangeAnswer bytes (countIn mode count) (openingOf mode value) words in-use p q (length out)) refl
+  where
+    go : (x : Said Done) → rangeAnswer bytes (countIn mode count) (openingOf mode value) words in-use p q (length out) ≡ x
+        → rangeMemory bytes (countIn mode count) (openingOf mode value) words in-use p q out ≡ out
+    go (answered u) e = absurd (h (ap (λ (x : Said Done). (plainFault x) .number) e))
+    go (refused f) e = call.a-refused-range-changes-nothing (openingOf mode value) bytes (countIn mode count) words in-use p q out f e
 
 -- ---- the same of rows that were written
 

@@ -14,10 +14,10 @@ use Rattle.models.proofs.Tests.{by-test}
 use Rattle.stream.specs.Format.{Stream, State}
 use Rattle.stream.specs.Read.{StreamRefusal, Reading, done, stopped, leftover, endedBy, ended, readN, readAll}
 use Rattle.stream.specs.Calls.{lentBytes, faultAt, valuesRead}
-use Rattle.stream.specs.Table.{Entry, entriesFor, entriesIn, sameEntries, matched, noMatch, checkTable}
-use Rattle.stream.specs.TableCalls.{Beside, tableIn, checkCauses}
+use Rattle.places.specs.Table.{Entry, entriesFor, entriesIn, sameEntries, matched, noMatch, checkTable}
+use Rattle.places.specs.Calls.{Beside, tableIn, checkCauses}
 use Rattle.stream.proofs.Reopen.{ended-inv}
-use Rattle.stream.proofs.TableAny.{ReadsIn, reads-in}
+use Rattle.places.proofs.Any.{ReadsIn, reads-in}
 use Rattle.macaque_v.specs.State.{streamIn, isFirst, opened}
 use Rattle.macaque_v.specs.declared.MacaqueV.{MacaqueV}
 use Rattle.macaque_v.specs.declared.Opening.{Opening}

@@ -8,8 +8,8 @@ use lib.ListN.{length, take}
 use Rattle.models.specs.Answers.{Said, answered, refused, SaidOn, stateless, Cause, _when_, judge, judgedMemory, keeping, itself, noFault}
 use Rattle.models.specs.declared.Fault.{Fault}
 use Rattle.models.specs.declared.ErrorBound.{ErrorBound}
-use Rattle.stream.specs.TableCalls.{Beside}
-use Rattle.stream.specs.Table.{entriesFor}
+use Rattle.places.specs.Calls.{Beside}
+use Rattle.places.specs.Table.{entriesFor}
 use Rattle.macaque_v.specs.declared.MacaqueV.{MacaqueV}
 use Rattle.macaque_v.specs.declared.Opening.{Opening}
 use Rattle.place_table.specs.Calls as table

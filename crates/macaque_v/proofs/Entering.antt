@@ -9,14 +9,14 @@ use borrow.Author.Tests.{eqb-true, eqb-false}
 use lib.Dec.{eqb}
 use lib.ListN.{length, take, getD, set}
 use lib.Seq.{sets, take-suc, take-all, length-take-le}
-use Rattle.stream.specs.Format.{State}
+use Rattle.stream.specs.Format.{State, rawNext}
 use Rattle.stream.specs.Write.{keptFrom}
-use Rattle.stream.specs.Table.{spacing, Entry, entryOf, noted, entriesFor, entries}
-use Rattle.stream.specs.TableCalls.{wordsEach, entriesLent, wordsOf, laidEntries}
-use Rattle.stream.proofs.TableEntries.{noted-one, noted-none}
-use Rattle.stream.proofs.TableSteps.{noted-more, added-count}
-use Rattle.stream.proofs.TableWords.{laid-none, laid-more, laid-length, laid-stores}
-use Rattle.macaque_v.specs.State.{Known, stateOf}
+use Rattle.places.specs.Table.{spacing, Entry, entryOf, noted, entriesFor, entries}
+use Rattle.places.specs.Calls.{wordsEach, entriesLent, wordsOf, laidEntries}
+use Rattle.places.proofs.Entries.{noted-one, noted-none}
+use Rattle.places.proofs.Steps.{noted-more, added-count}
+use Rattle.places.proofs.Words.{laid-none, laid-more, laid-length, laid-stores}
+use Rattle.macaque_v.specs.State.{Known, modeOf, stateOf}
 use Rattle.macaque_v.specs.Write.{streamBy, ruleBy}
 use Rattle.macaque_v.specs.inner.Write.{entriesBy, notedWhere}
 use Rattle.macaque_v.specs.inner.Noting.{DueAt, entryBy, notedBy}
@@ -66,50 +66,50 @@ module _ (m : MacaqueV) (xs : List ℕ) (i : ℕ) (h : i < length xs) where
       added-count (streamBy m) (ruleBy m) (stateOf m) (take i xs)
       ∙ ap (λ (n : ℕ). entriesFor (m .length + n)) (length-take-le i xs (omega arith))
 
-  more : entriesBy m (take (i + 1) xs) ≡ entriesBy m (take i xs) ++ noted s
+  more : entriesBy m (take (i + 1) xs) ≡ entriesBy m (take i xs) ++ noted (streamBy m) s
   more = ap (entriesBy m) (ap (λ (n : ℕ). take n xs) (add-one i) ∙ take-suc xs i 0 h) ∙ noted-more (streamBy m) (ruleBy m) (stateOf m) (take i xs) (getD xs i 0)
 
   counted : s .count ≡ m .length + i
   counted = after-count m xs i (omega arith)
 
-  note-more-by : (note t : Bool) (old words words′ : List ℕ) (due due′ : ℕ) (p : Pen) → PenAt m s i p → eqb i due ≡ t → Noting note m xs old i words due → Room note m xs old
-      → due′ ≡ cond t (i + spacing) due → words′ ≡ cond t (notedBy p ((m .length + i) / spacing) words) words
+  note-more-by : (note t : Bool) (old words words′ : List ℕ) (due due′ : ℕ) (p : Pen) (raw : Bool) → raw ≡ rawNext (modeOf (m .«with_first»)) (m .length + i) → PenAt m s i p → eqb i due ≡ t → Noting note m xs old i words due → Room note m xs old
+      → due′ ≡ cond t (i + spacing) due → words′ ≡ cond t (notedBy raw p ((m .length + i) / spacing) words) words
       → Noting note m xs old (i + 1) words′ due′
-  note-more-by false t old words words′ due due′ p P e N room d w = go t e d w
+  note-more-by false t old words words′ due due′ p raw same P e N room d w = go t e d w
     where
-      go : (t : Bool) → eqb i due ≡ t → due′ ≡ cond t (i + spacing) due → words′ ≡ cond t (notedBy p ((m .length + i) / spacing) words) words → Noting false m xs old (i + 1) words′ due′
+      go : (t : Bool) → eqb i due ≡ t → due′ ≡ cond t (i + spacing) due → words′ ≡ cond t (notedBy raw p ((m .length + i) / spacing) words) words → Noting false m xs old (i + 1) words′ due′
       go true e d w = absurd (omega (arith, eqb-true i due e, N .next))
       go false e d w = record { table = w ∙ N .table; next = omega (arith, N .next, d); long = ap length w ∙ N .long }
-  note-more-by true true old words words′ due due′ p P e N room d w =
+  note-more-by true true old words words′ due due′ p raw same P e N room d w =
       let at : i ≡ due = eqb-true i due e in
       let k : (m .length + i) / spacing ≡ entriesFor (m .length) + length (entriesBy m (take i xs)) = omega (arith, in-use, N .next .2) in
-      let said : entryBy p ≡ entryOf s = ap entryOf (sym (P .state)) in
-      let one : noted s ≡ entryBy p ∷ [] = noted-one s (omega (arith, counted, N .next .2)) ∙ ap (λ (x : Entry). x ∷ []) (sym said) in
+      let said : entryBy raw p ≡ entryOf (streamBy m) s = ap (λ (b : Bool). entryBy b p) (same ∙ ap (rawNext (modeOf (m .«with_first»))) (sym counted)) ∙ ap (entryOf (streamBy m)) (sym (P .state)) in
+      let one : noted (streamBy m) s ≡ entryBy raw p ∷ [] = noted-one (streamBy m) s (omega (arith, counted, N .next .2)) ∙ ap (λ (x : Entry). x ∷ []) (sym said) in
       let fits : 4 * entriesFor (m .length) ≤ length old = omega (arith, room refl) in
       let is : words′ ≡ notedWhere true old m (take (i + 1) xs) =
-      w ∙ ap₂ (λ (n : ℕ) (z : List ℕ). laidEntries z n (entryBy p ∷ [])) k (N .table)
-      ∙ laid-more old (entriesFor (m .length)) (entriesBy m (take i xs)) fits (entryBy p ∷ [])
+      w ∙ ap₂ (λ (n : ℕ) (z : List ℕ). laidEntries z n (entryBy raw p ∷ [])) k (N .table)
+      ∙ laid-more old (entriesFor (m .length)) (entriesBy m (take i xs)) fits (entryBy raw p ∷ [])
       ∙ ap (laidEntries old (entriesFor (m .length))) (ap (λ (z : List Entry). entriesBy m (take i xs) ++ z) (sym one) ∙ sym more) in
       record {
         table = is;
         next = (omega arith, omega arith, omega (arith, N .next .2));
-        long = ap length w ∙ laid-length words ((m .length + i) / spacing) (entryBy p ∷ []) (omega (arith, note-fits true m xs old i words due h N room at)) ∙ N .long;
+        long = ap length w ∙ laid-length words ((m .length + i) / spacing) (entryBy raw p ∷ []) (omega (arith, note-fits true m xs old i words due h N room at)) ∙ N .long;
       }
-  note-more-by true false old words words′ due due′ p P e N room d w =
+  note-more-by true false old words words′ due due′ p raw same P e N room d w =
       let apart : ¬ (i ≡ due) = eqb-false i due e in
       let no : s .count % spacing ≡ 0 → ⊥ = λ z. omega (arith, z, counted, N .next .0, N .next .1, N .next .2, apart) in
       let none : entriesBy m (take (i + 1) xs) ≡ entriesBy m (take i xs) =
-      more ∙ ap (λ (z : List Entry). entriesBy m (take i xs) ++ z) (noted-none s no) ∙ append-nil (entriesBy m (take i xs)) in
+      more ∙ ap (λ (z : List Entry). entriesBy m (take i xs) ++ z) (noted-none (streamBy m) s no) ∙ append-nil (entriesBy m (take i xs)) in
       record {
         table = w ∙ N .table ∙ ap (laidEntries old (entriesFor (m .length))) (sym none);
         next = (omega (arith, N .next .0, apart, d), omega (arith, N .next .1, d), ap (λ (n : ℕ). (m .length + n) % spacing) d ∙ N .next .2);
         long = ap length w ∙ N .long;
       }
 
-  pub note-more : (note : Bool) (old words words′ : List ℕ) (due due′ : ℕ) (p : Pen) → PenAt m s i p → Noting note m xs old i words due → Room note m xs old
-      → due′ ≡ cond (eqb i due) (i + spacing) due → words′ ≡ cond (eqb i due) (notedBy p ((m .length + i) / spacing) words) words
+  pub note-more : (note : Bool) (old words words′ : List ℕ) (due due′ : ℕ) (p : Pen) (raw : Bool) → raw ≡ rawNext (modeOf (m .«with_first»)) (m .length + i) → PenAt m s i p → Noting note m xs old i words due → Room note m xs old
+      → due′ ≡ cond (eqb i due) (i + spacing) due → words′ ≡ cond (eqb i due) (notedBy raw p ((m .length + i) / spacing) words) words
       → Noting note m xs old (i + 1) words′ due′
-  note-more note old words words′ due due′ p P N room d w = note-more-by note (eqb i due) old words words′ due due′ p P refl N room d w
+  note-more note old words words′ due due′ p raw same P N room d w = note-more-by note (eqb i due) old words words′ due due′ p raw same P refl N room d w
 
 -- ---- an entry's four words, one after another
 

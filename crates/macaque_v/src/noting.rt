@@ -5,8 +5,8 @@ ghost use Prim.Native.Nat.{_+_, _/_, _≤_, _<_};
 ghost use lib.Dec.{eqb};
 ghost use lib.ListN.{length};
 ghost use Rattle.models.specs.Limits.{mostValues};
-ghost use Rattle.stream.specs.Table.{spacing};
-ghost use Rattle.stream.specs.TableCalls.{entriesLent};
+ghost use Rattle.places.specs.Table.{spacing};
+ghost use Rattle.places.specs.Calls.{entriesLent};
 ghost use Rattle.macaque_v.specs.inner.Noting.{DueAt, notedBy};
 use crate::write::Pen;
 
@@ -28,10 +28,18 @@ pub fn first_due(count: usize, n: usize, note: bool) -> usize
 
 // The entry of where the pen stands, before value i of those behind `count` others, where it is due; and which value is due next. None is due where
 // none is noted: that is told besides, so that the compiler leaves all of this out of a loop that notes none.
-pub fn noted(table: &mut [u64], pen: Pen, count: usize, i: usize, due: usize, note: bool) -> usize
+pub fn noted(
+    table: &mut [u64],
+    pen: Pen,
+    raw: bool,
+    count: usize,
+    i: usize,
+    due: usize,
+    note: bool,
+) -> usize
     requires { ⌜ (count + i < mostValues) × (i ≡ due → (count + i) / spacing < entriesLent (length (now table))) × (note ≡ false → i < due) ⌝ }
     ensures next { λ r. ⌜ r ≡ cond (eqb i due) (i + spacing) due ⌝ }
-    ensures words { λ r. ⌜ now (table .exit) ≡ cond (eqb i due) (notedBy pen ((count + i) / spacing) (now (table .entry))) (now (table .entry)) ⌝ }
+    ensures words { λ r. ⌜ now (table .exit) ≡ cond (eqb i due) (notedBy raw pen ((count + i) / spacing) (now (table .entry))) (now (table .entry)) ⌝ }
 {
     if !note {
         return due;
@@ -39,10 +47,21 @@ pub fn noted(table: &mut [u64], pen: Pen, count: usize, i: usize, due: usize, no
     if i != due {
         return due;
     }
+    let last = last_before(raw, pen.last);
     let at = WORDS * ((count + i) / SPACING);
     table[at] = pen.place as u64;
-    table[at + 1] = pen.last as u64;
+    table[at + 1] = last;
     table[at + 2] = pen.lead as u64;
     table[at + 3] = pen.trail as u64;
     i + SPACING
+}
+
+// The last value kept before the next one; before a raw one there is none, and 0 stands for it.
+fn last_before(raw: bool, last: u32) -> u64
+    ensures { λ r. ⌜ r ≡ cond raw 0 last ⌝ }
+{
+    if raw {
+        return 0;
+    }
+    last as u64
 }

@@ -15,9 +15,9 @@ use Rattle.models.proofs.Judged.{passed, not-answered, not-refused, same-answer
 use Rattle.models.proofs.Tests.{neither}
 use Rattle.stream.specs.Calls.{lentBytes}
 use Rattle.stream.specs.Read.{Reopened, reopened, unopened}
-use Rattle.stream.specs.Table.{entriesFor}
-use Rattle.stream.specs.TableCalls as theory
-use Rattle.stream.specs.TableCalls.{Beside, entriesLent}
+use Rattle.places.specs.Table.{entriesFor}
+use Rattle.places.specs.Calls as theory
+use Rattle.places.specs.Calls.{Beside, entriesLent}
 use Rattle.macaque_v.specs.State.{Known}
 use Rattle.macaque_v.specs.Write.{wroteBy, coderOf}
 use Rattle.macaque_v.specs.Calls.{writeCauses}

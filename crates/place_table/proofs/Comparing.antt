@@ -9,24 +9,26 @@ use Rattle.bits.specs.Bits.{bitsOf}
 use Rattle.models.specs.Answers.{Said, Done, answered, refused}
 use Rattle.models.specs.Refusals.{faultOf}
 use Rattle.models.specs.declared.Refusal.{Refusal}
-use Rattle.stream.specs.Format.{Stream, State, bare}
+use Rattle.stream.specs.Format.{Stream, State, bare, windowIn}
 use Rattle.stream.specs.Read.{Reading, done, stopped, readN, readAll}
 use Rattle.stream.specs.Calls.{valuesRead}
-use Rattle.stream.specs.Table.{spacing, Entry, entryOf, noted, entriesFor, entriesIn, sameEntry, sameEntries, noMatch, matched}
-use Rattle.stream.specs.TableCalls.{entryAt, tableIn}
-use Rattle.stream.proofs.TableEntries.{noted-one, Entered, EnteredIn, entered, entries-any}
-use Rattle.stream.proofs.TableSteps.{same-more}
-use Rattle.stream.proofs.TableWords.{table-length}
+use Rattle.places.specs.Table.{spacing, Entry, lastBefore, entryOf, entriesFor, entriesIn, sameEntry, sameEntries, noMatch, matched}
+use Rattle.places.specs.Calls.{entryAt, tableIn}
+use Rattle.places.proofs.Entries.{noted-one, Entered, EnteredIn, entered, entries-any}
+use Rattle.places.proofs.Range.{not-raw}
+use Rattle.places.proofs.Steps.{same-more}
+use Rattle.places.proofs.Words.{table-length}
 use Rattle.macaque_v.specs.State.{gatherKnown, modeOf, streamIn, isFirst, opened}
 use Rattle.macaque_v.specs.Read.{valuesIn, startOf}
 use Rattle.macaque_v.specs.ReadRun.{stateAt, ahead, endSaid}
 use Rattle.macaque_v.specs.inner.ReadRun.{readFrom, Reads, StopsBy, ReadableAt}
 use Rattle.macaque_v.specs.declared.Opening.{Opening}
+use Rattle.macaque_v.specs.declared.Opening.the-variants.{First, On}
 use Rattle.macaque_v.specs.declared.read_run.Cursor.{Cursor}
 use Rattle.macaque_v.proofs.ReadingRun.{reads-none, reads-then, then-stops}
 use Rattle.macaque_v.proofs.ReadingEnd.{ends-early, ends-wrong}
 use Rattle.macaque_v.proofs.ReadingAll.{values-right, values-wrong}
-use Rattle.place_table.specs.inner.Range.{compared}
+use Rattle.place_table.specs.inner.Range.{hereOf, compared}
 
 -- ---- one entry
 
@@ -36,15 +38,15 @@ nothing (x ∷ xs) e = absurd (omega (arith, e))
 
 -- up to 64 values that begin at a multiple of 64 have the entry before the first of them, and no other
 one-entry : {A : Type 0} (S : Stream A) (k : ℕ) (s : State A) (bs : List Bool) (vs : List ℕ) (t : State A) (r : List Bool) → readN S k s bs ≡ done vs t r
-    → s .count % spacing ≡ 0 → 0 < k → k ≤ spacing → entriesIn S k s bs ≡ entryOf s ∷ []
+    → s .count % spacing ≡ 0 → 0 < k → k ≤ spacing → entriesIn S k s bs ≡ entryOf S s ∷ []
 unfolding entriesIn
 one-entry S zero s bs vs t r h m lo hi = absurd (omega (arith, lo))
 one-entry S (suc k) s bs vs t r h m lo hi =
     let E : Entered S (suc k) s bs t r = subst (EnteredIn S (suc k) s bs) h (entered S (suc k) s bs) in
     let rest : List Entry = _ in
-    let parts : entriesIn S (suc k) s bs ≡ (entryOf s ∷ []) ++ rest = ap (λ (z : List Entry). z ++ rest) (noted-one s m) in
-    let long : length rest ≡ 0 = omega (arith, E .number, E .counted, ap length parts, length-append (entryOf s ∷ []) rest) in
-    parts ∙ ap (λ (z : List Entry). (entryOf s ∷ []) ++ z) (nothing rest long)
+    let parts : entriesIn S (suc k) s bs ≡ (entryOf S s ∷ []) ++ rest = ap (λ (z : List Entry). z ++ rest) (noted-one S s m) in
+    let long : length rest ≡ 0 = omega (arith, E .number, E .counted, ap length parts, length-append (entryOf S s ∷ []) rest) in
+    parts ∙ ap (λ (z : List Entry). (entryOf S s ∷ []) ++ z) (nothing rest long)
 
 -- ---- the loop
 
@@ -56,7 +58,26 @@ pub record Along (first : Bool) (bytes : List ℕ) (from : Cursor) (table : List
   pub onEntry : n < count → n % spacing ≡ 0
   pub is : same ≡ sameEntries (tableIn table (entriesFor n)) (entriesIn (bare (modeOf first)) n (stateAt from) (ahead bytes from))
 
-module _ (first : Bool) (bytes : List ℕ) (from : Cursor) (zero-count : from .count ≡ 0) (table : List ℕ) (count : ℕ) where
+-- a cursor from which a stream is read holds 0 as last value where the next one is raw
+abbrev pub Opens : Bool → Cursor → Type 0
+Opens first at = lastBefore (bare (modeOf first)) (stateAt at) ≡ at .last
+
+pub opens : (o : Opening) → Opens (isFirst o) (startOf o)
+opens First = refl
+opens (On v) = refl
+
+-- so does one behind some values, where none is raw any more
+pub opens-still : (first : Bool) (bytes : List ℕ) (from : Cursor) (n : ℕ) (vs : List ℕ) (at : Cursor) → from .count ≡ 0 → Opens first from → Reads first bytes from n vs at → Opens first at
+unfolding readN
+opens-still first bytes from zero vs at z o R =
+    let is : stateAt from ≡ stateAt at = same (R .values) in
+    sym (ap (lastBefore (bare (modeOf first))) is) ∙ o ∙ ap (λ (s : State Unit). s .last) is
+  where
+    same : done [] (stateAt from) (ahead bytes from) ≡ done vs (stateAt at) (ahead bytes at) → stateAt from ≡ stateAt at
+    same e = cc
+opens-still first bytes from (suc n) vs at z o R = ap (λ (b : Bool). cond b 0 (at .last)) (not-raw (modeOf first) (at .count) (omega (arith, R .counted)))
+
+module _ (first : Bool) (bytes : List ℕ) (from : Cursor) (zero-count : from .count ≡ 0) (opens-from : Opens first from) (table : List ℕ) (count : ℕ) where
   pub along-start : ReadableAt bytes from → Along first bytes from table count 0 from true
   unfolding entriesIn tableIn
   along-start h = record { values = []; reads = reads-none first bytes from h; few = omega arith; onEntry = λ e. refl; is = refl }
@@ -70,16 +91,19 @@ module _ (first : Bool) (bytes : List ℕ) (from : Cursor) (zero-count : from .c
     entry-number = omega (arith, counted, L .onEntry more)
 
     pub along-more : (k : ℕ) (vs : List ℕ) (to : Cursor) → 0 < k → k ≤ spacing → n + k ≤ count → (n + k < count → k ≡ spacing)
-        → Reads first bytes at k vs to → (said : Bool) → said ≡ sameEntry (entryAt table (at .count / spacing)) (entryOf (stateAt at))
+        → Reads first bytes at k vs to → (said : Bool) → said ≡ sameEntry (entryAt table (at .count / spacing)) (hereOf at)
         → Along first bytes from table count (n + k) to (same && said)
     unfolding tableIn
     along-more k vs to lo hi le full R said e =
         let S : Stream Unit = bare (modeOf first) in
         let E : Entered S n (stateAt from) (ahead bytes from) (stateAt at) (ahead bytes at) = subst (EnteredIn S n (stateAt from) (ahead bytes from)) (L .reads .values) (entered S n (stateAt from) (ahead bytes from)) in
         let here : List Entry = entriesIn S n (stateAt from) (ahead bytes from) in
+        let last : lastBefore S (stateAt at) ≡ at .last = opens-still first bytes from n (L .values) at zero-count opens-from (L .reads) in
+        let plain : entryOf S (stateAt at) ≡ hereOf at = λ i. record { place = at .place; last = last i; win = windowIn (at .lead) (at .trail) } in
         let up : entriesFor (n + k) ≡ suc (entriesFor n) = omega (arith, L .onEntry more, lo, hi) in
-        let next : entriesIn S (n + k) (stateAt from) (ahead bytes from) ≡ here ++ (entryOf (stateAt at) ∷ []) =
-        E .onward k ∙ ap (λ (z : List Entry). here ++ z) (one-entry S k (stateAt at) (ahead bytes at) vs (stateAt to) (ahead bytes to) (R .values) (ap (λ (m : ℕ). m % spacing) counted ∙ L .onEntry more) lo hi) in
+        let next : entriesIn S (n + k) (stateAt from) (ahead bytes from) ≡ here ++ (hereOf at ∷ []) =
+        E .onward k ∙ ap (λ (z : List Entry). here ++ z) (one-entry S k (stateAt at) (ahead bytes at) vs (stateAt to) (ahead bytes to) (R .values) (ap (λ (m : ℕ). m % spacing) counted ∙ L .onEntry more) lo hi
+        ∙ ap (λ (x : Entry). x ∷ []) plain) in
         let long : length (tableIn table (entriesFor n)) ≡ length here = omega (arith, table-length table (entriesFor n), E .number, zero-count, counted) in
         record {
           values = L .values ++ vs;
@@ -87,8 +111,8 @@ module _ (first : Bool) (bytes : List ℕ) (from : Cursor) (zero-count : from .c
           few = le;
           onEntry = λ lt. omega (arith, L .onEntry more, full lt);
           is =
-              ap₂ (λ (x y : Bool). x && y) (L .is) (e ∙ ap (λ (i : ℕ). sameEntry (entryAt table i) (entryOf (stateAt at))) entry-number)
-              ∙ sym (same-more (tableIn table (entriesFor n)) here (entryAt table (entriesFor n)) (entryOf (stateAt at)) long)
+              ap₂ (λ (x y : Bool). x && y) (L .is) (e ∙ ap (λ (i : ℕ). sameEntry (entryAt table i) (hereOf at)) entry-number)
+              ∙ sym (same-more (tableIn table (entriesFor n)) here (entryAt table (entriesFor n)) (hereOf at) long)
               ∙ ap₂ (λ (x y : List Entry). sameEntries x y) (sym (ap (tableIn table) up)) (sym next);
         }
 

@@ -8,7 +8,7 @@ use mathlib.Core.Option.{some}
 use Prim.Native.Nat.{ℕ, _+_, _-_, _*_, _^_, _≤_, _<_}
 use lib.ListN.{length, take, drop, getElem?}
 use Rattle.bits.specs.Bits.{Below, bitsOf, wholeBytes}
-use Rattle.models.specs.Answers.{answered, refused, answeredOn, refusedOn, NoneHolds}
+use Rattle.models.specs.Answers.{answered, refused, answeredOn, refusedOn, keeping, NoneHolds}
 use Rattle.models.proofs.Judged.{accepted}
 use Rattle.models.specs.Limits.{mostValues}
 use Rattle.models.specs.Bound.{boundAllowed}
@@ -16,15 +16,15 @@ use Rattle.models.specs.declared.ErrorBound.{ErrorBound}
 use Rattle.models.specs.declared.ErrorBound.the-variants.{Lossless}
 use Rattle.models.specs.declared.Fault.{Fault}
 use Rattle.stream.specs.Format.{rawNext, isRaw}
-use Rattle.stream.specs.Read.{StreamRefusal, stopped, readN, readAll}
-use Rattle.stream.specs.Calls.{faultAt, drawn}
-use Rattle.stream.specs.Table.{spacing, Entry, entryOf, entriesFor, entriesIn, noMatch, entryBefore, readsFrom, readsInAll, stateFrom, without}
-use Rattle.stream.specs.TableCalls.{wordsEach, entriesLent, entryAt, tableIn, Beside, MadeByBeside, OwnTable, RangeAnswers}
-use Rattle.stream.proofs.TableEntries.{asked-for}
-use Rattle.stream.proofs.TableMade.{entry-of-run, run-number}
-use Rattle.stream.proofs.TableAny.{few-before, raw-at-entry}
-use Rattle.stream.proofs.TableCalls as calls
-use Rattle.stream.proofs.TableReads as reads
+use Rattle.stream.specs.Read.{StreamRefusal, stopped, readAll}
+use Rattle.stream.specs.Calls.{faultAt, drawn, drawnIn}
+use Rattle.places.specs.Table.{spacing, Entry, entryOf, entriesFor, entriesIn, noMatch, entryBefore, readsInAll, stateFrom, rangeFrom}
+use Rattle.places.specs.Calls.{wordsEach, entriesLent, entryAt, tableIn, Beside, MadeByBeside, OwnTable, OwnEntry, RangeAnswers}
+use Rattle.places.proofs.Entries.{asked-for}
+use Rattle.places.proofs.Made.{entry-of-run, run-number}
+use Rattle.places.proofs.Any.{few-before, raw-at-entry}
+use Rattle.places.proofs.Calls as calls
+use Rattle.places.proofs.Reads as reads
 use Rattle.coding.specs.Keep.{keepRule}
 use Rattle.macaque_v.specs.State.{modeOf, streamIn, stateOf, writerOf, isFirst, openingValue, opened}
 use Rattle.macaque_v.specs.Write.{coderOf, coderBy}
@@ -41,7 +41,7 @@ use Rattle.place_table.specs.Made.{tableOver, MadeBeside, writerOver, ov
 
 -- "bit place, last kept value and window before that value", for value number 64 * i
 pub an-entry-is-the-state-before-its-value : (b : ErrorBound) (o : Opening) (xs : List ℕ) (i : ℕ) → spacing * i < length xs
-    → getElem? (tableOver b o xs) i ≡ some (entryOf (stateOver b o (take (spacing * i) xs)))
+    → getElem? (tableOver b o xs) i ≡ some (entryOf (streamIn (isFirst o)) (stateOver b o (take (spacing * i) xs)))
 an-entry-is-the-state-before-its-value b o = entry-of-run (keepRule b) (streamIn (isFirst o)) (openingValue o)
 
 -- "an entry for each value number that is a multiple of 64 and below the count"
@@ -227,13 +227,19 @@ module _ (o : Opening) (bytes : List ℕ) (count : ℕ) (words : List ℕ) (entr
   unfolding checkAnswer
   the-check-accepts-exactly-its-own-table = reads.the-check-accepts-exactly-its-own-table (streamIn (isFirst o)) (openingValue o) bytes count words entries
 
-  -- "13, table doesn't match"
+  -- else it refuses. First with 13, "table doesn't match", for a number of entries that the count does not ask for, whatever the bytes and the entries hold
+  pub the-check-counts-the-entries-first : count ≤ mostValues → entries ≤ entriesLent (length words) → (entries ≡ entriesFor count → ⊥)
+      → checkAnswer bytes count o words entries ≡ noMatch
+  unfolding checkAnswer
+  the-check-counts-the-entries-first = reads.the-check-counts-the-entries-first (streamIn (isFirst o)) (openingValue o) bytes count words entries
+
+  -- and of an accepted stream any other table
   pub the-check-refuses-any-other-table : count ≤ mostValues → entries ≤ entriesLent (length words) → (vs : List ℕ) → valuesIn bytes count o ≡ answered vs
       → (tableIn words entries ≡ entriesIn (streamIn (isFirst o)) count (opened o) (bitsOf bytes) → ⊥) → checkAnswer bytes count o words entries ≡ noMatch
   unfolding checkAnswer
   the-check-refuses-any-other-table = reads.the-check-refuses-any-other-table (streamIn (isFirst o)) (openingValue o) bytes count words entries
 
-  -- before that, a stream that reading refuses is refused as reading does, with value and place
+  -- between the two, a stream that reading refuses as reading does, with value and place
   pub the-check-refuses-what-reading-refuses : count ≤ mostValues → entries ≤ entriesLent (length words) → entries ≡ entriesFor count
       → (f : StreamRefusal) → readAll (streamIn (isFirst o)) count (opened o) (bitsOf bytes) ≡ stopped f → checkAnswer bytes count o words entries ≡ refused (faultAt f)
   unfolding checkAnswer
@@ -247,6 +253,15 @@ module _ (o : Opening) (bytes : List ℕ) (count : ℕ) (words : List ℕ) (entr
     a-checked-stream-reads =
         let good = writer.coder-good Lossless (isFirst o) in
         reads.a-checked-stream-reads (streamIn (isFirst o)) (good .format) (good .near) (openingValue o) hl bytes count words entries ok
+
+    -- its entries are those that the count asks for, and entry i is of the state that a reader has behind the first 64 * i of these values
+    pub a-checked-table-has-its-entries : (vs : List ℕ) → valuesIn bytes count o ≡ answered vs
+        → (entries ≡ entriesFor count)
+        × ((i : ℕ) → spacing * i < count → OwnEntry (streamIn (isFirst o)) (openingValue o) bytes vs i (entryAt words i))
+    unfolding checkAnswer
+    a-checked-table-has-its-entries =
+        let good = writer.coder-good Lossless (isFirst o) in
+        reads.a-checked-table-has-its-entries (streamIn (isFirst o)) (good .format) (good .near) (openingValue o) hl bytes count words entries ok
 
     -- and each range of it is that part of them, where the output has room; later places of it stay
     pub a-range-is-that-part-of-the-reading : (vs : List ℕ) → valuesIn bytes count o ≡ answered vs → (p q : ℕ) → p ≤ q → q ≤ count → (out : List ℕ) → q - p ≤ length out
@@ -272,18 +287,24 @@ unfolding rangeAnswer
 a-range-with-any-table o = reads.a-range-with-any-table (streamIn (isFirst o))
 
 -- where no cause holds it "answers what reading from there gives": from the entry at or before p, which is then in use, to value q − 1, without the values
--- before p
-pub a-range-reads-from-its-entry : (o : Opening) (bytes : List ℕ) (count : ℕ) (words : List ℕ) (entries p q room : ℕ)
-    → NoneHolds (rangeCauses (length bytes) count words entries p q room) → p < q
+-- before p; that and its 5 to 7 are `rangeFrom` of this entry
+pub a-range-reads-from-its-entry : (o : Opening) (bytes : List ℕ) (count : ℕ) (words : List ℕ) (entries p q : ℕ) (out : List ℕ)
+    → NoneHolds (rangeCauses (length bytes) count words entries p q (length out)) → p < q
     → (entryBefore p < entries)
-    × (rangeAnswer bytes count o words entries p q room
-    ≡ drawn (without (p - readsFrom p)
-    (readN (streamIn (isFirst o)) (readsInAll p q) (stateFrom (streamIn (isFirst o)) (readsFrom p) (entryAt words (entryBefore p)))
-    (drop ((entryAt words (entryBefore p)) .place) (bitsOf bytes)))))
-unfolding rangeAnswer
-a-range-reads-from-its-entry o bytes count words entries p q room free lt =
-    let r = reads.a-range-reads-from-its-entry (streamIn (isFirst o)) bytes count words entries p q room free lt in
-    (r .0, sym (accepted refused _ _ free) ∙ ap drawn (r .1))
+    × (rangeAnswer bytes count o words entries p q (length out)
+    ≡ drawn (rangeFrom (streamIn (isFirst o)) (bitsOf bytes) p q (some (entryAt words (entryBefore p)))))
+    × (rangeMemory bytes count o words entries p q out
+    ≡ drawnIn out (rangeFrom (streamIn (isFirst o)) (bitsOf bytes) p q (some (entryAt words (entryBefore p)))))
+unfolding rangeAnswer rangeMemory
+a-range-reads-from-its-entry o bytes count words entries p q out free lt =
+    let r = reads.a-range-reads-from-its-entry (streamIn (isFirst o)) bytes count words entries p q (length out) free lt in
+    (r .0, sym (accepted refused _ _ free) ∙ ap drawn (r .1), sym (accepted (keeping out) _ _ free) ∙ ap (drawnIn out) (r .1))
+
+-- "no data": a refused range leaves the output as it was
+pub a-refused-range-changes-nothing : (o : Opening) (bytes : List ℕ) (count : ℕ) (words : List ℕ) (entries p q : ℕ) (out : List ℕ) (f : Fault)
+    → rangeAnswer bytes count o words entries p q (length out) ≡ refused f → rangeMemory bytes count o words entries p q out ≡ out
+unfolding rangeAnswer rangeMemory
+a-refused-range-changes-nothing o = reads.a-refused-range-changes-nothing (streamIn (isFirst o))
 
 -- it "starts from the entry at or before p" and looks at no other: two tables that agree in whether that entry is in use and in what it holds give the same
 pub a-range-looks-at-one-entry : (o : Opening) (bytes : List ℕ) (count p q : ℕ) (ws us : List ℕ) (n m : ℕ) → n ≤ entriesLent (length ws) → m ≤ entriesLent (length us)

@@ -21,14 +21,14 @@ use Rattle.models.proofs.Tests.{and-parts, and-both, and-past, or-either, neith
 use Rattle.stream.specs.Format.{macaque, opening, windowIn, unset, Stream, State, bare, isOpening, leavesABit}
 use Rattle.stream.specs.Read.{Reading, done, stopped, readN}
 use Rattle.stream.specs.Calls.{lentBytes, faultAt, valuesRead}
-use Rattle.stream.specs.Table.{spacing, Entry, entryBefore, readsFrom, readsInAll, stateFrom, mayStart, without, readRange}
-use Rattle.stream.specs.TableCalls.{entriesLent, entryAt, tableIn}
+use Rattle.places.specs.Table.{spacing, Entry, entryBefore, readsFrom, readsInAll, stateFrom, mayStart, without, readRange}
+use Rattle.places.specs.Calls.{entriesLent, entryAt, tableIn}
 use Rattle.stream.proofs.Formats.{macaque-good, Framed}
 use Rattle.stream.proofs.Rule.{opening-says, framed-says}
 use Rattle.stream.proofs.Reading.{prepend, thenRead, read-then}
 use Rattle.stream.proofs.Gathered.{Alike, read-any}
-use Rattle.stream.proofs.TableAny.{range-empty, range-reads}
-use Rattle.stream.proofs.TableWords.{entry-in-use, no-entry-in-use}
+use Rattle.places.proofs.Any.{range-empty, range-reads}
+use Rattle.places.proofs.Words.{entry-in-use, no-entry-in-use}
 use Rattle.coding.specs.inner.Ahead.{WindowSound}
 use Rattle.macaque_v.specs.State.{Known, gatherKnown, modeOf, streamIn, isFirst}
 use Rattle.macaque_v.specs.ReadRun.{stateAt, ahead}

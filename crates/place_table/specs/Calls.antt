@@ -8,8 +8,8 @@ use Rattle.models.specs.Refusals.{faultOf, refusalOf, refusal-told, unsaid, uns
 use Rattle.models.specs.Causes.{boundCauses}
 use Rattle.models.specs.declared.ErrorBound.{ErrorBound}
 use Rattle.stream.specs.Format.{macaque}
-use Rattle.stream.specs.TableCalls as stream
-pub use Rattle.stream.specs.TableCalls.{Beside, tableCauses, checkCauses}
+use Rattle.places.specs.Calls as stream
+pub use Rattle.places.specs.Calls.{Beside, tableCauses, checkCauses}
 use Rattle.macaque_v.specs.State.{streamIn, stateOf, isFirst, openingValue}
 use Rattle.macaque_v.specs.Write.{coderOf, coderBy}
 use Rattle.macaque_v.specs.declared.MacaqueV.{MacaqueV}

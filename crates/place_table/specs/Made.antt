@@ -7,8 +7,8 @@ use Rattle.bits.specs.Bits.{Below, wholeBytes}
 use Rattle.models.specs.Answers.{answered, answeredOn}
 use Rattle.models.specs.Limits.{mostValues}
 use Rattle.models.specs.declared.ErrorBound.{ErrorBound}
-use Rattle.stream.specs.Table.{Entry, entriesFor, tableOf, added}
-use Rattle.stream.specs.TableCalls.{Beside, entriesLent, tableIn, laidEntries}
+use Rattle.places.specs.Table.{Entry, entriesFor, tableOf, added}
+use Rattle.places.specs.Calls.{Beside, entriesLent, tableIn, laidEntries}
 use Rattle.coding.specs.Keep.{keepRule}
 use Rattle.macaque_v.specs.State.{streamIn, stateOf, writerOf, isFirst, openingValue}
 use Rattle.macaque_v.specs.Write.{streamBy, ruleBy, writerAt, wroteBy}

@@ -5,11 +5,10 @@ ghost use Prim.Native.Nat.{_+_, _*_, _/_, _%_, _^_, _≤_, _<_};
 ghost use lib.ListN.{length, getElem?};
 ghost use Rattle.models.specs.Limits.{mostValues};
 ghost use Rattle.stream.specs.Format.{macaque, windowIn, leavesABit};
-ghost use Rattle.stream.specs.Table.{spacing, entriesFor, sameEntry, entryOf, mayStart};
-ghost use Rattle.stream.specs.TableCalls.{entriesLent, entryAt, tableIn};
+ghost use Rattle.places.specs.Table.{spacing, entriesFor, sameEntry, mayStart};
+ghost use Rattle.places.specs.Calls.{entriesLent, entryAt, tableIn};
 ghost use Rattle.stream.specs.Calls.{lentBytes};
-ghost use Rattle.macaque_v.specs.ReadRun.{stateAt};
-ghost use Rattle.place_table.specs.inner.Range.{cursorIn};
+ghost use Rattle.place_table.specs.inner.Range.{hereOf, cursorIn};
 use macaque_v::MacaqueV;
 use macaque_v::noting::SPACING;
 use macaque_v::noting::WORDS;
@@ -26,7 +25,7 @@ pub fn entries_for(count: usize) -> usize
 // Whether the entry for where reading stands says that it stands there.
 pub fn says(table: &[u64], at: Cursor) -> bool
     requires { ⌜ (at .count ≤ mostValues) × (at .count / spacing < entriesLent (length (now table))) ⌝ }
-    ensures { λ r. ⌜ r ≡ sameEntry (entryAt (now (table .entry)) (at .count / spacing)) (entryOf (stateAt at)) ⌝ }
+    ensures { λ r. ⌜ r ≡ sameEntry (entryAt (now (table .entry)) (at .count / spacing)) (hereOf at) ⌝ }
 {
     let i = WORDS * (at.count / SPACING);
     (table[i] == (at.place as u64))

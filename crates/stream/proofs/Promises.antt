@@ -3,22 +3,19 @@
 use mathlib.Core.Path.{_≡_, refl, sym, ap, ap₂, _∙_}
 use mathlib.Core.Bool.{Bool, true, false}
 use mathlib.Core.List.{List, [], _∷_, _++_, append-nil, foldl}
-use mathlib.Core.Option as option
-use Prim.Native.Nat.{ℕ, _+_, _-_, _*_, _^_, _≤_, _<_}
+use Prim.Native.Nat.{ℕ, _+_, _*_, _^_, _≤_, _<_}
 use native.Mathlib.Nat.{add-zero}
 use native.Mathlib.Omega.{arith}
-use lib.ListN.{length, take, drop, replicate, getElem?}
+use lib.ListN.{length, take, replicate}
 use Rattle.bits.specs.Bits.{Below, field, bitsOf, wholeBytes, up, padding, padded, laidIn, cutIn}
 use Rattle.bits.proofs.Bytes.{length-bitsOf}
 use Rattle.bits.proofs.Writes.{laid-used, cut-used}
 use Rattle.bits.proofs.InBytes.{bits-laidIn, length-laidIn, laidIn-nothing, laidIn-before, laidIn-after, bits-cutIn, length-cutIn, cutIn-before, cutIn-after}
-use Rattle.stream.specs.Format.{Format, macaque, gorilla, bitsFor, Gather, gatherFrom, Mode, withFirst, withoutFirst, rawNext, Stream, State, fresh, isRaw, mostValues, usable}
-use Rattle.stream.specs.Write.{lossless, keptFrom, kept, Keeps, after, written, wrote, wroteIn}
+use Rattle.stream.specs.Format.{Format, macaque, gorilla, bitsFor, Gather, gatherFrom, Mode, withFirst, withoutFirst, Stream, State, fresh, mostValues, usable}
+use Rattle.stream.specs.Write.{lossless, keptFrom, kept, Keeps, written, wrote, wroteIn}
 use Rattle.stream.specs.Read.{StreamRefusal, done, stopped, readAll, Reopened, reopened, unopened, reopen, bufferAfter}
 use Rattle.stream.specs.Made.{Made, Resumed, Rewritten}
 use Rattle.stream.specs.Cases.{cases, AllRight}
-use Rattle.models.specs.Answers.{answered}
-use Rattle.stream.specs.Table.{spacing, Entry, entryOf, entriesFor, entriesIn, tableOf, tableWrote, tableAfter, MadeBeside, noMatch, Belongs, checkTable, readsInAll, stateFrom, readRange, RangeSays}
 use Rattle.stream.specs.Needs.{Good}
 use Rattle.stream.proofs.Formats.{macaque-good, gorilla-good}
 use Rattle.stream.proofs.Writing.{place-after, wrote-append}
@@ -29,12 +26,6 @@ use Rattle.stream.proofs.Reopen.{refused-reopen}
 use Rattle.stream.proofs.Made as spine
 use Rattle.stream.proofs.AnyStream.{any-resumed}
 use Rattle.stream.proofs.Marked.{marked}
-use Rattle.stream.proofs.TableEntries.{asked-for}
-use Rattle.stream.proofs.TableMade.{entry-of-run, run-number, table-append, beside-fresh, beside-number, beside-write, beside-reopen}
-use Rattle.stream.proofs.TableCheck.{check-says, check-own, check-other, made-checks}
-use Rattle.stream.proofs.TableAny.{few-before, raw-at-entry, range-says}
-use Rattle.stream.proofs.TableRange.{checked-range, made-range}
-use Rattle.stream.proofs.TableResume.{any-table-resumed}
 
 -- ---- demand 2: what was written reads back. And demand 3: a stream that is stopped and resumed is the stream of one fresh run.
 
@@ -146,116 +137,6 @@ reopening-refuses-what-reading-refuses = refused-reopen
 pub a-refused-reopening-leaves-the-buffer : {A : Type 0} (S : Stream A) (n k : ℕ) (s : State A) (bits : List Bool) (f : StreamRefusal)
     → readAll S n s bits ≡ stopped f → (buf : List ℕ) → bufferAfter (reopen S n k s bits) buf ≡ buf
 a-refused-reopening-leaves-the-buffer {A} S n k s bits f h buf = ap (λ (q : Reopened A). bufferAfter q buf) (refused-reopen S n k s bits f h)
-
--- ---- the place table: beside a stream, in a check, and in a range
-
-module _ {A : Type 0} (rule : ℕ → ℕ → ℕ) (S : Stream A) (l : ℕ) where
-  -- "bit place, last kept value and window before that value", for value number 64 * i
-  pub an-entry-is-the-state-before-its-value : (xs : List ℕ) (i : ℕ) → spacing * i < length xs
-      → getElem? (tableOf rule S l xs) i ≡ option.some (entryOf (wrote rule S (fresh S l) (take (spacing * i) xs)))
-  an-entry-is-the-state-before-its-value = entry-of-run rule S l
-
-  -- so entry 0 is the fresh state: place 0, the opening window, and +0 or the opening value as last
-  pub entry-0-is-the-fresh-state : (xs : List ℕ) → 0 < length xs → getElem? (tableOf rule S l xs) 0 ≡ option.some (entryOf (fresh S l))
-  unfolding keptFrom after
-  entry-0-is-the-fresh-state xs some-value = entry-of-run rule S l xs 0 some-value
-
-  -- "for each value number that is a multiple of 64 and below the count"
-  pub as-many-entries-as-the-count-asks-for : (xs : List ℕ) → length (tableOf rule S l xs) ≡ entriesFor (length xs)
-  as-many-entries-as-the-count-asks-for = run-number rule S l
-
-  pub a-fresh-writer-with-a-table : (buf : List ℕ) → MadeBeside rule S l [] buf (fresh S l) []
-  a-fresh-writer-with-a-table = beside-fresh rule S l
-
-  module _ {xs buf : List ℕ} {s : State A} {table : List Entry} (M : MadeBeside rule S l xs buf s table) where
-    -- so that neither a write nor a reopening refuses it with 13
-    pub its-table-has-the-number-of-entries : length table ≡ entriesFor (s .count)
-    its-table-has-the-number-of-entries = beside-number rule S l M
-
-    pub a-write-adds-its-entries : (ys : List ℕ) → (wrote rule S s ys) .place ≤ 8 * length buf
-        → MadeBeside rule S l (xs ++ ys) (wroteIn rule S s ys buf) (wrote rule S s ys) (tableWrote rule S s ys table)
-    a-write-adds-its-entries = beside-write rule S l M
-
-    module _ (good : Good (S .format)) (K : Keeps (S .format .width) rule) (hl : l < 2 ^ S .format .width) (bx : Below (S .format .width) xs) where
-      -- "reopening at k drops those for k and above": the others stay, and are the table of the first k inputs
-      pub reopening-keeps-the-entries-below : (k : ℕ) → k ≤ length xs
-          → (tableAfter (reopen S (length xs) k (fresh S l) (bitsOf (take (wholeBytes (s .place)) buf))) table ≡ take (entriesFor k) table)
-          × MadeBeside rule S l (take k xs) (bufferAfter (reopen S (length xs) k (fresh S l) (bitsOf (take (wholeBytes (s .place)) buf))) buf)
-          (wrote rule S (fresh S l) (take k xs)) (tableAfter (reopen S (length xs) k (fresh S l) (bitsOf (take (wholeBytes (s .place)) buf))) table)
-      reopening-keeps-the-entries-below = beside-reopen rule S l M good K hl bx
-
-      -- so reopening at k and writing ys leaves the bytes, the state and the table of one fresh run over the first k inputs and ys
-      pub resumed-with-its-table : (k : ℕ) → k ≤ length xs → (ys : List ℕ) → (wrote rule S (wrote rule S (fresh S l) (take k xs)) ys) .place ≤ 8 * length buf
-          → MadeBeside rule S l (take k xs ++ ys)
-          (wroteIn rule S (wrote rule S (fresh S l) (take k xs)) ys (bufferAfter (reopen S (length xs) k (fresh S l) (bitsOf (take (wholeBytes (s .place)) buf))) buf))
-          (wrote rule S (wrote rule S (fresh S l) (take k xs)) ys)
-          (tableWrote rule S (wrote rule S (fresh S l) (take k xs)) ys (take (entriesFor k) table))
-      resumed-with-its-table k le ys room =
-          let m : State A = wrote rule S (fresh S l) (take k xs) in
-          let back = reopening-keeps-the-entries-below k le in
-          record {
-            made = resumed-as-one-run rule S l (M .made) good K hl bx k le ys room;
-            beside =
-                ap (tableWrote rule S m ys) (sym (back .0) ∙ back .1 .beside) ∙ sym (table-append rule S l (take k xs) ys);
-          }
-
-      -- the check accepts it
-      pub a-made-table-is-accepted : checkTable S (length xs) (fresh S l) (bitsOf (take (wholeBytes (s .place)) buf)) table ≡ answered tt
-      a-made-table-is-accepted = made-checks rule S l M good K hl bx
-
-      -- a range of what was written: the kept values p to q − 1
-      pub a-made-range : (p q : ℕ) → p ≤ q → q ≤ length xs
-          → readRange S (bitsOf (take (wholeBytes (s .place)) buf)) table p q ≡ answered (take (q - p) (drop p (kept rule S (fresh S l) xs)))
-      a-made-range = made-range rule S l M good K hl bx
-
--- a count asks for the entries of the value numbers below it that are multiples of 64, so reopening at k keeps exactly those below k
-pub an-entry-is-asked-for-below-the-count : (i n : ℕ) → (i < entriesFor n → spacing * i < n) × (spacing * i < n → i < entriesFor n)
-an-entry-is-asked-for-below-the-count = asked-for
-
--- the check accepts no table of a stream that is refused, and of an accepted one its own, and no other
-pub the-check-accepts-only-what-belongs : {A : Type 0} (S : Stream A) (n : ℕ) (s : State A) (bits : List Bool) (table : List Entry)
-    → checkTable S n s bits table ≡ answered tt → Belongs S n s bits table
-the-check-accepts-only-what-belongs = check-says
-
-pub the-check-accepts-its-own-table : {A : Type 0} (S : Stream A) (n l : ℕ) (bits : List Bool) (vs : List ℕ) (t : State A) (r : List Bool)
-    → readAll S n (fresh S l) bits ≡ done vs t r → (table : List Entry) → table ≡ entriesIn S n (fresh S l) bits
-    → checkTable S n (fresh S l) bits table ≡ answered tt
-the-check-accepts-its-own-table = check-own
-
-pub the-check-refuses-any-other : {A : Type 0} (S : Stream A) (n l : ℕ) (bits : List Bool) (vs : List ℕ) (t : State A) (r : List Bool)
-    → readAll S n (fresh S l) bits ≡ done vs t r → (table : List Entry) → (table ≡ entriesIn S n (fresh S l) bits → ⊥)
-    → checkTable S n (fresh S l) bits table ≡ noMatch
-the-check-refuses-any-other = check-other
-
--- "For each table that the check accepts, this must be shown equal to that part of the full reading."
-pub a-range-is-that-part-of-the-reading : {A : Type 0} (S : Stream A) → Good (S .format) → (l : ℕ) → l < 2 ^ S .format .width
-    → (n : ℕ) (bits : List Bool) (vs : List ℕ) (t : State A) (r : List Bool) → readAll S n (fresh S l) bits ≡ done vs t r
-    → (table : List Entry) → checkTable S n (fresh S l) bits table ≡ answered tt → (p q : ℕ) → p ≤ q → q ≤ n
-    → readRange S bits table p q ≡ answered (take (q - p) (drop p vs))
-a-range-is-that-part-of-the-reading = checked-range
-
--- any accepted stream whose table the check accepts, reopened at k and written on: the check accepts what was kept and added
-pub any-table-resumes : {A : Type 0} (rule : ℕ → ℕ → ℕ) (S : Stream A) → Good (S .format) → Keeps (S .format .width) rule → (l : ℕ) → l < 2 ^ S .format .width
-    → (n k used : ℕ) (buf : List ℕ) → k ≤ n → used ≤ length buf → (vs : List ℕ) (t : State A) (r : List Bool)
-    → readAll S n (fresh S l) (bitsOf (take used buf)) ≡ done vs t r
-    → (table : List Entry) → checkTable S n (fresh S l) (bitsOf (take used buf)) table ≡ answered tt → (R : Resumed rule S l n k used buf vs)
-    → (ys : List ℕ) → Below (S .format .width) ys → (wrote rule S (R .state) ys) .place ≤ 8 * length buf
-    → checkTable S (k + length ys) (fresh S l)
-    (bitsOf (take (wholeBytes ((wrote rule S (R .state) ys) .place)) (wroteIn rule S (R .state) ys (bufferAfter (reopened (R .state)) buf))))
-    (tableWrote rule S (R .state) ys (tableAfter (reopened (R .state)) table)) ≡ answered tt
-any-table-resumes = any-table-resumed
-
--- with any table a range answers q − p values, or refuses with 13, or with 5 to 7 at one of the values that it reads
-pub a-range-of-any-table : {A : Type 0} (S : Stream A) (bits : List Bool) (table : List Entry) (p q : ℕ) → p ≤ q → RangeSays p q (readRange S bits table p q)
-a-range-of-any-table = range-says
-
--- and reads at most 63 values before p, and none from q on
-pub a-range-reads-few-more : (p q : ℕ) → p ≤ q → readsInAll p q < (q - p) + spacing
-a-range-reads-few-more = few-before
-
--- "With a first value, entry 0 and no other begins at the raw value."
-pub only-entry-0-begins-at-the-raw-value : {A : Type 0} (S : Stream A) (i : ℕ) (e : Entry) → isRaw S (stateFrom S (spacing * i) e) ≡ rawNext (S .mode) i
-only-entry-0-begins-at-the-raw-value = raw-at-entry
 
 -- ---- what the calls do to lent bytes
 

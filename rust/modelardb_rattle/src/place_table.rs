@@ -55,6 +55,7 @@ impl PlaceTable {
 
     /// The words to keep, four to an entry: the place in bits, the bits of the last value kept, and the window's
     /// leading and trailing zero bits.
+    /// A file holds them in an order of bytes that you choose, as [`u64::to_le_bytes`] has it.
     ///
     /// ```
     /// use modelardb_rattle::{ErrorBound, Opening, Refusal, TabledWriter};

@@ -6,7 +6,7 @@ use Prim.Native.Nat.{ℕ, _≤_}
 use lib.ListN.{length}
 use Rattle.models.specs.Answers.{answered, answeredOn, SaidOn, stateless}
 use Rattle.models.specs.declared.Verdict.the-variants.{Passed}
-use Rattle.stream.specs.TableCalls.{Beside}
+use Rattle.places.specs.Calls.{Beside}
 use Rattle.macaque_v.specs.declared.MacaqueV.{MacaqueV}
 use Rattle.place_table.specs.Calls.{saysTableWrite, tableWriteAnswer, tableWriteMemory, tableWriteTable}
 use Rattle.exports.specs.Face.{stepFault, stepRow}

@@ -8,8 +8,8 @@ use Rattle.bits.specs.Bits.{laidIn}
 use Rattle.models.specs.declared.ErrorBound.{ErrorBound}
 use Rattle.stream.specs.Format.{State, rawNext, windowIn}
 use Rattle.stream.specs.Write.{keptOne, written}
-use Rattle.stream.specs.Table.{Entry, entriesFor, added}
-use Rattle.stream.specs.TableCalls.{laidEntries}
+use Rattle.places.specs.Table.{Entry, entriesFor, added}
+use Rattle.places.specs.Calls.{laidEntries}
 use Rattle.coding.specs.Keep.{keepRule}
 use Rattle.coding.specs.inner.Code.{Coded}
 use Rattle.coding.specs.declared.code.Code.{Code}

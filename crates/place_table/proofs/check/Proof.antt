@@ -9,12 +9,12 @@ use Rattle.bits.specs.Bits.{bitsOf}
 use Rattle.models.specs.Answers.{refused, NoneHolds}
 use Rattle.models.specs.Limits.{mostValues}
 use Rattle.models.proofs.Judged.{none-holds, when-passed, when-refused}
-use Rattle.stream.specs.Table.{sameEntries, entriesIn, matched}
+use Rattle.places.specs.Table.{sameEntries, entriesIn, matched}
 use Rattle.stream.specs.Read.{readAll}
-use Rattle.stream.specs.TableCalls.{tableIn}
-use Rattle.stream.proofs.TableCalls.{number-says}
-use Rattle.stream.proofs.TableCheck.{numbered}
-use Rattle.stream.proofs.TableWords.{table-length}
+use Rattle.places.specs.Calls.{tableIn}
+use Rattle.places.proofs.Calls.{number-says}
+use Rattle.places.proofs.Check.{numbered}
+use Rattle.places.proofs.Words.{table-length}
 use Rattle.macaque_v.specs.State.{streamIn, isFirst, opened}
 use Rattle.place_table.specs.Calls.{checkCauses, checkAnswer}
 use Rattle.place_table.proofs.check.Statement.{statement}

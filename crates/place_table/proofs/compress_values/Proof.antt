@@ -11,8 +11,8 @@ use Rattle.models.specs.Calls.{saysVerdict}
 use Rattle.models.proofs.Judged.{none, turned-back}
 use Rattle.models.proofs.Judged as judging
 use Rattle.stream.specs.Calls.{lentBytes}
-use Rattle.stream.specs.Table.{entriesFor}
-use Rattle.stream.specs.TableCalls.{Beside, laidEntries}
+use Rattle.places.specs.Table.{entriesFor}
+use Rattle.places.specs.Calls.{Beside, laidEntries}
 use Rattle.macaque_v.specs.Write.{writerAt, wroteBy}
 use Rattle.macaque_v.specs.inner.Write.{writtenBy, entriesBy}
 use Rattle.macaque_v.specs.declared.MacaqueV.{MacaqueV}

@@ -16,8 +16,8 @@ use Rattle.models.proofs.Judged.{none, refused-first, passed-first}
 use Rattle.models.proofs.Tests.{neither, and-past}
 use Rattle.stream.specs.Format.{macaque}
 use Rattle.stream.specs.Calls.{lentBytes}
-use Rattle.stream.specs.Table.{entryBefore, mayStart}
-use Rattle.stream.specs.TableCalls.{entriesLent, tableIn}
+use Rattle.places.specs.Table.{entryBefore, mayStart}
+use Rattle.places.specs.Calls.{entriesLent, tableIn}
 use Rattle.place_table.proofs.judge_range.Statement.{statement}
 use Rattle.place_table.proofs.judge_range.Tie as tie
 

@@ -3,7 +3,7 @@ use borrow.Author.Needs.{needs}
 use mathlib.Core.Path.{sym, ap, _∙_}
 use Rattle.models.specs.Calls.{saysVerdict}
 use Rattle.models.proofs.Judged.{refused-first, passed-first}
-use Rattle.stream.specs.TableCalls.{tableCauses}
+use Rattle.places.specs.Calls.{tableCauses}
 use Rattle.macaque_v.specs.Read.{reopenCauses}
 use Rattle.place_table.proofs.judge_reopen.Statement.{statement}
 use Rattle.place_table.proofs.judge_reopen.Tie as tie

@@ -11,8 +11,8 @@ use Rattle.models.specs.Answers.{answered, refused, Cause, _when_, judge, verdi
 use Rattle.models.specs.Refusals.{faultOf}
 use Rattle.models.specs.Calls.{saysVerdict}
 use Rattle.models.proofs.Judged.{refused-first, passed-first}
-use Rattle.stream.specs.Table.{entriesFor}
-use Rattle.stream.specs.TableCalls.{entriesLent, tableCauses}
+use Rattle.places.specs.Table.{entriesFor}
+use Rattle.places.specs.Calls.{entriesLent, tableCauses}
 use Rattle.macaque_v.specs.Write.{wroteBy}
 use Rattle.macaque_v.specs.inner.Calls.{startCauses}
 use Rattle.macaque_v.specs.declared.MacaqueV.{MacaqueV}

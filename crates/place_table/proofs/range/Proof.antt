@@ -10,9 +10,9 @@ use Rattle.bits.specs.Bits.{bitsOf}
 use Rattle.models.specs.Answers.{Said, answered, refused, keeping, NoneHolds}
 use Rattle.models.proofs.Judged.{none-holds, when-passed, when-refused}
 use Rattle.stream.specs.Calls.{drawn, drawnIn}
-use Rattle.stream.specs.Table.{readRange}
-use Rattle.stream.specs.TableCalls.{tableIn}
-use Rattle.stream.proofs.TableAny.{range-empty}
+use Rattle.places.specs.Table.{readRange}
+use Rattle.places.specs.Calls.{tableIn}
+use Rattle.places.proofs.Any.{range-empty}
 use Rattle.macaque_v.specs.State.{streamIn, isFirst}
 use Rattle.macaque_v.specs.inner.ReadRun.{ReadableAt}
 use Rattle.macaque_v.specs.declared.read_run.Cursor.{Cursor}

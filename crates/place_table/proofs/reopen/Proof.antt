@@ -9,7 +9,7 @@ use Rattle.models.specs.declared.ErrorBound.{ErrorBound}
 use Rattle.models.proofs.Judged.{none-holds, when-passed, when-refused}
 use Rattle.models.proofs.Judged as judging
 use Rattle.stream.specs.Read.{bufferAfter}
-use Rattle.stream.specs.TableCalls.{Beside}
+use Rattle.places.specs.Calls.{Beside}
 use Rattle.macaque_v.specs.State.{isFirst}
 use Rattle.macaque_v.specs.Read.{reopenCauses, reopenAnswer, reopenMemory, saysOpen}
 use Rattle.macaque_v.specs.inner.Read.{reopening, resumed}

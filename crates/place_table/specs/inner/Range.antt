@@ -5,9 +5,10 @@ use Prim.Native.Nat.{ℕ, _+_, _*_, _%_, _^_}
 use lib.ListN.{getD}
 use Rattle.bits.specs.Bits.{bitsOf}
 use Rattle.models.specs.Answers.{Said, Done}
+use Rattle.stream.specs.Format.{windowIn}
 use Rattle.stream.specs.Read.{readAll}
-use Rattle.stream.specs.Table.{spacing, Entry, entriesFor, entriesIn, sameEntries, matched, without}
-use Rattle.stream.specs.TableCalls.{wordsEach, tableIn}
+use Rattle.places.specs.Table.{spacing, Entry, entriesFor, entriesIn, sameEntries, matched, without}
+use Rattle.places.specs.Calls.{wordsEach, tableIn}
 use Rattle.macaque_v.specs.State.{streamIn, isFirst, opened}
 use Rattle.macaque_v.specs.inner.ReadRun.{readFrom}
 use Rattle.macaque_v.specs.declared.Opening.{Opening}
@@ -16,6 +17,10 @@ use Rattle.macaque_v.specs.declared.read_run.Cursor.{Cursor}
 -- reading stands before value 64 * i, as an entry says it
 abbrev pub cursorOf : ℕ → Entry → Cursor
 cursorOf i e = record { last = e .last; lead = e .win .lead; trail = e .win .trail; place = e .place; count = spacing * i }
+
+-- the entry of where reading stands
+abbrev pub hereOf : Cursor → Entry
+hereOf at = record { place = at .place; last = at .last; win = windowIn (at .lead) (at .trail) }
 
 -- the same of lent words, each cut to the bits that a cursor has for it
 abbrev pub cursorIn : List ℕ → ℕ → Cursor

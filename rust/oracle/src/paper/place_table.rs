@@ -31,11 +31,14 @@ pub fn table_of(bound: ErrorBound, opening: Opening, values: &[u32]) -> Answer<V
 }
 
 /// The entries that writing values adds: what the state holds before each whose number is a multiple of 64.
+/// Before a raw first value it holds +0, whatever was handed in: "entry 0 .. holds place 0, last +0".
 fn noted(mut state: MacaqueV, values: &[u32]) -> Vec<Entry> {
     let mut entries = vec![];
     for &value in values {
         if state.length.is_multiple_of(EVERY) {
-            entries.push(entry(state.place, state.last_value, state.window));
+            let raw = state.with_first && state.length == 0;
+            let last_value = if raw { 0 } else { state.last_value };
+            entries.push(entry(state.place, last_value, state.window));
         }
         (_, state) = state.step(value);
     }

@@ -105,7 +105,7 @@ entering : (c : tie.After-step Inv-loop μ-loop) → Noting (note (atLoop c)) (s
 entering c =
     let l = atLoop c in
     let N = c .before .before .before .before .noted in
-    note-more (self l) (values l) (l .loop .i) (omega arith) (note l) (table₀ l) (l .loop .table) (N .last .0) (l .loop .due) (N .result) (l .loop .pen) (l .loop .inv .1) (l .loop .inv .3) (entered l) (N .ensures .0) (N .ensures .1)
+    note-more (self l) (values l) (l .loop .i) (omega arith) (note l) (table₀ l) (l .loop .table) (N .last .0) (l .loop .due) (N .result) (l .loop .pen) (eqb (l .loop .i) (raw l)) (rawAt l (l .loop .i) (omega arith)) (l .loop .inv .1) (l .loop .inv .3) (entered l) (N .ensures .0) (N .ensures .1)
 
 -- ---- the end: the writer that is left
 left : (c : tie.After-loop Inv-loop μ-loop) → leftBy (self (c .before)) (c .before .loop .pen) (c .before .loop .i) ≡ writerAt (self (c .before)) (wroteBy (self (c .before)) (values (c .before)))

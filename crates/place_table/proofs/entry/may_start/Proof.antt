@@ -9,9 +9,9 @@ use lib.Dec.{leb, ltb}
 use lib.ListN.{getElem?}
 use Rattle.stream.specs.Format.{macaque, isOpening, leavesABit}
 use Rattle.stream.specs.Calls.{lentBytes}
-use Rattle.stream.specs.Table.{Entry, mayStart}
-use Rattle.stream.specs.TableCalls.{entryAt, tableIn}
-use Rattle.stream.proofs.TableWords.{entry-in-use, no-entry-in-use}
+use Rattle.places.specs.Table.{Entry, mayStart}
+use Rattle.places.specs.Calls.{entryAt, tableIn}
+use Rattle.places.proofs.Words.{entry-in-use, no-entry-in-use}
 use Rattle.place_table.proofs.entry.may_start.Statement.{statement}
 use Rattle.place_table.proofs.entry.may_start.Tie as tie
 

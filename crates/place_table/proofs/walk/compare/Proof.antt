@@ -7,15 +7,15 @@ use Prim.Native.Nat.{ℕ, _+_, _-_, _/_, _≤_, _<_}
 use native.Mathlib.Omega.{arith}
 use lib.ListN.{length, take}
 use Rattle.models.specs.Calls.{saysVerdict}
-use Rattle.stream.specs.Table.{spacing, entriesFor}
-use Rattle.stream.specs.TableCalls.{entriesLent}
+use Rattle.places.specs.Table.{spacing, entriesFor}
+use Rattle.places.specs.Calls.{entriesLent}
 use Rattle.macaque_v.specs.State.{isFirst}
 use Rattle.macaque_v.specs.Read.{startOf}
 use Rattle.macaque_v.specs.inner.ReadRun.{FillSays}
 use Rattle.macaque_v.specs.declared.read_run.Cursor.{Cursor}
 use Rattle.macaque_v.specs.declared.read_run.Run.{Run}
 use Rattle.macaque_v.proofs.ReadingAll.{starts}
-use Rattle.place_table.proofs.Comparing.{Along, along-start, entry-number, along-more, stops-early, stops-late, decides}
+use Rattle.place_table.proofs.Comparing.{Opens, opens, Along, along-start, entry-number, along-more, stops-early, stops-late, decides}
 use Rattle.place_table.proofs.walk.compare.Statement.{statement}
 use Rattle.place_table.proofs.walk.compare.Tie as tie
 
@@ -29,11 +29,17 @@ abbrev μ-loop : tie.MeasureT-loop
 none-before : (c : tie.At-loop Inv-loop μ-loop) → c .before .start .result .count ≡ 0
 none-before c = ap (λ (x : Cursor). x .count) (c .before .start .ensures .0)
 
+-- and it begins as the opening says
+begins : (c : tie.At-loop Inv-loop μ-loop) → Opens (c .before .before .is-first .result) (c .before .start .result)
+begins c =
+    subst (λ (first : Bool). Opens first (c .before .start .result)) (sym (c .before .before .is-first .ensures))
+    (subst (Opens (isFirst (c .before .before .before .before .before .args .opening))) (sym (c .before .start .ensures .0)) (opens (c .before .before .before .before .before .args .opening)))
+
 loop-holds : tie.Need-loop-holds Inv-loop μ-loop
 loop-holds c =
     let a = c .before .before .before .before .args in
     let s = starts (a .bytes .now) (a .opening) (c .start .result) (c .start .ensures) in
-    (refl, along-start (c .before .is-first .result) (a .bytes .now) (c .start .result) (s .1) (a .table .now) (a .count) (s .0))
+    (refl, along-start (c .before .is-first .result) (a .bytes .now) (c .start .result) (s .1) (subst (λ (first : Bool). Opens first (c .start .result)) (sym (c .before .is-first .ensures)) (subst (Opens (isFirst (a .opening))) (sym (c .start .ensures .0)) (opens (a .opening)))) (a .table .now) (a .count) (s .0))
 
 says-requires : tie.Need-says-requires Inv-loop μ-loop
 says-requires c κs =
@@ -42,7 +48,7 @@ says-requires c κs =
     let L = l .inv .1 in
     let p = c .before .before .before .before .before .before .pre in
     let more : l .done < a .count = c .loop-test .taken in
-    let here : l .at .count / spacing ≡ entriesFor (l .done) = entry-number _ (a .bytes .now) _ (none-before (c .before)) (a .table .now) (a .count) (l .done) (l .at) (l .same) L more in
+    let here : l .at .count / spacing ≡ entriesFor (l .done) = entry-number _ (a .bytes .now) _ (none-before (c .before)) (begins (c .before)) (a .table .now) (a .count) (l .done) (l .at) (l .same) L more in
     let used : l .at .count / spacing < entriesLent (length (a .table .now)) = omega (arith, here, p .1, L .onEntry more) in
     (omega (arith, L .reads .counted, none-before (c .before), p .0), used)
 
@@ -80,7 +86,7 @@ loop-again c =
     let more : l .done < a .count = c .before .before .before .before .before .before .before .before .loop-test .taken in
     let says = subst (λ (q : Run). FillSays first (a .bytes .now) (l .at) k (l .values) (f .last .1 .1 .1 .1 .0) q) (c .before .to .given .1) (f .ensures) in (
       says .1 ∙ l .inv .0,
-      along-more first (a .bytes .now) _ (none-before (c .before .before .before .before .before .before .before .before .before)) (a .table .now) (a .count) (l .done) (l .at) (l .same) (l .inv .1) more k (take k (f .last .1 .1 .1 .1 .0)) (c .before .to .given .0 .0)
+      along-more first (a .bytes .now) _ (none-before (c .before .before .before .before .before .before .before .before .before)) (begins (c .before .before .before .before .before .before .before .before .before)) (a .table .now) (a .count) (l .done) (l .at) (l .same) (l .inv .1) more k (take k (f .last .1 .1 .1 .1 .0)) (c .before .to .given .0 .0)
           (omega arith) (omega arith) (omega arith) (λ lt. omega arith) (says .0) (c .before .before .before .before .before .before .before .says .result) (c .before .before .before .before .before .before .before .says .ensures),
     )
 

@@ -3,7 +3,7 @@ use borrow.Author.Needs.{needs}
 use mathlib.Core.Path.{sym, ap}
 use mathlib.Core.Bool.{Bool, cond}
 use Rattle.models.specs.Answers.{answered}
-use Rattle.stream.specs.Table.{noMatch}
+use Rattle.places.specs.Table.{noMatch}
 use Rattle.place_table.proofs.walk.matching.Statement.{statement}
 use Rattle.place_table.proofs.walk.matching.Tie as tie
 

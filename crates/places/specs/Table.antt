@@ -10,11 +10,11 @@ use lib.Dec.{eqb, leb, ltb}
 use lib.ListN.{length, take, drop, getElem?}
 use Rattle.models.specs.Answers.{Said, Done, answered, refused, fault}
 use Rattle.models.specs.declared.Fault.{Fault}
-use Rattle.stream.specs.Format.{Format, Window, isOpening, leavesABit, Stream, State, fresh, advance}
+use Rattle.stream.specs.Format.{Format, Window, isOpening, leavesABit, Stream, State, fresh, isRaw, advance}
 use Rattle.stream.specs.Write.{kept, next}
 use Rattle.stream.specs.Read.{Step, got, halt, stepAt, Reading, done, stopped, readN, readAll, Reopened, reopened, unopened}
 use Rattle.stream.specs.Calls.{faultAt}
 use Rattle.stream.specs.Made.{Made}
 
 -- ---- entries: "for each value number that is a multiple of 64 and below the count: bit place, last kept value and window before that value"
 
@@ -26,12 +26,16 @@ pub record Entry : Type 0 where
   pub last : ℕ
   pub win : Window
 
-abbrev pub entryOf : {A : Type 0} → State A → Entry
-entryOf s = record { place = s .place; last = s .last; win = s .win }
+-- before a raw value there is no kept one: +0 stands for it, whatever the state holds
+abbrev pub lastBefore : {A : Type 0} → Stream A → State A → ℕ
+lastBefore S s = cond (isRaw S s) 0 (s .last)
+
+abbrev pub entryOf : {A : Type 0} → Stream A → State A → Entry
+entryOf S s = record { place = s .place; last = lastBefore S s; win = s .win }
 
 -- what is noted before the next value
-abbrev pub noted : {A : Type 0} → State A → List Entry
-noted s = cond (eqb (s .count % spacing) 0) (entryOf s ∷ []) []
+abbrev pub noted : {A : Type 0} → Stream A → State A → List Entry
+noted S s = cond (eqb (s .count % spacing) 0) (entryOf S s ∷ []) []
 
 -- "the number of entries its count asks for"
 abbrev pub entriesFor : ℕ → ℕ
@@ -40,7 +44,7 @@ entriesFor n = (n + (spacing - 1)) / spacing
 -- of kept values, written from the state s
 unfoldable pub entries : {A : Type 0} → Stream A → State A → List ℕ → List Entry
 entries S s [] = []
-entries S s (v ∷ vs) = noted s ++ entries S (next S s v) vs
+entries S s (v ∷ vs) = noted S s ++ entries S (next S s v) vs
 
 -- of n values, read from the state s: those up to a refusal
 abbrev pub unlessHalted : Step → (ℕ → Window → ℕ → List Entry) → List Entry
@@ -49,7 +53,7 @@ unlessHalted (halt n) k = []
 
 unfoldable pub entriesIn : {A : Type 0} → Stream A → ℕ → State A → List Bool → List Entry
 entriesIn S zero s bs = []
-entriesIn S (suc n) s bs = noted s ++ unlessHalted (stepAt S s bs) (λ v win used. entriesIn S n (advance S s v win used) (drop used bs))
+entriesIn S (suc n) s bs = noted S s ++ unlessHalted (stepAt S s bs) (λ v win used. entriesIn S n (advance S s v win used) (drop used bs))
 
 -- ---- the table beside a stream that is written
 

@@ -17,21 +17,21 @@ use Rattle.models.specs.Answers.{answered, refused, answeredOn, refusedOn, Caus
 use Rattle.models.proofs.Judged.{not-answered, not-refused, same-answer, same-answer-on, answered-only, accepted-on}
 use Rattle.models.proofs.Judged as judging
 use Rattle.models.proofs.Tests.{neither, never}
 use Rattle.stream.specs.Format.{Stream, State, fresh, mostValues}
 use Rattle.stream.specs.Write.{keptFrom, encode, after, wrote}
 use Rattle.stream.specs.Read.{Reading, done, stopped, readAll, Reopened, reopened, unopened, bufferAfter}
 use Rattle.stream.specs.Calls.{Coder, lentBytes, reopening, newAnswer, startCauses, writeCauses, writeAnswer, reopenCauses, resumed, reopenAnswer, reopenMemory}
 use Rattle.stream.specs.Made.{MadeBy, stateOver}
-use Rattle.stream.specs.Table.{Entry, entriesFor, entries, added}
-use Rattle.stream.specs.TableCalls.{wordsEach, entriesLent, tableIn, laidEntries, tableCauses, tableReopenCauses, Beside, tableWriteCauses, tableWriteJudged, tableWriteAnswer, tableWriteMemory, tableWriteTable, resumedBeside, tableReopenAnswer, tableReopenMemory, MadeByBeside, over, WritesBeside, ReopensBeside, TableResumesAsOne}
+use Rattle.places.specs.Table.{Entry, entriesFor, entries, added}
+use Rattle.places.specs.Calls.{wordsEach, entriesLent, tableIn, laidEntries, tableCauses, tableReopenCauses, Beside, tableWriteCauses, tableWriteJudged, tableWriteAnswer, tableWriteMemory, tableWriteTable, resumedBeside, tableReopenAnswer, tableReopenMemory, MadeByBeside, over, WritesBeside, ReopensBeside, TableResumesAsOne}
 use Rattle.stream.specs.Needs.{GoodCoder}
 use Rattle.stream.proofs.Reopen.{refused-reopen}
 use Rattle.stream.proofs.AnyStream.{any-resumed}
 use Rattle.stream.proofs.Calls.{split, joined, alike-after, as-long, stays}
 use Rattle.stream.proofs.Calls as calls
-use Rattle.stream.proofs.TableWords.{table-length, take-table, laid-none, laid-before, laid-behind, laid-table, laid-length}
-use Rattle.stream.proofs.TableMade.{run-number, run-count, table-append, table-take}
-use Rattle.stream.proofs.TableSteps.{added-count}
+use Rattle.places.proofs.Words.{table-length, take-table, laid-none, laid-before, laid-behind, laid-table, laid-length}
+use Rattle.places.proofs.Made.{run-number, run-count, table-append, table-take}
+use Rattle.places.proofs.Steps.{added-count}
 
 -- ---- the number of entries in use
 

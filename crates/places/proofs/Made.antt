@@ -8,23 +8,23 @@ use native.Mathlib.Omega.{arith}
 use lib.ListN.{length, take, getElem?}
 use lib.Seq.{length-take-le}
 use Rattle.bits.specs.Bits.{Below, bitsOf, wholeBytes}
 use Rattle.stream.specs.Format.{Stream, State, fresh}
 use Rattle.stream.specs.Write.{keptFrom, kept, Keeps, after, wrote, wroteIn}
 use Rattle.stream.specs.Read.{Reopened, reopen, bufferAfter}
-use Rattle.stream.specs.Table.{spacing, Entry, entryOf, entriesFor, entries, tableOf, tableWrote, tableAfter, MadeBeside}
+use Rattle.places.specs.Table.{spacing, Entry, entryOf, entriesFor, entries, tableOf, tableWrote, tableAfter, MadeBeside}
 use Rattle.stream.specs.Needs.{Good}
 use Rattle.stream.proofs.Writing.{count-after, length-kept, take-kept, kept-append}
 use Rattle.stream.proofs.Made.{made-fresh, made-write, made-reopen}
-use Rattle.stream.proofs.TableEntries.{entries-append, fresh-entries, take-entries, entry-written}
+use Rattle.places.proofs.Entries.{entries-append, fresh-entries, take-entries, entry-written}
 
 module _ {A : Type 0} (rule : ℕ → ℕ → ℕ) (S : Stream A) (l : ℕ) where
   -- entry i of the table of xs is of the state before value 64 * i
   pub entry-of-run : (xs : List ℕ) (i : ℕ) → spacing * i < length xs
-      → getElem? (tableOf rule S l xs) i ≡ some (entryOf (wrote rule S (fresh S l) (take (spacing * i) xs)))
+      → getElem? (tableOf rule S l xs) i ≡ some (entryOf S (wrote rule S (fresh S l) (take (spacing * i) xs)))
   entry-of-run xs i lt =
       let f : State A = fresh S l in
       entry-written S l (kept rule S f xs) i (omega (arith, length-kept S rule f xs))
-      ∙ ap (λ (us : List ℕ). some (entryOf (after S f us))) (take-kept S rule f (spacing * i) xs)
+      ∙ ap (λ (us : List ℕ). some (entryOf S (after S f us))) (take-kept S rule f (spacing * i) xs)
 
   pub run-number : (xs : List ℕ) → length (tableOf rule S l xs) ≡ entriesFor (length xs)
   run-number xs = fresh-entries S l (kept rule S (fresh S l) xs) ∙ ap entriesFor (length-kept S rule (fresh S l) xs)

@@ -7,9 +7,9 @@ use Prim.Native.Nat.{ℕ, zero, suc, _+_, _-_, _*_, _≤_, _<_}
 use native.Mathlib.Omega.{arith}
 use lib.ListN.{length, take, drop, getD, getElem?, length-append, length-drop, take-append-drop}
 use lib.Seq.{take-at, drop-at, getD-take, getD-drop, drop-drop, length-take-le, sets, sets-eq}
-use Rattle.stream.specs.Table.{Entry}
-use Rattle.stream.specs.TableCalls.{wordsEach, entryAt, tableIn, wordsOf, laidEntries}
-use Rattle.stream.proofs.TableEntries.{elem-at, elem-first, elem-none}
+use Rattle.places.specs.Table.{Entry}
+use Rattle.places.specs.Calls.{wordsEach, entryAt, tableIn, wordsOf, laidEntries}
+use Rattle.places.proofs.Entries.{elem-at, elem-first, elem-none}
 
 -- ---- the entries in use
 

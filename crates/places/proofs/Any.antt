@@ -12,10 +12,10 @@ use lib.Dec.{eqb, leb, ltb}
 use lib.ListN.{length, drop, getElem?, length-drop}
 use Rattle.bits.specs.Bits.{fieldAt}
 use Rattle.models.specs.Answers.{answered}
 use Rattle.stream.specs.Format.{Format, Kind, same, keep, new, Window, unset, span, Mode, withFirst, withoutFirst, rawNext, Stream, State, isRaw, advance}
 use Rattle.stream.specs.Read.{Step, got, halt, need, readRaw, readWord, meaningful, countOf, windowRead, readHeader, readBody, readOne, Reading, done, stopped, push, follow, stepAt, readN}
 use Rattle.stream.specs.Calls.{faultAt}
-use Rattle.stream.specs.Table.{spacing, Entry, noMatch, entryBefore, readsFrom, readsInAll, MetIn, RangeSays, stateFrom, mayStart, without, rangeFrom, rangeAt, readRange}
+use Rattle.places.specs.Table.{spacing, Entry, noMatch, entryBefore, readsFrom, readsInAll, MetIn, RangeSays, stateFrom, mayStart, without, rangeFrom, rangeAt, readRange}
 
 -- at most 63 values before p are read, and none from q on
 pub few-before : (p q : ℕ) → p ≤ q → readsInAll p q < (q - p) + spacing

@@ -10,17 +10,17 @@ use lib.Dec.{eqb}
 use lib.ListN.{length, take, replicate}
 use Rattle.bits.specs.Bits.{Below, bitsOf, wholeBytes, padding, padded}
 use Rattle.models.specs.Answers.{answered, refused}
 use Rattle.stream.specs.Calls.{faultAt}
 use Rattle.stream.specs.Format.{Stream, State, fresh}
 use Rattle.stream.specs.Write.{kept, Keeps, written}
 use Rattle.stream.specs.Read.{StreamRefusal, Reading, done, stopped, readN, readAll}
-use Rattle.stream.specs.Table.{Entry, entriesFor, entriesIn, MadeBeside, Belongs, noMatch, sameEntry, sameEntries, matched, checkTable}
+use Rattle.places.specs.Table.{Entry, entriesFor, entriesIn, MadeBeside, Belongs, noMatch, sameEntry, sameEntries, matched, checkTable}
 use Rattle.stream.specs.Needs.{Good}
 use Rattle.stream.proofs.Writing.{fresh-small, length-kept, kept-below}
 use Rattle.models.proofs.Tests.{and-parts, and-both}
 use Rattle.stream.proofs.Reopen.{ended-inv}
 use Rattle.stream.proofs.Made.{made-bits, made-read}
-use Rattle.stream.proofs.TableEntries.{own-number, entries-back}
+use Rattle.places.proofs.Entries.{own-number, entries-back}
 
 never : _≡_ {A = ℕ} 0 1 → ⊥
 never e = omega arith
@@ -63,13 +63,11 @@ module _ {A : Type 0} (S : Stream A) (n : ℕ) where
   pub numbered : (s : State A) (bs : List Bool) (table : List Entry) → length table ≡ entriesFor n
       → checkTable S n s bs table ≡ matched (sameEntries table (entriesIn S n s bs)) (readAll S n s bs)
   unfolding checkTable
-  numbered s bs table e =
-      ap (λ (b : Bool). cond b (matched (sameEntries table (entriesIn S n s bs)) (readAll S n s bs)) noMatch) (eq-eqb (length table) (entriesFor n) e)
+  numbered s bs table e = rw (eq-eqb (length table) (entriesFor n) e)
 
   pub check-number : (s : State A) (bs : List Bool) (table : List Entry) → (length table ≡ entriesFor n → ⊥) → checkTable S n s bs table ≡ noMatch
   unfolding checkTable
-  check-number s bs table e =
-      ap (λ (b : Bool). cond b (matched (sameEntries table (entriesIn S n s bs)) (readAll S n s bs)) noMatch) (ne-eqb (length table) (entriesFor n) e)
+  check-number s bs table e = rw (ne-eqb (length table) (entriesFor n) e)
 
   pub check-refused : (s : State A) (bs : List Bool) (table : List Entry) (f : StreamRefusal) → length table ≡ entriesFor n
       → readAll S n s bs ≡ stopped f → checkTable S n s bs table ≡ refused (faultAt f)

@@ -9,19 +9,19 @@ use lib.ListN.{length, take, drop, replicate, length-append, take-append-drop}
 use lib.Seq.{drop-at, take-at, length-take-le}
 use Rattle.bits.specs.Bits.{Below, bitsOf, wholeBytes, padding, padded, laidIn, cutIn}
 use Rattle.models.specs.Answers.{answered}
 use Rattle.stream.specs.Format.{Window, Stream, State, fresh, isRaw, advance}
 use Rattle.stream.specs.Write.{kept, Keeps, written, wrote, wroteIn}
 use Rattle.stream.specs.Read.{Step, got, halt, Reading, done, stopped, push, follow, stepAt, readN, readAll, reopened, bufferAfter}
-use Rattle.stream.specs.Table.{Entry, noted, entriesFor, entries, unlessHalted, entriesIn, tableWrote, tableAfter, checkTable}
+use Rattle.places.specs.Table.{Entry, noted, entriesFor, entries, unlessHalted, entriesIn, tableWrote, tableAfter, checkTable}
 use Rattle.stream.specs.Needs.{Good}
 use Rattle.stream.proofs.OwnBits.{own}
 use Rattle.stream.proofs.Writing.{fresh-small, place-after, length-kept, kept-below}
 use Rattle.stream.proofs.Reading.{Whole, WholeOf, whole}
 use Rattle.stream.proofs.Reopen.{any-opened}
 use Rattle.stream.specs.Made.{Resumed}
 use Rattle.stream.proofs.AnyStream.{cut-and-laid}
-use Rattle.stream.proofs.TableEntries.{Entered, EnteredIn, entered, entries-back}
-use Rattle.stream.proofs.TableCheck.{check-says, check-own}
+use Rattle.places.proofs.Entries.{Entered, EnteredIn, entered, entries-back}
+use Rattle.places.proofs.Check.{check-says, check-own}
 
 -- ---- the entries of n values that were read are of their own bits: what stands after them changes nothing
 
@@ -47,11 +47,11 @@ module _ {A : Type 0} (S : Stream A) (good : Good (S .format)) where
         alone = λ r′.
             let X : List Bool = P .front ++ r′ in
             let from : (z : List Bool) → Step → List Entry =
-            λ z q. noted s ++ unlessHalted q (λ y w used. entriesIn S n (advance S s y w used) (drop used z)) in
+            λ z q. noted S s ++ unlessHalted q (λ y w used. entriesIn S n (advance S s y w used) (drop used z)) in
             ap (entriesIn S (suc n) s) (append-assoc (take u bs) (P .front) r′)
             ∙ ap (from (take u bs ++ X)) (o .alone X)
-            ∙ ap (λ (z : List Bool). noted s ++ entriesIn S n (advance S s v win u) z) (drop-at (take u bs) X u (length-take-le u bs (o .there)))
-            ∙ ap (λ (z : List Entry). noted s ++ z) (P .alone r′)
+            ∙ ap (λ (z : List Bool). noted S s ++ entriesIn S n (advance S s v win u) z) (drop-at (take u bs) X u (length-take-le u bs (o .there)))
+            ∙ ap (λ (z : List Entry). noted S s ++ z) (P .alone r′)
             ∙ ap (from bs) (sym e);
       }
 

@@ -9,37 +9,37 @@ use mathlib.Core.Option as option
 use Prim.Native.Nat.{ℕ, _+_, _-_, _*_, _^_, _≤_, _<_}
 use native.Mathlib.Nat.{eq-or-lt-of-le, min-le-left, mul-le-mul-right}
 use native.Mathlib.Omega.{arith}
-use borrow.Author.Tests.{le-ltb, lt-ltb, le-leb, ltb-false, leb-true, leb-false, not-false}
+use borrow.Author.Tests.{le-ltb, lt-ltb, le-leb, ne-eqb, ltb-false, leb-true, leb-false, not-false}
 use lib.Dec.{eqb, leb, ltb}
 use lib.ListN.{length, take, drop, replicate, getElem?}
 use Rattle.bits.specs.Bits.{Below, bitsOf, wholeBytes, padding}
 use Rattle.bits.proofs.Bytes.{length-bitsOf}
 use Rattle.models.specs.declared.Fault.{Fault}
-use Rattle.models.specs.Answers.{Said, Done, answered, refused, answeredOn, Cause, _when_, judge, verdict, keeping, NoneHolds}
-use Rattle.models.proofs.Judged.{none, same-answer, answered-only, accepted-only}
+use Rattle.models.specs.Answers.{Said, Done, answered, refused, answeredOn, Cause, _when_, judge, judgedMemory, verdict, keeping, NoneHolds}
+use Rattle.models.proofs.Judged.{none, not-refused, same-answer, answered-only, accepted-only}
 use Rattle.models.proofs.Judged as judging
 use Rattle.models.proofs.Tests.{and-parts, and-both, and-past, and-false, neither}
 use Rattle.stream.specs.Format.{Format, Stream, State, fresh, isOpening, leavesABit, mostValues}
 use Rattle.stream.specs.Write.{kept, wrote, wroteIn}
 use Rattle.stream.specs.Read.{StreamRefusal, Reading, done, stopped, readN, readAll, Reopened, reopened, bufferAfter}
 use Rattle.stream.specs.Calls.{Coder, lentBytes, faultAt, valuesRead, valuesIn, drawn, drawnIn, reopening, resumed, reopenCauses, reopenAnswer, reopenMemory, writeAnswer}
 use Rattle.stream.specs.Made.{stateOver, Resumes, Resumed}
-use Rattle.stream.specs.Table.{Entry, entriesFor, entriesIn, added, tableWrote, tableAfter, MadeBeside, noMatch, Belongs, checkTable, entryBefore, readsFrom, readsInAll, mayStart, stateFrom, without, rangeAt, readRange, RangeSays}
-use Rattle.stream.specs.TableCalls.{entriesLent, entryAt, tableIn, rangeCauses, checkCauses, checkAnswer, rangeRead, rangeAnswer, rangeMemory, Beside, tableWriteAnswer, tableWriteMemory, tableWriteTable, tableReopenAnswer, tableReopenMemory, MadeByBeside, OwnTable, TableResumes, RangeAnswers}
+use Rattle.places.specs.Table.{spacing, Entry, entriesFor, entriesIn, added, tableWrote, tableAfter, MadeBeside, noMatch, Belongs, checkTable, entryBefore, readsFrom, readsInAll, mayStart, stateFrom, without, rangeAt, readRange, RangeSays}
+use Rattle.places.specs.Calls.{entriesLent, entryAt, tableIn, rangeCauses, checkCauses, checkAnswer, rangeRead, rangeAnswer, rangeMemory, Beside, tableWriteAnswer, tableWriteMemory, tableWriteTable, tableReopenAnswer, tableReopenMemory, MadeByBeside, OwnTable, OwnEntry, TableResumes, RangeAnswers}
 use Rattle.stream.specs.Needs.{Good, longest, GoodCoder}
-use Rattle.stream.proofs.Reopen.{ended-inv}
+use Rattle.stream.proofs.Reopen.{ended-inv, any-opened}
 use Rattle.stream.proofs.Made.{made-read}
 use Rattle.stream.proofs.AnyStream.{any-resumed}
 use Rattle.stream.proofs.Calls as calls
-use Rattle.stream.proofs.TableEntries.{own-number}
-use Rattle.stream.proofs.TableWords.{table-length, take-table, entry-in-use, no-entry-in-use, laid-table}
-use Rattle.stream.proofs.TableCheck.{check-says, check-own, check-other, check-refused, made-own}
-use Rattle.stream.proofs.TableAny.{ReadsIn, reads-in, range-empty, range-reads, range-says}
-use Rattle.stream.proofs.TableRange.{own-entry-starts, checked-range}
-use Rattle.stream.proofs.TableSteps.{added-count}
-use Rattle.stream.proofs.TableResume.{any-table-resumed}
-use Rattle.stream.proofs.TableCalls.{number-allowed, number-says}
-use Rattle.stream.proofs.TableCalls as tables
+use Rattle.places.proofs.Entries.{asked-for, own-number, entry-read}
+use Rattle.places.proofs.Words.{table-length, take-table, entry-in-use, no-entry-in-use, laid-table}
+use Rattle.places.proofs.Check.{check-says, check-own, check-other, check-refused, made-own}
+use Rattle.places.proofs.Any.{ReadsIn, reads-in, range-empty, range-reads, range-says}
+use Rattle.places.proofs.Range.{own-entry-starts, checked-range}
+use Rattle.places.proofs.Steps.{added-count}
+use Rattle.places.proofs.Resume.{any-table-resumed}
+use Rattle.places.proofs.Calls.{number-allowed, number-says}
+use Rattle.places.proofs.Calls as tables
 
 -- ---- the check
 
@@ -76,18 +76,28 @@ module _ {A : Type 0} (S : Stream A) (l : ℕ) (bytes : List ℕ) (count : ℕ) 
         ∙ check-own S count l bits (B .values) (B .state) (B .rest) (B .reads) (tableIn words in-use) (B .own),
   )
 
-  -- else, of an accepted stream it refuses any other table with 13, "table doesn't match", and before that a stream that reading refuses as reading does
+  -- by the number of values, of entries lent and of entries in use
+  abbrev by-number : Bool → Bool → Bool → Said Done
+  by-number x y b = judge refused (3 when x ∷ 12 when y ∷ 13 when not b ∷ []) (checkTable S count (fresh S l) bits (tableIn words in-use))
+
+  few-and-lent : count ≤ mostValues → in-use ≤ entriesLent (length words) → checkAnswer S l bytes count words in-use ≡ by-number false false (eqb in-use (entriesFor count))
+  few-and-lent few lent =
+      ap₂ (λ (x y : Bool). by-number x y (eqb in-use (entriesFor count))) (le-ltb mostValues count few) (le-ltb (entriesLent (length words)) in-use lent)
+
+  -- else it refuses. First with 13, "table doesn't match", for a number of entries that the count does not ask for, whatever the bytes and the entries hold
+  pub the-check-counts-the-entries-first : count ≤ mostValues → in-use ≤ entriesLent (length words) → (in-use ≡ entriesFor count → ⊥)
+      → checkAnswer S l bytes count words in-use ≡ noMatch
+  unfolding judge
+  the-check-counts-the-entries-first few lent other = few-and-lent few lent ∙ ap (by-number false false) (ne-eqb in-use (entriesFor count) other)
+
+  -- then a stream that reading refuses as reading does, and of an accepted stream any other table with 13
   pub the-check-refuses-any-other-table : count ≤ mostValues → in-use ≤ entriesLent (length words) → (vs : List ℕ) → valuesIn S l bytes count ≡ answered vs
       → (tableIn words in-use ≡ entriesIn S count (fresh S l) bits → ⊥) → checkAnswer S l bytes count words in-use ≡ noMatch
   unfolding judge
   the-check-refuses-any-other-table few lent vs h other =
       let w = calls.read-whole (readAll S count (fresh S l) bits) vs h in
-      ap₂ (λ (x y : Bool). by-number x y (eqb in-use (entriesFor count))) (le-ltb mostValues count few) (le-ltb (entriesLent (length words)) in-use lent)
-      ∙ go (eqb in-use (entriesFor count)) (check-other S count l bits vs (w .0) (w .1) (w .2) (tableIn words in-use) other)
+      few-and-lent few lent ∙ go (eqb in-use (entriesFor count)) (check-other S count l bits vs (w .0) (w .1) (w .2) (tableIn words in-use) other)
     where
-      by-number : Bool → Bool → Bool → Said Done
-      by-number x y b = judge refused (3 when x ∷ 12 when y ∷ 13 when not b ∷ []) (checkTable S count (fresh S l) bits (tableIn words in-use))
-
       go : (b : Bool) → checkTable S count (fresh S l) bits (tableIn words in-use) ≡ noMatch → by-number false false b ≡ noMatch
       go true e = e
       go false e = refl
@@ -151,6 +161,19 @@ module _ {A : Type 0} (S : Stream A) where
         sym (judging.accepted refused _ _ free) ∙ ap drawn empty,
         sym (judging.accepted (keeping out) _ _ free) ∙ ap (drawnIn out) empty,
       )
+
+  -- "no data": a refused range leaves the output as it was
+  refused-range : (out : List ℕ) (causes : List Cause) (x : Said (List ℕ)) (f : Fault) → judge refused causes (drawn x) ≡ refused f → judgedMemory out causes (drawnIn out x) ≡ out
+  unfolding judge
+  refused-range out [] (answered vs) f h = absurd (not-refused h)
+  refused-range out [] (refused g) f h = refl
+  refused-range out (n when true ∷ causes) x f h = refl
+  refused-range out (n when false ∷ causes) x f h = refused-range out causes x f h
+
+  pub a-refused-range-changes-nothing : (bytes : List ℕ) (count : ℕ) (words : List ℕ) (in-use p q : ℕ) (out : List ℕ) (f : Fault)
+      → rangeAnswer S bytes count words in-use p q (length out) ≡ refused f → rangeMemory S bytes count words in-use p q out ≡ out
+  a-refused-range-changes-nothing bytes count words in-use p q out f h =
+      refused-range out (rangeCauses (S .format) (length bytes) count words in-use p q (length out)) (rangeRead S bytes words in-use p q) f h
 
   -- a range looks at no entry but that at or before p: two tables that agree in whether it is in use and in what it holds give the same
   module _ (bytes : List ℕ) (count p q : ℕ) (ws us : List ℕ) (n m : ℕ) (lent : n ≤ entriesLent (length ws)) (also : m ≤ entriesLent (length us))
@@ -243,6 +266,30 @@ module _ {A : Type 0} (S : Stream A) where
     -- the stream is read as some values
     pub a-checked-stream-reads : (vs : List ℕ) × (valuesIn S l bytes count ≡ answered vs)
     a-checked-stream-reads = let B = own .belongs in (B .values, ap valuesRead (B .reads))
+
+    -- its entries are those that the count asks for, and entry i is of the state that a reader has behind the first 64 * i of these values
+    pub a-checked-table-has-its-entries : (vs : List ℕ) → valuesIn S l bytes count ≡ answered vs
+        → (in-use ≡ entriesFor count)
+        × ((i : ℕ) → spacing * i < count → OwnEntry S l bytes vs i (entryAt words i))
+    a-checked-table-has-its-entries vs h = (own-count S l bytes count words in-use (own .belongs), entry)
+      where
+        same : {d e : Entry} → option.some d ≡ option.some e → d ≡ e
+        same e = cc
+
+        entry : (i : ℕ) → spacing * i < count → OwnEntry S l bytes vs i (entryAt words i)
+        entry i lt =
+            let bits : List Bool = bitsOf bytes in
+            let w = calls.read-whole (readAll S count (fresh S l) bits) vs h in
+            let o = any-opened S good l hl count (spacing * i) (omega arith) bits vs (w .0) (w .1) (w .2) in
+            let there : i < in-use = omega (arith, own-count S l bytes count words in-use (own .belongs), asked-for i count .1 lt) in
+            record {
+              state = o .state;
+              rest = o .rest;
+              reads = o .reads;
+              is =
+                  same (sym (entry-in-use words in-use i there) ∙ ap (λ (z : List Entry). getElem? z i) (own .belongs .own)
+                  ∙ entry-read S l count i bits lt (take (spacing * i) vs) (o .state) (o .rest) (o .reads));
+            }
 
     -- and each range of it is that part of them, where the output has room; later places of it stay
     pub a-range-is-that-part-of-the-reading : (vs : List ℕ) → valuesIn S l bytes count ≡ answered vs → (p q : ℕ) → p ≤ q → q ≤ count

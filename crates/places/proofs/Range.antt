@@ -1,10 +1,10 @@
 -- The reading of a range with a table that the check accepts: that part of the full reading. Assumes nothing.
 use mathlib.Core.Path.{_≡_, refl, sym, ap, ap₂, _∙_, subst}
 use mathlib.Core.Logic.{_⊎_, inl, inr}
-use mathlib.Core.Bool.{Bool, true, false}
-use mathlib.Core.List.{List, _++_}
+use mathlib.Core.Bool.{Bool, true, false, cond}
+use mathlib.Core.List.{List, [], _++_}
 use mathlib.Core.Option.{some}
-use Prim.Native.Nat.{ℕ, _+_, _-_, _*_, _^_, _≤_, _<_}
+use Prim.Native.Nat.{ℕ, zero, suc, _+_, _-_, _*_, _^_, _≤_, _<_}
 use native.Mathlib.Nat.{eq-or-lt-of-le, mul-le-mul-right}
 use native.Mathlib.Omega.{arith}
 use borrow.Author.Tests.{le-leb, lt-ltb}
@@ -14,24 +14,24 @@ use lib.Seq.{drop-append-add, drop-at, length-take-le, take-add}
 use Rattle.bits.specs.Bits.{Below, bitsOf, wholeBytes, padding}
 use Rattle.models.specs.Answers.{answered, refused}
 use Rattle.models.proofs.Tests.{and-both}
 use Rattle.stream.proofs.Branches.{or-some}
 use Rattle.stream.specs.Calls.{faultAt}
-use Rattle.stream.specs.Format.{Format, opening, Stream, State, fresh, isOpening, leavesABit}
+use Rattle.stream.specs.Format.{Format, opening, Stream, State, fresh, isOpening, leavesABit, Mode, withFirst, withoutFirst, rawNext, openedOn, isRaw}
 use Rattle.stream.specs.Write.{kept, Keeps}
 use Rattle.stream.specs.Read.{StreamRefusal, Reading, done, stopped, readN, readAll}
-use Rattle.stream.specs.Table.{Entry, entryOf, entriesIn, MadeBeside, checkTable, entryBefore, readsFrom, readsInAll, stateFrom, mayStart, without, readRange}
+use Rattle.places.specs.Table.{Entry, lastBefore, entryOf, entriesIn, MadeBeside, checkTable, entryBefore, readsFrom, readsInAll, stateFrom, mayStart, without, readRange}
 use Rattle.stream.specs.Needs.{Good, longest}
 use Rattle.stream.proofs.Writing.{fresh-small}
 use Rattle.stream.proofs.Reading.{prepend, thenRead, read-then, Whole, WholeOf, whole}
 use Rattle.stream.proofs.Formats.{Framed}
 use Rattle.stream.proofs.Rule.{Ruled, RuledIn, fresh-ruled, read-ruled, framed-leaves}
 use Rattle.stream.proofs.Near.{NearIn, read-near}
 use Rattle.stream.proofs.Gathered.{holding, Alike, read-any}
 use Rattle.stream.proofs.Reopen.{Opened, any-opened}
 use Rattle.stream.proofs.Made.{made-read}
-use Rattle.stream.proofs.TableEntries.{entry-read}
-use Rattle.stream.proofs.TableCheck.{check-says, made-checks}
-use Rattle.stream.proofs.TableAny.{range-empty, range-reads}
+use Rattle.places.proofs.Entries.{entry-read}
+use Rattle.places.proofs.Check.{check-says, made-checks}
+use Rattle.places.proofs.Any.{range-empty, range-reads}
 
 -- ---- with a stream's own table
 
@@ -48,8 +48,35 @@ without-prepend us k d (done vs s r) e =
     ap (λ (n : ℕ). answered (drop (n + d) (us ++ vs))) (sym e) ∙ ap answered (drop-append-add us vs d)
 without-prepend us k d (stopped f) e = refl
 
+-- the entry that holds just what the state does
+abbrev plain : {A : Type 0} → State A → Entry
+plain s = record { place = s .place; last = s .last; win = s .win }
+
+-- that is the one of the state behind the first k values of a stream: before a raw value it holds +0, and later values are not raw
+pub not-raw : (m : Mode) (n : ℕ) → 0 < n → rawNext m n ≡ false
+not-raw withoutFirst n h = refl
+not-raw withFirst zero h = absurd (omega (arith, h))
+not-raw withFirst (suc n) h = refl
+
+fresh-last : (m : Mode) (l : ℕ) → cond (rawNext m 0) 0 (openedOn m l) ≡ openedOn m l
+fresh-last withFirst l = refl
+fresh-last withoutFirst l = refl
+
+said-plain : {A : Type 0} (S : Stream A) (l k : ℕ) (bs : List Bool) (vs : List ℕ) (s : State A) (r : List Bool) → readN S k (fresh S l) bs ≡ done vs s r → s .count ≡ k → entryOf S s ≡ plain s
+unfolding readN
+said-plain {A} S l zero bs vs s r h c =
+    let is : fresh S l ≡ s = same h in
+    ap (entryOf S) (sym is) ∙ (let last : lastBefore S (fresh S l) ≡ (fresh S l) .last = fresh-last (S .mode) l in λ i. record { place = 0; last = last i; win = opening }) ∙ ap plain is
+  where
+    same : done [] (fresh S l) bs ≡ done vs s r → fresh S l ≡ s
+    same e = cc
+said-plain {A} S l (suc k) bs vs s r h c =
+    let raw : isRaw S s ≡ false = not-raw (S .mode) (s .count) (omega arith) in
+    let last : lastBefore S s ≡ s .last = ap (λ (b : Bool). cond b 0 (s .last)) raw in
+    λ i. record { place = s .place; last = last i; win = s .win }
+
 -- a state that keeps the rule and stands within the bits has an entry to start from
-ruled-starts : {A : Type 0} (F : Format) (bits : ℕ) (s : State A) → s .last < 2 ^ F .width → Ruled F s → s .place ≤ bits → mayStart F bits (some (entryOf s)) ≡ true
+ruled-starts : {A : Type 0} (F : Format) (bits : ℕ) (s : State A) → s .last < 2 ^ F .width → Ruled F s → s .place ≤ bits → mayStart F bits (some (plain s)) ≡ true
 ruled-starts F bits s small R le =
     and-both (ltb (s .last) (2 ^ F .width)) _ (lt-ltb (s .last) (2 ^ F .width) small)
     (and-both (leb (s .place) bits) _ (le-leb (s .place) bits le) (or-some (isOpening (s .win)) (leavesABit F (s .win)) (go (R .window))))
@@ -68,11 +95,11 @@ drop-take p q vs le long =
 -- the state before the value of the entry at or before p: the entry that holds it, and where it stands
 record Starts {A : Type 0} (S : Stream A) (l n p : ℕ) (bs : List Bool) (s : State A) (rest : List Bool) : Type 0 where
   counted : s .count ≡ readsFrom p
-  found : getElem? (entriesIn S n (fresh S l) bs) (entryBefore p) ≡ some (entryOf s)
+  found : getElem? (entriesIn S n (fresh S l) bs) (entryBefore p) ≡ some (plain s)
   here : rest ≡ drop (s .place) bs
   within : s .place ≤ length bs
   near : s .place ≤ n * longest (S .format)
-  may : (bits : ℕ) → s .place ≤ bits → mayStart (S .format) bits (some (entryOf s)) ≡ true
+  may : (bits : ℕ) → s .place ≤ bits → mayStart (S .format) bits (some (plain s)) ≡ true
 
 module _ {A : Type 0} (S : Stream A) (good : Good (S .format)) (l : ℕ) (hl : l < 2 ^ S .format .width) (n : ℕ) (bs : List Bool) (vs : List ℕ) where
   starts-at : (p : ℕ) → p < n → (o : Opened S l n (readsFrom p) bs vs) → Starts S l n p bs (o .state) (o .rest)
@@ -90,7 +117,7 @@ module _ {A : Type 0} (S : Stream A) (good : Good (S .format)) (l : ℕ) (hl : l
       let few : s .count ≤ n = omega arith in
       record {
         counted = c;
-        found = entry-read S l n (entryBefore p) bs (omega arith) (take k vs) s rest (o .reads);
+        found = entry-read S l n (entryBefore p) bs (omega arith) (take k vs) s rest (o .reads) ∙ ap some (said-plain S l k bs (take k vs) s rest (o .reads) c);
         here = sym (ap (drop (s .place)) (W .cut) ∙ drop-at (W .front) rest (s .place) (omega (arith, W .placed)));
         within = omega (arith, W .placed, ap length (W .cut), length-append (W .front) rest);
         near = omega (arith, near, mul-le-mul-right (longest F) few);
@@ -113,8 +140,8 @@ module _ {A : Type 0} (S : Stream A) (good : Good (S .format)) (l : ℕ) (hl : l
       let W : Whole S k f bs (take k vs) s rest = subst (WholeOf S k f bs) (o .reads) (whole S good k f bs hf) in
       let Q : Whole S q f bs (take q vs) (z .state) (z .rest) = subst (WholeOf S q f bs) (z .reads) (whole S good q f bs hf) in
       let B : Starts S l n p bs s rest = starts-at p (omega arith) o in
-      range-reads S bs (entriesIn S n f bs) p q lt (entryOf s) (B .found) (B .may (length bs) (B .within))
-      ∙ ap₂ (λ (i : ℕ) (u : List Bool). without d (readN S m (stateFrom S i (entryOf s)) u)) (sym (B .counted)) (sym (B .here))
+      range-reads S bs (entriesIn S n f bs) p q lt (plain s) (B .found) (B .may (length bs) (B .within))
+      ∙ ap₂ (λ (i : ℕ) (u : List Bool). without d (readN S m (stateFrom S i (plain s)) u)) (sym (B .counted)) (sym (B .here))
       ∙ sym (alike-without S d (readN S m s rest) (readN S m (holding S (S .gather) (S .gather .none) s) rest) (read-any S (S .gather) m s (S .gather .none) rest))
       ∙ sym (without-prepend (take k vs) k d (readN S m s rest) (W .long))
       ∙ ap₂ (λ (i : ℕ) (x : Reading A). without i x) to (sym (read-then S k m f bs ∙ ap (thenRead S m) (o .reads)))

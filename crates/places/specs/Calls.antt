@@ -1,7 +1,7 @@
 -- The place table in lent words, and what its calls answer and leave in lent memory, over any writer of a stream: writing and reopening with a table, the
 -- check, and a range. "1, 2, 3, 12, 13, 4, .. then 5 to 8". Assumes nothing.
 use mathlib.Core.Path.{_≡_}
-use mathlib.Core.Bool.{not, _&&_, _||_}
+use mathlib.Core.Bool.{Bool, not, _&&_, _||_}
 use mathlib.Core.Logic.{_⊎_}
 use mathlib.Core.List.{List, [], _∷_, _++_}
 use Prim.Native.Nat.{ℕ, zero, suc, _+_, _-_, _*_, _/_, _≤_}
@@ -9,12 +9,12 @@ use lib.Dec.{eqb, leb, ltb}
 use lib.ListN.{length, take, drop, getD, getElem?}
 use Rattle.bits.specs.Bits.{Below, bitsOf, wholeBytes}
 use Rattle.models.specs.Answers.{Said, Done, answered, refused, answeredOn, SaidOn, Cause, _when_, judge, judgedOn, judgedMemory, verdict}
 use Rattle.stream.specs.Format.{Format, windowIn, Stream, State, fresh, mostValues}
 use Rattle.stream.specs.Write.{wrote, wroteIn}
-use Rattle.stream.specs.Read.{Reopened, reopened, unopened, bufferAfter}
+use Rattle.stream.specs.Read.{done, readN, Reopened, reopened, unopened, bufferAfter}
 use Rattle.stream.specs.Calls.{Coder, lentBytes, faultAt, drawn, drawnIn, reopening, startCauses, writeAnswer, writeMemory, reopenCauses, reopenAnswer, reopenMemory}
 use Rattle.stream.specs.Made.{MadeBy, stateOver}
-use Rattle.stream.specs.Table.{Entry, entriesFor, tableOf, added, Belongs, checkTable, entryBefore, readsFrom, readsInAll, mayStart, readRange, MetIn}
+use Rattle.places.specs.Table.{spacing, Entry, entryOf, entriesFor, tableOf, added, Belongs, checkTable, entryBefore, readsFrom, readsInAll, mayStart, readRange, MetIn}
 
 -- ---- lent words: four to an entry, its place, last value, leading and trailing zeros
 
@@ -176,6 +176,13 @@ pub record OwnTable {A : Type 0} (S : Stream A) (l : ℕ) (bytes : List ℕ) (co
   pub few : count ≤ mostValues
   pub lent : entries ≤ entriesLent (length words)
   pub belongs : Belongs S count (fresh S l) (bitsOf bytes) (tableIn words entries)
+
+-- entry i of a stream's own table, where the bytes are read as vs: that of the state that a reader has behind the first 64 * i values
+pub record OwnEntry {A : Type 0} (S : Stream A) (l : ℕ) (bytes vs : List ℕ) (i : ℕ) (e : Entry) : Type 0 where
+  pub state : State A
+  pub rest : List Bool
+  pub reads : readN S (spacing * i) (fresh S l) (bitsOf bytes) ≡ done (take (spacing * i) vs) state rest
+  pub is : e ≡ entryOf S state
 
 -- what reopening at k answers where the first `used` bytes of buf hold any stream of n values and the words its own table, and that after any accepted
 -- write from there the table is the stream's own again

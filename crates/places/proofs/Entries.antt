@@ -11,38 +11,38 @@ use lib.Dec.{eqb}
 use lib.ListN.{length, take, drop, getD, getElem?, length-append, take-append-drop}
 use lib.Seq.{drop-append-seam, drop-cons, take-at, length-take-le}
 use Rattle.bits.specs.Bits.{Below}
 use Rattle.stream.specs.Format.{Window, Gather, gathered, Stream, State, fresh, isRaw, advance}
 use Rattle.stream.specs.Write.{bitsOne, next, encode, after}
 use Rattle.stream.specs.Read.{Step, got, halt, Reading, done, stopped, push, follow, stepAt, readN}
-use Rattle.stream.specs.Table.{spacing, Entry, entryOf, noted, entriesFor, entries, unlessHalted, entriesIn}
+use Rattle.places.specs.Table.{spacing, Entry, entryOf, noted, entriesFor, entries, unlessHalted, entriesIn}
 use Rattle.stream.specs.Needs.{Good}
 use Rattle.stream.proofs.OneValue.{read-one}
 use Rattle.stream.proofs.Writing.{count-after}
 use Rattle.stream.proofs.Gathered.{instead, holding}
 
 -- a count asks for the entry of each value number below it that is a multiple of 64, and for no other
 pub asked-for : (i n : ℕ) → (i < entriesFor n → spacing * i < n) × (spacing * i < n → i < entriesFor n)
 asked-for i n = (λ lt. omega arith, λ lt. omega arith)
 
 -- one value more asks for one entry more exactly where one is noted
-noted-counts : {A : Type 0} (s : State A) → entriesFor (s .count) + length (noted s) ≡ entriesFor (suc (s .count))
-noted-counts s = go (eqb (s .count % spacing) 0) refl
+noted-counts : {A : Type 0} (S : Stream A) (s : State A) → entriesFor (s .count) + length (noted S s) ≡ entriesFor (suc (s .count))
+noted-counts S s = go (eqb (s .count % spacing) 0) refl
   where
-    go : (b : Bool) → eqb (s .count % spacing) 0 ≡ b → entriesFor (s .count) + length (cond b (entryOf s ∷ []) []) ≡ entriesFor (suc (s .count))
+    go : (b : Bool) → eqb (s .count % spacing) 0 ≡ b → entriesFor (s .count) + length (cond b (entryOf S s ∷ []) []) ≡ entriesFor (suc (s .count))
     go true e = omega (arith, eqb-true (s .count % spacing) 0 e)
     go false e =
         let some : ¬ (s .count % spacing ≡ 0) = eqb-false (s .count % spacing) 0 e in
         omega arith
 
 -- an entry, or none
-pub noted-one : {A : Type 0} (s : State A) → s .count % spacing ≡ 0 → noted s ≡ entryOf s ∷ []
-noted-one s e = ap (λ (b : Bool). cond b (entryOf s ∷ []) []) (eq-eqb (s .count % spacing) 0 e)
+pub noted-one : {A : Type 0} (S : Stream A) (s : State A) → s .count % spacing ≡ 0 → noted S s ≡ entryOf S s ∷ []
+noted-one S s e = ap (λ (b : Bool). cond b (entryOf S s ∷ []) []) (eq-eqb (s .count % spacing) 0 e)
 
-pub noted-none : {A : Type 0} (s : State A) → (s .count % spacing ≡ 0 → ⊥) → noted s ≡ []
-noted-none s e = ap (λ (b : Bool). cond b (entryOf s ∷ []) []) (ne-eqb (s .count % spacing) 0 e)
+pub noted-none : {A : Type 0} (S : Stream A) (s : State A) → (s .count % spacing ≡ 0 → ⊥) → noted S s ≡ []
+noted-none S s e = ap (λ (b : Bool). cond b (entryOf S s ∷ []) []) (ne-eqb (s .count % spacing) 0 e)
 
-noted-at : {A : Type 0} (s : State A) (i : ℕ) → s .count ≡ spacing * i → noted s ≡ entryOf s ∷ []
-noted-at s i h = noted-one s (omega arith)
+noted-at : {A : Type 0} (S : Stream A) (s : State A) (i : ℕ) → s .count ≡ spacing * i → noted S s ≡ entryOf S s ∷ []
+noted-at S s i h = noted-one S s (omega arith)
 
 -- entry i of a list: behind the first i, among the first, and beyond the last
 pub elem-at : {X : Type 0} (ds : List X) (e : X) (es : List X) (i : ℕ) → length ds ≡ i → getElem? (ds ++ (e ∷ es)) i ≡ some e
@@ -69,14 +69,14 @@ module _ {A : Type 0} (S : Stream A) where
   unfolding entries after
   entries-append s [] vs = refl
   entries-append s (u ∷ us) vs =
-      ap (λ (z : List Entry). noted s ++ z) (entries-append (next S s u) us vs)
-      ∙ sym (append-assoc (noted s) (entries S (next S s u) us) (entries S (after S (next S s u) us) vs))
+      ap (λ (z : List Entry). noted S s ++ z) (entries-append (next S s u) us vs)
+      ∙ sym (append-assoc (noted S s) (entries S (next S s u) us) (entries S (after S (next S s u) us) vs))
 
   pub entries-count : (s : State A) (vs : List ℕ) → entriesFor (s .count) + length (entries S s vs) ≡ entriesFor (s .count + length vs)
   unfolding entries
   entries-count s [] = omega arith
   entries-count s (v ∷ vs) =
-      omega (arith, length-append (noted s) (entries S (next S s v) vs), noted-counts s, entries-count (next S s v) vs)
+      omega (arith, length-append (noted S s) (entries S (next S s v) vs), noted-counts S s, entries-count (next S s v) vs)
 
   module _ (l : ℕ) (vs : List ℕ) where
     pub fresh-entries : length (entries S (fresh S l) vs) ≡ entriesFor (length vs)
@@ -92,13 +92,13 @@ module _ {A : Type 0} (S : Stream A) where
       ∙ take-at (entries S f us) (entries S (after S f us) (drop k vs)) (entriesFor k) (fresh-entries l us ∙ ap entriesFor (length-take-le k vs le))
 
   -- a list that starts at a multiple of 64 starts with that entry
-  starts-with : (s : State A) (i v : ℕ) (vs : List ℕ) → s .count ≡ spacing * i → entries S s (v ∷ vs) ≡ entryOf s ∷ entries S (next S s v) vs
+  starts-with : (s : State A) (i v : ℕ) (vs : List ℕ) → s .count ≡ spacing * i → entries S s (v ∷ vs) ≡ entryOf S s ∷ entries S (next S s v) vs
   unfolding entries
-  starts-with s i v vs h = ap (λ (z : List Entry). z ++ entries S (next S s v) vs) (noted-at s i h)
+  starts-with s i v vs h = ap (λ (z : List Entry). z ++ entries S (next S s v) vs) (noted-at S s i h)
 
   -- entry i is of the state before value 64 * i
   pub entry-written : (l : ℕ) (vs : List ℕ) (i : ℕ) → spacing * i < length vs
-      → getElem? (entries S (fresh S l) vs) i ≡ some (entryOf (after S (fresh S l) (take (spacing * i) vs)))
+      → getElem? (entries S (fresh S l) vs) i ≡ some (entryOf S (after S (fresh S l) (take (spacing * i) vs)))
   entry-written l vs i lt =
       let f : State A = fresh S l in
       let k : ℕ = spacing * i in
@@ -110,7 +110,7 @@ module _ {A : Type 0} (S : Stream A) where
       ap (λ (z : List ℕ). getElem? (entries S f z) i) (sym (take-append-drop k vs) ∙ ap (λ (z : List ℕ). us ++ z) (drop-cons vs k 0 lt))
       ∙ ap (λ (z : List Entry). getElem? z i) (entries-append f us (v ∷ ws))
       ∙ ap (λ (z : List Entry). getElem? (entries S f us ++ z) i) (starts-with m i v ws (omega (arith, count-after S f us)))
-      ∙ elem-at (entries S f us) (entryOf m) (entries S (next S m v) ws) i (omega (arith, fresh-entries l us))
+      ∙ elem-at (entries S f us) (entryOf S m) (entries S (next S m v) ws) i (omega (arith, fresh-entries l us))
 
 -- ---- read
 
@@ -132,17 +132,17 @@ module _ {A : Type 0} (S : Stream A) where
   entered-suc k s bs v win u e (done us t r) E =
       let s′ : State A = advance S s v win u in
       let N : List Entry = entriesIn S k s′ (drop u bs) in
-      let goesOn : (m : ℕ) → entriesIn S (suc m) s bs ≡ noted s ++ entriesIn S m s′ (drop u bs) =
-      λ m. ap (λ (q : Step). noted s ++ unlessHalted q (λ y w used. entriesIn S m (advance S s y w used) (drop used bs))) e in
-      let long : length (entriesIn S (suc k) s bs) ≡ length (noted s) + length N = ap length (goesOn k) ∙ length-append (noted s) N in
+      let goesOn : (m : ℕ) → entriesIn S (suc m) s bs ≡ noted S s ++ entriesIn S m s′ (drop u bs) =
+      λ m. ap (λ (q : Step). noted S s ++ unlessHalted q (λ y w used. entriesIn S m (advance S s y w used) (drop used bs))) e in
+      let long : length (entriesIn S (suc k) s bs) ≡ length (noted S s) + length N = ap length (goesOn k) ∙ length-append (noted S s) N in
       record {
         counted = omega (arith, E .counted);
-        number = omega (arith, noted-counts s, E .number);
+        number = omega (arith, noted-counts S s, E .number);
         onward = λ j.
             let up : suc k + j ≡ suc (k + j) = omega arith in
             ap (λ (m : ℕ). entriesIn S m s bs) up ∙ goesOn (k + j)
-            ∙ ap (λ (z : List Entry). noted s ++ z) (E .onward j)
-            ∙ sym (append-assoc (noted s) N (entriesIn S j t r))
+            ∙ ap (λ (z : List Entry). noted S s ++ z) (E .onward j)
+            ∙ sym (append-assoc (noted S s) N (entriesIn S j t r))
             ∙ ap (λ (z : List Entry). z ++ entriesIn S j t r) (sym (goesOn k));
       }
 
@@ -166,7 +166,7 @@ module _ {A : Type 0} (S : Stream A) where
 
   -- and its entry i is of the state before value 64 * i
   pub entry-read : (l n i : ℕ) (bs : List Bool) → spacing * i < n → (us : List ℕ) (t : State A) (r : List Bool)
-      → readN S (spacing * i) (fresh S l) bs ≡ done us t r → getElem? (entriesIn S n (fresh S l) bs) i ≡ some (entryOf t)
+      → readN S (spacing * i) (fresh S l) bs ≡ done us t r → getElem? (entriesIn S n (fresh S l) bs) i ≡ some (entryOf S t)
   unfolding entriesIn
   entry-read l n i bs lt us t r h =
       let f : State A = fresh S l in
@@ -178,8 +178,8 @@ module _ {A : Type 0} (S : Stream A) where
       let more : List Entry = unlessHalted (stepAt S t r) (λ v win used. entriesIn S m (advance S t v win used) (drop used r)) in
       ap (λ (z : ℕ). getElem? (entriesIn S z f bs) i) up
       ∙ ap (λ (z : List Entry). getElem? z i) (E .onward (suc m))
-      ∙ ap (λ (z : List Entry). getElem? (D ++ (z ++ more)) i) (noted-at t i (omega (arith, E .counted)))
-      ∙ elem-at D (entryOf t) more i (omega (arith, E .number, E .counted))
+      ∙ ap (λ (z : List Entry). getElem? (D ++ (z ++ more)) i) (noted-at S t i (omega (arith, E .counted)))
+      ∙ elem-at D (entryOf S t) more i (omega (arith, E .number, E .counted))
 
   -- what was written is read with the same entries
   pub entries-back : Good (S .format) → (s : State A) (vs : List ℕ) (r : List Bool) → s .last < 2 ^ S .format .width → Below (S .format .width) vs
@@ -190,17 +190,17 @@ module _ {A : Type 0} (S : Stream A) where
       let B : List Bool = bitsOne S s v in
       let R : List Bool = encode S (next S s v) vs ++ r in
       ap (entriesIn S (suc (length vs)) s) (append-assoc B (encode S (next S s v) vs) r)
-      ∙ ap (λ (q : Step). noted s ++ unlessHalted q (λ y win used. entriesIn S (length vs) (advance S s y win used) (drop used (B ++ R))))
+      ∙ ap (λ (q : Step). noted S s ++ unlessHalted q (λ y win used. entriesIn S (length vs) (advance S s y win used) (drop used (B ++ R))))
       (read-one (S .format) good (isRaw S s) (s .win) (s .last) v R h (b 0))
-      ∙ ap (λ (z : List Bool). noted s ++ entriesIn S (length vs) (next S s v) z) (drop-append-seam B R)
-      ∙ ap (λ (z : List Entry). noted s ++ z) (entries-back good (next S s v) vs r (b 0) (λ i. b (suc i)))
+      ∙ ap (λ (z : List Bool). noted S s ++ entriesIn S (length vs) (next S s v) z) (drop-append-seam B R)
+      ∙ ap (λ (z : List Entry). noted S s ++ z) (entries-back good (next S s v) vs r (b 0) (λ i. b (suc i)))
 
 -- whatever a state gathers, the same entries are read
 pub entries-any : {A B : Type 0} (S : Stream A) (G : Gather B) (n : ℕ) (s : State A) (b : B) (bs : List Bool)
     → entriesIn S n s bs ≡ entriesIn (instead S G) n (holding S G b s) bs
 unfolding entriesIn
 entries-any S G zero s b bs = refl
-entries-any {A} {B} S G (suc n) s b bs = ap (λ (z : List Entry). noted s ++ z) (go (stepAt S s bs) (λ s′ b′ bs′. entries-any S G n s′ b′ bs′))
+entries-any {A} {B} S G (suc n) s b bs = ap (λ (z : List Entry). noted S s ++ z) (go (stepAt S s bs) (λ s′ b′ bs′. entries-any S G n s′ b′ bs′))
   where
     go : (q : Step) → ((s′ : State A) (b′ : B) (bs′ : List Bool) → entriesIn S n s′ bs′ ≡ entriesIn (instead S G) n (holding S G b′ s′) bs′)
         → unlessHalted q (λ v win used. entriesIn S n (advance S s v win used) (drop used bs))
