@@ -1,6 +1,6 @@
 -- The promises of the calls with a place table, in bytes and words: start reading here. `tableWriteAnswer`, `tableReopenAnswer`, `checkAnswer`, `rangeAnswer`, ..
--- are what the contracts of the calls say that they answer and leave in lent memory. Each is a promise of the theory's calls (proofs/TableCalls and
--- TableReads of `stream`), in MacaqueV's words. Assumes nothing.
+-- are what the contracts of the calls say that they answer and leave in lent memory. Each is a promise of the theory's calls (proofs/Calls and
+-- ReadCalls of `places`), in MacaqueV's words. Assumes nothing.
 use mathlib.Core.Path.{_≡_, sym, ap, _∙_, subst}
 use mathlib.Core.Bool.{true}
 use mathlib.Core.List.{List, [], _++_}
@@ -24,7 +24,7 @@ use Rattle.places.proofs.Entries.{asked-for}
 use Rattle.places.proofs.Made.{entry-of-run, run-number}
 use Rattle.places.proofs.Any.{few-before, raw-at-entry}
 use Rattle.places.proofs.Calls as calls
-use Rattle.places.proofs.Reads as reads
+use Rattle.places.proofs.ReadCalls as reads
 use Rattle.coding.specs.Keep.{keepRule}
 use Rattle.macaque_v.specs.State.{modeOf, streamIn, stateOf, writerOf, isFirst, openingValue, opened}
 use Rattle.macaque_v.specs.Write.{coderOf, coderBy}

@@ -11,6 +11,6 @@ pub mod Range
 pub mod Resume
 -- what the calls answer and leave
 pub mod Calls
-pub mod Reads
+pub mod ReadCalls
 -- for the proofs of code: one value more
 pub mod Steps

@@ -1,5 +1,5 @@
 -- The promises of the place table, over any stream: start reading here. Each is proved in the module it cites, over any good format, any rule of what is kept
--- and anything that a state gathers; those of the calls over any writer stand in Calls and Reads. Assumes nothing.
+-- and anything that a state gathers; those of the calls over any writer stand in Calls and ReadCalls. Assumes nothing.
 use mathlib.Core.Path.{_≡_, sym, ap, _∙_}
 use mathlib.Core.Bool.{Bool}
 use mathlib.Core.List.{List, [], _++_}
