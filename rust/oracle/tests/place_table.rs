@@ -54,6 +54,16 @@ fn an_entry_is_what_stands_before_its_value() {
     // With a first value entry 0 is that of a fresh state: place 0, +0 and the opening window.
     let first = table_of(Lossless, Opening::WithFirst, &values).unwrap();
     assert_eq!(first, [entry(0, 0, OPENING), entry(158, ONE, OPENING)]);
+    // So too where a state of length 0 holds another last value.
+    let fresh = MacaqueV::new(Lossless, Opening::WithFirst).unwrap();
+    let handed_in = MacaqueV {
+        last_value: ONE,
+        ..fresh
+    };
+    let (mut bytes, mut words) = ([0; 4], [9; 4]);
+    assert!(compress_values(handed_in, &[ONE], &mut bytes, &mut words, 0).is_ok());
+    assert_eq!(words, entry(0, 0, OPENING));
+    assert_eq!(check(&bytes, 1, Opening::WithFirst, &words, 1), Ok(()));
     // The window before value 64, not the one that it sets.
     let last_two = |other: u32| [vec![ONE; 63], vec![ONE ^ 1, other]].concat();
     let table = table_of(Lossless, ON_ONE, &last_two(ONE ^ 0x8001)).unwrap();

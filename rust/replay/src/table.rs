@@ -43,7 +43,9 @@ pub fn within_limits(call: usize) -> Vec<Record> {
                 u: stale(0, words),
                 ..draw::written(MOST_VALUES / 4 + more)
             })
-            .to_vec(),
+            .into_iter()
+            .chain([before_a_raw_value()])
+            .collect(),
         39 => [0, 1, MOST_VALUES as u64]
             .map(|k| Record {
                 u: stale(all, MOST_WORDS),
@@ -58,6 +60,17 @@ pub fn within_limits(call: usize) -> Vec<Record> {
             ..Record::default()
         }],
         _ => [MOST_VALUES - 12, 0].map(up_to_the_end).to_vec(),
+    }
+}
+
+/// A state of length 0 that holds another last value than +0, though its first value is stored in full.
+fn before_a_raw_value() -> Record {
+    let mut record = draw::written(4);
+    record.v.truncate(1);
+    record.r[4] = ONE.into();
+    Record {
+        u: stale(0, ENTRY_WORDS),
+        ..record
     }
 }
 

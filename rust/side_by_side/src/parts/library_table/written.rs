@@ -4,6 +4,7 @@
 use super::{Tabled, both, room, safe};
 use crate::context::Context;
 use crate::lent::STALE;
+use crate::parts::library_stream::Stream;
 use crate::parts::macaque_v::BOUNDS;
 use both::{Table, Writer};
 use modelardb_rattle::Fault;
@@ -65,6 +66,7 @@ fn every_way(context: &mut Context, tabled: &Tabled) {
     just_enough(context, tabled);
     in_pieces(context, tabled);
     carried_on(context, tabled);
+    handed_in(context, tabled);
 }
 
 /// Lent so many bytes and so many words of a table.
@@ -131,4 +133,19 @@ fn carried_on(context: &mut Context, tabled: &Tabled) {
         let front = &left.table.words[..words];
         context.same("carried on", &wrong[..words], front, input);
     }
+}
+
+/// Before a raw first value a state may hold any last value: the table is the stream's own all the same.
+fn handed_in(context: &mut Context, tabled: &Tabled) {
+    let Stream { bytes, values, .. } = &tabled.stream;
+    let mut before = lent(tabled, bytes.len(), tabled.table.words.len());
+    if values.is_empty() || before.row[7] == 0 {
+        return;
+    }
+    before.row[4] = context.inputs.value().into();
+    let (_, left) = both::written(context, &before, values);
+    let input = || format!("a last value {:08X} before {values:08X?}", before.row[4]);
+    let own = (&tabled.stream.row, bytes, &tabled.table);
+    let left = (&left.row, &left.buffer, &left.table);
+    context.same("handed in", own, left, input);
 }
