@@ -27,6 +27,7 @@ use Rattle.places.specs.Table.{entries, entriesFor, entriesIn}
 use Rattle.places.specs.Calls.{entriesLent, tableIn, Beside, OwnTable}
 use Rattle.macaque_v.specs.State.{Known, streamIn, isFirst, openingValue, opened}
 use Rattle.macaque_v.specs.Made.{stateOver, keptOf, Made}
+use Rattle.macaque_v.specs.Calls.{writeAnswer}
 use Rattle.macaque_v.specs.Read.{valuesIn, gridAnswer, gridMemory}
 use Rattle.macaque_v.specs.declared.MacaqueV.{MacaqueV}
 use Rattle.macaque_v.specs.declared.Opening.{Opening}
@@ -79,6 +80,15 @@ module _ (row xs buf words : List ℕ) (in-use : ℕ) where
         w .bytes,
         ap (λ (q : SaidOn MacaqueV (Beside MacaqueV)). entriesAfter in-use (stateless q)) (a .1) ∙ w .after,
       )
+
+  -- where the plain one is refused, it is refused alike
+  pub a-write-is-refused-as-the-plain-one : in-use ≡ entriesFor ((writerIn row) .length) → entriesFor ((writerIn row) .length + length xs) ≤ entriesLent (length words)
+      → ((writeFault row xs buf) .number ≡ 0 → ⊥) → tableWriteFault row xs buf words in-use ≡ writeFault row xs buf
+  a-write-is-refused-as-the-plain-one number room h = go (writeAnswer (writerIn row) xs buf) refl
+    where
+      go : (q : SaidOn MacaqueV MacaqueV) → writeAnswer (writerIn row) xs buf ≡ q → tableWriteFault row xs buf words in-use ≡ writeFault row xs buf
+      go (answeredOn n) e = absurd (h (ap (λ (q : SaidOn MacaqueV MacaqueV). (stepFault q) .number) e))
+      go (refusedOn f s) e = ap stepFault (call.a-write-is-refused-as-the-plain-one (writerIn row) xs buf words in-use number room f s e) ∙ sym (ap stepFault e)
 
   -- "and then neither buffer nor table nor state has changed", nor the number
   pub a-refused-write-changes-nothing : ((tableWriteFault row xs buf words in-use) .number ≡ 0 → ⊥)

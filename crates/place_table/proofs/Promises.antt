@@ -2,31 +2,32 @@
 -- are what the contracts of the calls say that they answer and leave in lent memory. Each is a promise of the theory's calls (proofs/Calls and
 -- ReadCalls of `places`), in MacaqueV's words. Assumes nothing.
 use mathlib.Core.Path.{_≡_, sym, ap, _∙_, subst}
-use mathlib.Core.Bool.{true}
-use mathlib.Core.List.{List, [], _++_}
+use mathlib.Core.Bool.{Bool, true}
+use mathlib.Core.Logic.{_⊎_}
+use mathlib.Core.List.{List, [], _∷_, _++_}
 use mathlib.Core.Option.{some}
 use Prim.Native.Nat.{ℕ, _+_, _-_, _*_, _^_, _≤_, _<_}
 use lib.ListN.{length, take, drop, getElem?}
 use Rattle.bits.specs.Bits.{Below, bitsOf, wholeBytes}
-use Rattle.models.specs.Answers.{answered, refused, answeredOn, refusedOn, keeping, NoneHolds}
+use Rattle.models.specs.Answers.{fault, answered, refused, answeredOn, refusedOn, keeping, NoneHolds}
 use Rattle.models.proofs.Judged.{accepted}
 use Rattle.models.specs.Limits.{mostValues}
 use Rattle.models.specs.Bound.{boundAllowed}
 use Rattle.models.specs.declared.ErrorBound.{ErrorBound}
 use Rattle.models.specs.declared.ErrorBound.the-variants.{Lossless}
 use Rattle.models.specs.declared.Fault.{Fault}
-use Rattle.stream.specs.Format.{rawNext, isRaw}
-use Rattle.stream.specs.Read.{StreamRefusal, stopped, readAll}
-use Rattle.stream.specs.Calls.{faultAt, drawn, drawnIn}
-use Rattle.places.specs.Table.{spacing, Entry, entryOf, entriesFor, entriesIn, noMatch, entryBefore, readsInAll, stateFrom, rangeFrom}
-use Rattle.places.specs.Calls.{wordsEach, entriesLent, entryAt, tableIn, Beside, MadeByBeside, OwnTable, OwnEntry, RangeAnswers}
+use Rattle.stream.specs.Format.{macaque, opening, rawNext, State, isRaw}
+use Rattle.stream.specs.Read.{StreamRefusal, done, stopped, readN, readAll}
+use Rattle.stream.specs.Calls.{lentBytes, faultAt, drawn, drawnIn}
+use Rattle.places.specs.Table.{spacing, Entry, entryOf, entriesFor, entriesIn, noMatch, entryBefore, readsFrom, readsInAll, stateFrom, without, rangeFrom}
+use Rattle.places.specs.Calls.{wordsEach, entriesLent, entryAt, tableIn, MayStart, Beside, MadeByBeside, OwnTable, OwnEntry, RangeAnswers}
 use Rattle.places.proofs.Entries.{asked-for}
 use Rattle.places.proofs.Made.{entry-of-run, run-number}
 use Rattle.places.proofs.Any.{few-before, raw-at-entry}
 use Rattle.places.proofs.Calls as calls
 use Rattle.places.proofs.ReadCalls as reads
 use Rattle.coding.specs.Keep.{keepRule}
-use Rattle.macaque_v.specs.State.{modeOf, streamIn, stateOf, writerOf, isFirst, openingValue, opened}
+use Rattle.macaque_v.specs.State.{Known, modeOf, streamIn, stateOf, writerOf, isFirst, openingValue, opened}
 use Rattle.macaque_v.specs.Write.{coderOf, coderBy}
 use Rattle.macaque_v.specs.Calls.{newAnswer, writeAnswer, writeMemory}
 use Rattle.macaque_v.specs.Read.{valuesIn, reopenAnswer, reopenMemory}
@@ -57,7 +58,15 @@ pub only-entry-0-begins-at-the-raw-value : (o : Opening) (i : ℕ) (e : Entry)
     → isRaw (streamIn (isFirst o)) (stateFrom (streamIn (isFirst o)) (spacing * i) e) ≡ rawNext (modeOf (isFirst o)) i
 only-entry-0-begins-at-the-raw-value o = raw-at-entry (streamIn (isFirst o))
 
--- ---- the spine, as the theory of streams has it
+-- it "holds place 0, last +0 and the opening window", whatever last value a writer of length 0 is handed in with
+pub entry-0-before-a-raw-value : (m : MacaqueV) → m .«with_first» ≡ true → m .length ≡ 0 → (x : ℕ) (xs buf words : List ℕ) (entries : ℕ) (r : Beside MacaqueV)
+    → tableWriteAnswer m (x ∷ xs) buf words entries ≡ answeredOn r
+    → getElem? (tableIn (tableWriteTable m (x ∷ xs) buf words entries) (r .entries)) 0 ≡ some (record { place = 0; last = 0; win = opening })
+unfolding tableWriteAnswer tableWriteTable
+entry-0-before-a-raw-value m first =
+    calls.entry-0-before-a-raw-value (coderBy m) (writer.coder-good (m .«error_bound») (m .«with_first»)) (ap modeOf first) (stateOf m)
+
+-- ---- the spine, as the theory of place tables has it
 
 in-theory : {b : ErrorBound} {o : Opening} {xs buf : List ℕ} {m : MacaqueV} {words : List ℕ} {entries : ℕ} → MadeBeside b o xs buf m words entries
     → MadeByBeside (coderOf b (isFirst o)) (openingValue o) xs buf m words entries
@@ -158,6 +167,12 @@ module _ (m : MacaqueV) (xs buf words : List ℕ) (entries : ℕ) where
   unfolding tableWriteAnswer writeAnswer
   a-plain-write-goes-with-a-table = calls.a-plain-write-goes-with-a-table (coderBy m) (stateOf m) xs buf words entries
 
+  -- and where the plain one is refused, it is refused alike
+  pub a-write-is-refused-as-the-plain-one : entries ≡ entriesFor (m .length) → entriesFor (m .length + length xs) ≤ entriesLent (length words) → (f : Fault) (n : MacaqueV)
+      → writeAnswer m xs buf ≡ refusedOn f n → tableWriteAnswer m xs buf words entries ≡ refusedOn f n
+  unfolding tableWriteAnswer writeAnswer
+  a-write-is-refused-as-the-plain-one = calls.a-write-is-refused-as-the-plain-one (coderBy m) (stateOf m) xs buf words entries
+
   -- "lent memory is untouched", the buffer and the table, and the writer is handed back
   pub a-refused-write-changes-nothing : (f : Fault) (n : MacaqueV) → tableWriteAnswer m xs buf words entries ≡ refusedOn f n
       → (n ≡ m) × (tableWriteMemory m xs buf words entries ≡ buf) × (tableWriteTable m xs buf words entries ≡ words)
@@ -206,6 +221,12 @@ module _ (b : ErrorBound) (o : Opening) (buf : List ℕ) (used n k words entries
   unfolding tableReopenAnswer reopenAnswer
   a-plain-reopening-goes-with-a-table hl =
       calls.a-plain-reopening-goes-with-a-table (coderOf b (isFirst o)) (writer.coder-good b (isFirst o)) (openingValue o) hl buf used n k words entries
+
+  -- and where the plain one is refused, it is refused alike, with value and place
+  pub reopening-is-refused-as-the-plain-one : entries ≤ entriesLent words → entries ≡ entriesFor n → (f : Fault) → reopenAnswer buf used n k o b ≡ refused f
+      → tableReopenAnswer buf used n k o b words entries ≡ refused f
+  unfolding tableReopenAnswer reopenAnswer
+  reopening-is-refused-as-the-plain-one = calls.reopening-is-refused-as-the-plain-one (coderOf b (isFirst o)) (openingValue o) buf used n k words entries
 
   -- "lent memory is untouched"
   pub a-refused-reopening-changes-nothing : (f : Fault) → tableReopenAnswer buf used n k o b words entries ≡ refused f → tableReopenMemory buf used n k o b words entries ≡ buf
@@ -280,6 +301,29 @@ pub a-range-of-no-values : (o : Opening) (bytes : List ℕ) (count : ℕ) (words
 unfolding rangeAnswer rangeMemory
 a-range-of-no-values o = reads.a-range-of-no-values (streamIn (isFirst o))
 
+-- its causes, one by one, where the count is none: what is asked for, the entries in use, the entry at or before p by its words, and the output
+module _ (o : Opening) (bytes : List ℕ) (count : ℕ) (words : List ℕ) (entries p q room : ℕ) (few : count ≤ mostValues) where
+  -- "p above q, or q above the count, is 12"
+  pub a-range-is-12 : (q < p) ⊎ (count < q) → rangeAnswer bytes count o words entries p q room ≡ refused (fault 12)
+  unfolding rangeAnswer
+  a-range-is-12 = reads.a-range-is-12 (streamIn (isFirst o)) bytes count words entries p q room few
+
+  module _ (lt : p < q) (most : q ≤ count) where
+    pub a-range-of-more-than-is-lent-is-12 : entriesLent (length words) < entries → rangeAnswer bytes count o words entries p q room ≡ refused (fault 12)
+    unfolding rangeAnswer
+    a-range-of-more-than-is-lent-is-12 = reads.a-range-of-more-than-is-lent-is-12 (streamIn (isFirst o)) bytes count words entries p q room few lt most
+
+    -- "refuses with 13 one that is missing, has its place beyond the stream's bits, or has a window neither the opening one nor of leading + trailing at most 31"
+    pub a-range-is-13 : entries ≤ entriesLent (length words) → (MayStart macaque (8 * lentBytes (length bytes)) words entries p → ⊥)
+        → rangeAnswer bytes count o words entries p q room ≡ noMatch
+    unfolding rangeAnswer
+    a-range-is-13 = reads.a-range-is-13 (streamIn (isFirst o)) bytes count words entries p q room few lt most
+
+    pub a-range-is-4 : entries ≤ entriesLent (length words) → MayStart macaque (8 * lentBytes (length bytes)) words entries p → room < q - p
+        → rangeAnswer bytes count o words entries p q room ≡ refused (fault 4)
+    unfolding rangeAnswer
+    a-range-is-4 = reads.a-range-is-4 (streamIn (isFirst o)) bytes count words entries p q room few lt most
+
 -- else it is accepted, or refused by the first of its causes, or "with 5 to 7 as they arise", at one of the values that it reads; "8 isn't judged"
 pub a-range-with-any-table : (o : Opening) (bytes : List ℕ) (count : ℕ) (words : List ℕ) (entries p q room : ℕ)
     → RangeAnswers (rangeCauses (length bytes) count words entries p q room) p q (rangeAnswer bytes count o words entries p q room)
@@ -300,6 +344,25 @@ a-range-reads-from-its-entry o bytes count words entries p q out free lt =
     let r = reads.a-range-reads-from-its-entry (streamIn (isFirst o)) bytes count words entries p q (length out) free lt in
     (r .0, sym (accepted refused _ _ free) ∙ ap drawn (r .1), sym (accepted (keeping out) _ _ free) ∙ ap (drawnIn out) (r .1))
 
+-- with the right entry at or before p, that of the state that a reader has there, it is that part of reading the first q values, though the stream breaks
+-- behind them or in them: it is then refused as reading is, with the value and the place counted from the start
+pub a-range-of-a-right-entry : (o : Opening) → openingValue o < 2 ^ 32 → (bytes : List ℕ) (count : ℕ) (words : List ℕ) (entries : ℕ) → count ≤ mostValues
+    → entries ≤ entriesLent (length words) → (p q : ℕ) → p < q → q ≤ count → (us : List ℕ) (s : State Known) (rest : List Bool)
+    → readN (streamIn (isFirst o)) (readsFrom p) (opened o) (bitsOf bytes) ≡ done us s rest → entryBefore p < entries
+    → entryAt words (entryBefore p) ≡ entryOf (streamIn (isFirst o)) s → (out : List ℕ) → q - p ≤ length out
+    → (rangeAnswer bytes count o words entries p q (length out) ≡ drawn (without p (readN (streamIn (isFirst o)) q (opened o) (bitsOf bytes))))
+    × (rangeMemory bytes count o words entries p q out ≡ drawnIn out (without p (readN (streamIn (isFirst o)) q (opened o) (bitsOf bytes))))
+unfolding rangeAnswer rangeMemory
+a-range-of-a-right-entry o hl =
+    let good = writer.coder-good Lossless (isFirst o) in
+    reads.a-range-of-a-right-entry (streamIn (isFirst o)) (good .format) (good .near) (openingValue o) hl
+
+-- "an output's places past the answer keep what they held" (01), with any table
+pub a-range-changes-only-its-places : (o : Opening) (bytes : List ℕ) (count : ℕ) (words : List ℕ) (entries p q : ℕ) (out : List ℕ)
+    → (drop (q - p) (rangeMemory bytes count o words entries p q out) ≡ drop (q - p) out) × (length (rangeMemory bytes count o words entries p q out) ≡ length out)
+unfolding rangeMemory
+a-range-changes-only-its-places o = reads.a-range-changes-only-its-places (streamIn (isFirst o))
+
 -- "no data": a refused range leaves the output as it was
 pub a-refused-range-changes-nothing : (o : Opening) (bytes : List ℕ) (count : ℕ) (words : List ℕ) (entries p q : ℕ) (out : List ℕ) (f : Fault)
     → rangeAnswer bytes count o words entries p q (length out) ≡ refused f → rangeMemory bytes count o words entries p q out ≡ out
@@ -315,7 +378,7 @@ unfolding rangeAnswer rangeMemory
 a-range-looks-at-one-entry o = reads.a-range-looks-at-one-entry (streamIn (isFirst o))
 
 -- and reads at most 63 values before p, and none from q on
-pub a-range-reads-few-more : (p q : ℕ) → p ≤ q → readsInAll p q < (q - p) + spacing
+pub a-range-reads-few-more : (p q : ℕ) → p ≤ q → (readsFrom p ≤ p) × (p ≤ readsFrom p + 63) × (readsFrom p + readsInAll p q ≡ q)
 a-range-reads-few-more = few-before
 
 -- ---- any accepted stream with its own table, even one that this writer would not write, has its own table again after reopening at k and writing on

@@ -8,7 +8,7 @@ use Rattle.models.specs.Refusals.{faultOf, refusalOf, refusal-told, unsaid, uns
 use Rattle.models.specs.Causes.{boundCauses}
 use Rattle.models.specs.declared.ErrorBound.{ErrorBound}
 use Rattle.stream.specs.Format.{macaque}
-use Rattle.places.specs.Calls as stream
+use Rattle.places.specs.Calls as tables
 pub use Rattle.places.specs.Calls.{Beside, tableCauses, checkCauses}
 use Rattle.macaque_v.specs.State.{streamIn, stateOf, isFirst, openingValue}
 use Rattle.macaque_v.specs.Write.{coderOf, coderBy}
@@ -27,16 +27,16 @@ beside m entries = record { writer = m; entries = entries }
 -- ---- writing with a table
 
 abbrev pub tableWriteCauses : MacaqueV → List ℕ → ℕ → ℕ → ℕ → List Cause
-tableWriteCauses m xs bytes words entries = stream.tableWriteCauses (coderBy m) (stateOf m) xs bytes words entries
+tableWriteCauses m xs bytes words entries = tables.tableWriteCauses (coderBy m) (stateOf m) xs bytes words entries
 
 unfoldable pub tableWriteAnswer : MacaqueV → List ℕ → List ℕ → List ℕ → ℕ → SaidOn MacaqueV (Beside MacaqueV)
-tableWriteAnswer m xs buf words entries = stream.tableWriteAnswer (coderBy m) (stateOf m) xs buf words entries
+tableWriteAnswer m xs buf words entries = tables.tableWriteAnswer (coderBy m) (stateOf m) xs buf words entries
 
 unfoldable pub tableWriteMemory : MacaqueV → List ℕ → List ℕ → List ℕ → ℕ → List ℕ
-tableWriteMemory m xs buf words entries = stream.tableWriteMemory (coderBy m) (stateOf m) xs buf words entries
+tableWriteMemory m xs buf words entries = tables.tableWriteMemory (coderBy m) (stateOf m) xs buf words entries
 
 unfoldable pub tableWriteTable : MacaqueV → List ℕ → List ℕ → List ℕ → ℕ → List ℕ
-tableWriteTable m xs buf words entries = stream.tableWriteTable (coderBy m) (stateOf m) xs buf words entries
+tableWriteTable m xs buf words entries = tables.tableWriteTable (coderBy m) (stateOf m) xs buf words entries
 
 abbrev pub saysTableWrite : TableWriteAnswer → SaidOn MacaqueV (Beside MacaqueV)
 saysTableWrite (OfWrite.Written m n) = answeredOn (beside m n)
@@ -52,13 +52,13 @@ saysTableWrite-injective = told-apart saysTableWrite (unsaidOn (λ (a : Beside M
 -- ---- reopening with a table
 
 abbrev pub tableReopenCauses : ErrorBound → ℕ → ℕ → ℕ → ℕ → ℕ → ℕ → List Cause
-tableReopenCauses b = stream.tableReopenCauses (boundCauses b)
+tableReopenCauses b = tables.tableReopenCauses (boundCauses b)
 
 unfoldable pub tableReopenAnswer : List ℕ → ℕ → ℕ → ℕ → Opening → ErrorBound → ℕ → ℕ → Said (Beside MacaqueV)
-tableReopenAnswer buf used count k o b words entries = stream.tableReopenAnswer (coderOf b (isFirst o)) (openingValue o) buf used count k words entries
+tableReopenAnswer buf used count k o b words entries = tables.tableReopenAnswer (coderOf b (isFirst o)) (openingValue o) buf used count k words entries
 
 unfoldable pub tableReopenMemory : List ℕ → ℕ → ℕ → ℕ → Opening → ErrorBound → ℕ → ℕ → List ℕ
-tableReopenMemory buf used count k o b words entries = stream.tableReopenMemory (coderOf b (isFirst o)) (openingValue o) buf used count k words entries
+tableReopenMemory buf used count k o b words entries = tables.tableReopenMemory (coderOf b (isFirst o)) (openingValue o) buf used count k words entries
 
 abbrev pub saysTableOpen : TableOpenAnswer → Said (Beside MacaqueV)
 saysTableOpen (OfOpen.Opened m n) = answered (beside m n)
@@ -74,7 +74,7 @@ saysTableOpen-injective = told-apart saysTableOpen (unsaid (λ (a : Beside Macaq
 -- ---- the check
 
 unfoldable pub checkAnswer : List ℕ → ℕ → Opening → List ℕ → ℕ → Said Done
-checkAnswer bytes count o words entries = stream.checkAnswer (streamIn (isFirst o)) (openingValue o) bytes count words entries
+checkAnswer bytes count o words entries = tables.checkAnswer (streamIn (isFirst o)) (openingValue o) bytes count words entries
 
 abbrev pub saysCheck : CheckAnswer → Said Done
 saysCheck OfCheck.Belongs = answered tt
@@ -90,10 +90,10 @@ saysCheck-injective = told-apart saysCheck (unsaid (λ (u : Done). OfCheck.Belon
 -- ---- a range
 
 abbrev pub rangeCauses : ℕ → ℕ → List ℕ → ℕ → ℕ → ℕ → ℕ → List Cause
-rangeCauses = stream.rangeCauses macaque
+rangeCauses = tables.rangeCauses macaque
 
 unfoldable pub rangeAnswer : List ℕ → ℕ → Opening → List ℕ → ℕ → ℕ → ℕ → ℕ → Said Done
-rangeAnswer bytes count o words entries p q room = stream.rangeAnswer (streamIn (isFirst o)) bytes count words entries p q room
+rangeAnswer bytes count o words entries p q room = tables.rangeAnswer (streamIn (isFirst o)) bytes count words entries p q room
 
 unfoldable pub rangeMemory : List ℕ → ℕ → Opening → List ℕ → ℕ → ℕ → ℕ → List ℕ → List ℕ
-rangeMemory bytes count o words entries p q out = stream.rangeMemory (streamIn (isFirst o)) bytes count words entries p q out
+rangeMemory bytes count o words entries p q out = tables.rangeMemory (streamIn (isFirst o)) bytes count words entries p q out

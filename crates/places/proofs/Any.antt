@@ -17,9 +17,9 @@ use Rattle.stream.specs.Read.{Step, got, halt, need, readRaw, readWord, meaning
 use Rattle.stream.specs.Calls.{faultAt}
 use Rattle.places.specs.Table.{spacing, Entry, noMatch, entryBefore, readsFrom, readsInAll, MetIn, RangeSays, stateFrom, mayStart, without, rangeFrom, rangeAt, readRange}
 
--- at most 63 values before p are read, and none from q on
-pub few-before : (p q : ℕ) → p ≤ q → readsInAll p q < (q - p) + spacing
-few-before p q le = omega arith
+-- the first value that is read is p or one of the 63 before it, and the last is q − 1
+pub few-before : (p q : ℕ) → p ≤ q → (readsFrom p ≤ p) × (p ≤ readsFrom p + 63) × (readsFrom p + readsInAll p q ≡ q)
+few-before p q le = (omega arith, omega arith, omega arith)
 
 -- "With a first value, entry 0 and no other begins at the raw value."
 pub raw-at-entry : {A : Type 0} (S : Stream A) (i : ℕ) (e : Entry) → isRaw S (stateFrom S (spacing * i) e) ≡ rawNext (S .mode) i

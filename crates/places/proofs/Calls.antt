@@ -3,21 +3,23 @@
 use mathlib.Core.Path.{_≡_, refl, sym, ap, ap₂, _∙_, subst}
 use mathlib.Core.Bool.{Bool, true, false, not, _||_}
 use mathlib.Core.List.{List, [], _∷_, _++_}
+use mathlib.Core.Logic.{_⊎_, inl, inr}
+use mathlib.Core.Option.{Option, some}
 use Prim.Native.Nat.{ℕ, _+_, _*_, _^_, _≤_, _<_}
 use native.Mathlib.Omega.{arith}
 use borrow.Author.Tests.{le-ltb, ltb-false, eq-eqb, eqb-true, not-false}
-use lib.Dec.{ltb}
-use lib.ListN.{length, take, drop, length-append}
+use lib.Dec.{leb, ltb}
+use lib.ListN.{length, take, drop, getElem?, length-append}
 use lib.Seq.{length-take-le}
 use Rattle.bits.specs.Bits.{Below, bitsOf, wholeBytes}
 use Rattle.bits.proofs.Below.{below-take}
 use Rattle.bits.proofs.InBytes.{laidIn-nothing}
 use Rattle.models.specs.declared.Fault.{Fault}
-use Rattle.models.specs.Answers.{answered, refused, answeredOn, refusedOn, Cause, _when_, judge, judgedOn, judgedMemory, keeping, NoneHolds}
-use Rattle.models.proofs.Judged.{not-answered, not-refused, same-answer, same-answer-on, answered-only, accepted-on}
+use Rattle.models.specs.Answers.{fault, answered, refused, SaidOn, answeredOn, refusedOn, refusing, Cause, _when_, judge, judgedOn, judgedMemory, keeping, NoneHolds}
+use Rattle.models.proofs.Judged.{not-answered, not-refused, same-fault, same-answer, same-answer-on, answered-only, accepted-on}
 use Rattle.models.proofs.Judged as judging
 use Rattle.models.proofs.Tests.{neither, never}
-use Rattle.stream.specs.Format.{Stream, State, fresh, mostValues}
+use Rattle.stream.specs.Format.{Window, opening, withFirst, Stream, State, fresh, mostValues}
 use Rattle.stream.specs.Write.{keptFrom, encode, after, wrote}
 use Rattle.stream.specs.Read.{Reading, done, stopped, readAll, Reopened, reopened, unopened, bufferAfter}
 use Rattle.stream.specs.Calls.{Coder, lentBytes, reopening, newAnswer, startCauses, writeCauses, writeAnswer, reopenCauses, resumed, reopenAnswer, reopenMemory}
@@ -25,12 +27,14 @@ use Rattle.stream.specs.Made.{MadeBy, stateOver}
 use Rattle.places.specs.Table.{Entry, entriesFor, entries, added}
 use Rattle.places.specs.Calls.{wordsEach, entriesLent, tableIn, laidEntries, tableCauses, tableReopenCauses, Beside, tableWriteCauses, tableWriteJudged, tableWriteAnswer, tableWriteMemory, tableWriteTable, resumedBeside, tableReopenAnswer, tableReopenMemory, MadeByBeside, over, WritesBeside, ReopensBeside, TableResumesAsOne}
 use Rattle.stream.specs.Needs.{GoodCoder}
+use Rattle.stream.proofs.Formats.{Framed}
+use Rattle.stream.proofs.Rule.{usable-says}
 use Rattle.stream.proofs.Reopen.{refused-reopen}
 use Rattle.stream.proofs.AnyStream.{any-resumed}
 use Rattle.stream.proofs.Calls.{split, joined, alike-after, as-long, stays}
 use Rattle.stream.proofs.Calls as calls
 use Rattle.places.proofs.Words.{table-length, take-table, laid-none, laid-before, laid-behind, laid-table, laid-length}
-use Rattle.places.proofs.Made.{run-number, run-count, table-append, table-take}
+use Rattle.places.proofs.Made.{raw-entry-added, run-number, run-count, table-append, table-take}
 use Rattle.places.proofs.Steps.{added-count}
 
 -- ---- the number of entries in use
@@ -55,6 +59,26 @@ refused-untouched s (n when false ∷ causes) a f t h = refused-untouched s caus
 module _ {A W : Type 0} (C : Coder A W) where
   abbrev S : Stream A
   S = C .stream
+
+  -- ---- refused alike: what refuses a call that answers one thing refuses one that answers another
+
+  refused-as : {X Y : Type 0} (s : W) (causes : List Cause) (x : X) (y : Y) (f : Fault) (t : W) → judgedOn s causes x ≡ refusedOn f t → judgedOn s causes y ≡ refusedOn f t
+  unfolding judge
+  refused-as s [] x y f t h = absurd (never (cc))
+  refused-as s (n when true ∷ causes) x y f t h =
+      let a : fault n ≡ f = cc in
+      let b : s ≡ t = cc in
+      ap₂ refusedOn a b
+  refused-as s (n when false ∷ causes) x y f t h = refused-as s causes x y f t h
+
+  plain-parts : (s : State A) (xs : List ℕ) (bytes : ℕ) {X : Type 0} (x : X)
+      → judgedOn (C .hold s) (startCauses C s (length xs) bytes ++ (4 when not (leb ((wrote (C .rule) (C .stream) s xs) .place) (8 * bytes)) ∷ [])) x
+      ≡ judgedOn (C .hold s) (writeCauses C s xs bytes) x
+  unfolding judge
+  plain-parts s xs bytes x =
+      judging.judged-parts (refusing (C .hold s)) (startCauses C s (length xs) bytes) _ _
+      ∙ judging.judged-parts (refusing (C .hold s)) (C .first) _ _
+      ∙ sym (judging.judged-parts (refusing (C .hold s)) (C .first) _ _)
 
   -- ---- writing, from any state
 
@@ -113,6 +137,23 @@ module _ {A W : Type 0} (C : Coder A W) where
         sym (judging.accepted _ _ _ (write-allowed s xs (lentBytes (length buf)) (length words) in-use (a .0) number room))
         ∙ ap (λ (w : W). answeredOn (record { writer = w; entries = entriesFor (s .count + length xs) })) (same-answer-on (a .1))
 
+    -- and where the plain one is refused, it is refused alike
+    pub a-write-is-refused-as-the-plain-one : in-use ≡ entriesFor (s .count) → entriesFor (s .count + length xs) ≤ entriesLent (length words)
+        → (f : Fault) (t : W) → writeAnswer C s xs buf ≡ refusedOn f t → tableWriteAnswer C s xs buf words in-use ≡ refusedOn f t
+    unfolding judge
+    a-write-is-refused-as-the-plain-one number room f t h =
+        let bytes : ℕ = lentBytes (length buf) in
+        let counted = number-allowed (length words) in-use (s .count) (omega arith) number in
+        let four : Bool = not (leb ((wrote (C .rule) S s xs) .place) (8 * bytes)) in
+        let now : SaidOn W (Beside W) = answeredOn (record { writer = C .hold (wrote (C .rule) S s xs); entries = entriesFor (s .count + length xs) }) in
+        judging.judged-parts (refusing (C .hold s)) (startCauses C s (length xs) bytes) _ now
+        ∙ ap (λ (x : SaidOn W (Beside W)). judge (refusing (C .hold s)) (startCauses C s (length xs) bytes) x)
+        (ap₂ (λ (a b : Bool). judge (refusing (C .hold s)) (12 when a ∷ 13 when b ∷ 4 when (ltb (entriesLent (length words)) (entriesFor (s .count + length xs)) || four) ∷ []) now)
+        (counted .0) (counted .1 .0)
+        ∙ ap (λ (a : Bool). judge (refusing (C .hold s)) (4 when (a || four) ∷ []) now) (le-ltb (entriesLent (length words)) (entriesFor (s .count + length xs)) room))
+        ∙ sym (judging.judged-parts (refusing (C .hold s)) (startCauses C s (length xs) bytes) (4 when four ∷ []) now)
+        ∙ refused-as (C .hold s) (startCauses C s (length xs) bytes ++ (4 when four ∷ [])) _ _ f t (plain-parts s xs bytes (C .hold (wrote (C .rule) S s xs)) ∙ h)
+
     -- "and then neither buffer nor table nor state has changed"
     pub a-refused-write-changes-nothing : (f : Fault) (t : W) → tableWriteAnswer C s xs buf words in-use ≡ refusedOn f t
         → (t ≡ C .hold s) × (tableWriteMemory C s xs buf words in-use ≡ buf) × (tableWriteTable C s xs buf words in-use ≡ words)
@@ -142,6 +183,31 @@ module _ {A W : Type 0} (C : Coder A W) where
         let says = write-says s xs (lentBytes (length buf)) (length words) in-use free in
         laid-length words in-use (added (C .rule) S s xs) (entries-fit (says .1) (says .2)))
 
+  -- "With a first value, entry 0 .. holds place 0, last +0 and the opening window", whatever last value a state of length 0 is handed in with
+  pub entry-0-before-a-raw-value : GoodCoder C → C .stream .mode ≡ withFirst → (s : State A) → s .count ≡ 0 → (x : ℕ) (xs buf words : List ℕ) (in-use : ℕ) (r : Beside W)
+      → tableWriteAnswer C s (x ∷ xs) buf words in-use ≡ answeredOn r
+      → getElem? (tableIn (tableWriteTable C s (x ∷ xs) buf words in-use) (r .entries)) 0 ≡ some (record { place = 0; last = 0; win = opening })
+  unfolding tableIn
+  entry-0-before-a-raw-value good mode s none x xs buf words in-use r h =
+      let es : List Entry = added (C .rule) S s (x ∷ xs) in
+      let w = a-write-with-a-table-is-the-plain-one s (x ∷ xs) buf words in-use r h in
+      let a = accepted-on (C .hold s) (tableWriteJudged C s (x ∷ xs) buf words in-use) _ r h in
+      let starts = split (C .first) _ (split (startCauses C s (length (x ∷ xs)) (lentBytes (length buf))) _ (a .0) .0) in
+      let R = usable-says (S .format) (good .format) (lentBytes (length buf)) s (not-false _ (starts .1 .0)) .2 in
+      let none-in-use : in-use ≡ 0 = omega (arith, w .before) in
+      let all : r .entries ≡ in-use + length es = omega (arith, w .after, w .before, added-count S (C .rule) s (x ∷ xs)) in
+      ap (λ (d : List Entry). getElem? d 0)
+      (ap₂ tableIn (w .table) all ∙ laid-table words in-use es (omega arith) ∙ ap (λ (n : ℕ). tableIn words n ++ es) none-in-use)
+      ∙ raw-entry-added (C .rule) S s mode none x xs
+      ∙ ap₂ entry-of (R .started none) (opens (R .window))
+    where
+      entry-of : ℕ → Window → Option Entry
+      entry-of p win = some (record { place = p; last = 0; win = win })
+
+      opens : (s .win ≡ opening) ⊎ ((0 < s .count) × Framed (C .stream .format) (s .win)) → s .win ≡ opening
+      opens (inl e) = e
+      opens (inr g) = absurd (omega (arith, g .0))
+
   -- ---- reopening, of any bytes
 
   opened-as : (q : Reopened A) (m : W) → resumed C q ≡ answered m → (t : State A) × (q ≡ reopened t) × (C .hold t ≡ m)
@@ -161,6 +227,23 @@ module _ {A W : Type 0} (C : Coder A W) where
   refused-reopening buf [] (unopened g) f h = refl
   refused-reopening buf (n when true ∷ causes) q f h = refl
   refused-reopening buf (n when false ∷ causes) q f h = refused-reopening buf causes q f h
+
+  opened-as-refused : (causes : List Cause) (q : Reopened A) (f : Fault) → judge refused causes (resumed C q) ≡ refused f → judge refused causes (resumedBeside C q) ≡ refused f
+  unfolding judge
+  opened-as-refused [] (reopened t) f h = absurd (not-refused h)
+  opened-as-refused [] (unopened g) f h = ap refused (same-fault h)
+  opened-as-refused (n when true ∷ causes) q f h = ap refused (same-fault h)
+  opened-as-refused (n when false ∷ causes) q f h = opened-as-refused causes q f h
+
+  -- what the plain reopening refuses is refused alike with a table, where the number of entries is lent and what the count asks for
+  pub reopening-is-refused-as-the-plain-one : (l : ℕ) (buf : List ℕ) (used n k words in-use : ℕ) → in-use ≤ entriesLent words → in-use ≡ entriesFor n
+      → (f : Fault) → reopenAnswer C l buf used n k ≡ refused f → tableReopenAnswer C l buf used n k words in-use ≡ refused f
+  reopening-is-refused-as-the-plain-one l buf used n k words in-use lent number f h =
+      let first : List Cause = reopenCauses (C .first) (length buf) used n k in
+      let q : Reopened A = reopening S l (take used buf) n k in
+      judging.judged-parts refused first (tableCauses words in-use n) (resumedBeside C q)
+      ∙ ap (judge refused first) (sym (judging.accepted refused (resumedBeside C q) (tableCauses words in-use n) (number-allowed words in-use n lent number)))
+      ∙ opened-as-refused first q f h
 
   pub a-refused-reopening-changes-nothing : (l : ℕ) (buf : List ℕ) (used n k words in-use : ℕ) (f : Fault)
       → tableReopenAnswer C l buf used n k words in-use ≡ refused f → tableReopenMemory C l buf used n k words in-use ≡ buf

@@ -11,7 +11,7 @@ use lib.Dec.{eqb}
 use lib.ListN.{length, take, drop, getD, getElem?, length-append, take-append-drop}
 use lib.Seq.{drop-append-seam, drop-cons, take-at, length-take-le}
 use Rattle.bits.specs.Bits.{Below}
-use Rattle.stream.specs.Format.{Window, Gather, gathered, Stream, State, fresh, isRaw, advance}
+use Rattle.stream.specs.Format.{Window, opening, Gather, gathered, Mode, withFirst, withoutFirst, rawNext, openedOn, Stream, State, fresh, isRaw, advance}
 use Rattle.stream.specs.Write.{bitsOne, next, encode, after}
 use Rattle.stream.specs.Read.{Step, got, halt, Reading, done, stopped, push, follow, stepAt, readN}
 use Rattle.places.specs.Table.{spacing, Entry, entryOf, noted, entriesFor, entries, unlessHalted, entriesIn}
@@ -33,6 +33,21 @@ noted-counts S s = go (eqb (s .count % spacing) 0) refl
     go false e =
         let some : ¬ (s .count % spacing ≡ 0) = eqb-false (s .count % spacing) 0 e in
         omega arith
+
+-- what an entry holds: before a raw value +0, whatever last value the state has
+pub raw-entry : {A : Type 0} (S : Stream A) (s : State A) → isRaw S s ≡ true → entryOf S s ≡ record { place = s .place; last = 0; win = s .win }
+raw-entry S s h = ap (λ (b : Bool). entry (s .place) (cond b 0 (s .last)) (s .win)) h
+  where
+    entry : ℕ → ℕ → Window → Entry
+    entry p l w = record { place = p; last = l; win = w }
+
+-- and in a fresh state the value that the stream opens on, in the mode with a first value +0
+fresh-last : (m : Mode) (l : ℕ) → cond (rawNext m 0) 0 (openedOn m l) ≡ openedOn m l
+fresh-last withFirst l = refl
+fresh-last withoutFirst l = refl
+
+pub fresh-entry : {A : Type 0} (S : Stream A) (l : ℕ) → entryOf S (fresh S l) ≡ record { place = 0; last = openedOn (S .mode) l; win = opening }
+fresh-entry S l = let last = fresh-last (S .mode) l in λ i. record { place = 0; last = last i; win = opening }
 
 -- an entry, or none
 pub noted-one : {A : Type 0} (S : Stream A) (s : State A) → s .count % spacing ≡ 0 → noted S s ≡ entryOf S s ∷ []
@@ -92,7 +107,7 @@ module _ {A : Type 0} (S : Stream A) where
       ∙ take-at (entries S f us) (entries S (after S f us) (drop k vs)) (entriesFor k) (fresh-entries l us ∙ ap entriesFor (length-take-le k vs le))
 
   -- a list that starts at a multiple of 64 starts with that entry
-  starts-with : (s : State A) (i v : ℕ) (vs : List ℕ) → s .count ≡ spacing * i → entries S s (v ∷ vs) ≡ entryOf S s ∷ entries S (next S s v) vs
+  pub starts-with : (s : State A) (i v : ℕ) (vs : List ℕ) → s .count ≡ spacing * i → entries S s (v ∷ vs) ≡ entryOf S s ∷ entries S (next S s v) vs
   unfolding entries
   starts-with s i v vs h = ap (λ (z : List Entry). z ++ entries S (next S s v) vs) (noted-at S s i h)
 

@@ -1,21 +1,30 @@
 -- `MadeBeside` holds of a fresh writer with an empty table, each accepted write keeps it, and so does reopening at any value: however often a stream is
 -- stopped and resumed, the table beside it is that of one fresh run. Assumes nothing.
 use mathlib.Core.Path.{_≡_, refl, sym, ap, ap₂, _∙_}
-use mathlib.Core.List.{List, [], _++_}
+use mathlib.Core.List.{List, [], _∷_, _++_}
 use mathlib.Core.Option.{some}
-use Prim.Native.Nat.{ℕ, _*_, _^_, _≤_, _<_}
+use Prim.Native.Nat.{ℕ, suc, _*_, _^_, _≤_, _<_}
 use native.Mathlib.Omega.{arith}
 use lib.ListN.{length, take, getElem?}
 use lib.Seq.{length-take-le}
 use Rattle.bits.specs.Bits.{Below, bitsOf, wholeBytes}
-use Rattle.stream.specs.Format.{Stream, State, fresh}
-use Rattle.stream.specs.Write.{keptFrom, kept, Keeps, after, wrote, wroteIn}
+use Rattle.stream.specs.Format.{withFirst, rawNext, Stream, State, fresh, isRaw}
+use Rattle.stream.specs.Write.{keptOne, keptFrom, kept, Keeps, after, wrote, wroteIn}
 use Rattle.stream.specs.Read.{Reopened, reopen, bufferAfter}
-use Rattle.places.specs.Table.{spacing, Entry, entryOf, entriesFor, entries, tableOf, tableWrote, tableAfter, MadeBeside}
+use Rattle.places.specs.Table.{spacing, Entry, entryOf, entriesFor, entries, tableOf, added, tableWrote, tableAfter, MadeBeside}
 use Rattle.stream.specs.Needs.{Good}
 use Rattle.stream.proofs.Writing.{count-after, length-kept, take-kept, kept-append}
 use Rattle.stream.proofs.Made.{made-fresh, made-write, made-reopen}
-use Rattle.places.proofs.Entries.{entries-append, fresh-entries, take-entries, entry-written}
+use Rattle.places.proofs.Entries.{raw-entry, entries-append, fresh-entries, take-entries, starts-with, entry-written}
+
+-- what is added from a state of length 0 in the mode with a first value begins with the entry of +0
+pub raw-entry-added : {A : Type 0} (rule : ℕ → ℕ → ℕ) (S : Stream A) (s : State A) → S .mode ≡ withFirst → s .count ≡ 0 → (x : ℕ) (xs : List ℕ)
+    → getElem? (added rule S s (x ∷ xs)) 0 ≡ some (record { place = s .place; last = 0; win = s .win })
+unfolding keptFrom
+raw-entry-added rule S s mode none x xs =
+    let v : ℕ = keptOne rule (isRaw S s) (s .last) x in
+    ap (λ (es : List Entry). getElem? es 0) (starts-with S s 0 v (kept rule S (record { last = v; win = s .win; place = s .place; count = suc (s .count); seen = s .seen }) xs) (omega arith))
+    ∙ ap some (raw-entry S s (ap₂ rawNext mode none))
 
 module _ {A : Type 0} (rule : ℕ → ℕ → ℕ) (S : Stream A) (l : ℕ) where
   -- entry i of the table of xs is of the state before value 64 * i

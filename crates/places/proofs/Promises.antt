@@ -1,26 +1,31 @@
 -- The promises of the place table, over any stream: start reading here. Each is proved in the module it cites, over any good format, any rule of what is kept
 -- and anything that a state gathers; those of the calls over any writer stand in Calls and ReadCalls. Assumes nothing.
-use mathlib.Core.Path.{_≡_, sym, ap, _∙_}
+use mathlib.Core.Path.{_≡_, refl, sym, ap, _∙_}
 use mathlib.Core.Bool.{Bool}
-use mathlib.Core.List.{List, [], _++_}
+use mathlib.Core.List.{List, [], _∷_, _++_}
 use mathlib.Core.Option.{some}
 use Prim.Native.Nat.{ℕ, _+_, _-_, _*_, _^_, _≤_, _<_}
-use lib.ListN.{length, take, drop, getElem?}
-use Rattle.bits.specs.Bits.{Below, bitsOf, wholeBytes}
+use lib.Count.{leadingZeros, trailingZeros}
+use lib.ListN.{length, take, drop, replicate, getElem?}
+use Rattle.bits.specs.Bits.{Below, field, value, starts, bitsOf, padded, wholeBytes}
 use Rattle.models.specs.Answers.{answered}
-use Rattle.stream.specs.Format.{rawNext, Stream, State, fresh, isRaw}
-use Rattle.stream.specs.Write.{keptFrom, kept, Keeps, after, wrote, wroteIn}
+use Rattle.stream.specs.Format.{leadOf, trailOf, kindOf, bodyOf, windowBy, bitsFor, windowFor, opening, withFirst, withoutFirst, rawNext, openedOn, bare, Stream, State, fresh, isRaw}
+use Rattle.stream.specs.Write.{lossless, keptFrom, kept, Keeps, after, wrote, wroteIn}
 use Rattle.stream.specs.Read.{done, readN, readAll, reopened, reopen, bufferAfter}
 use Rattle.stream.specs.Made.{Resumed}
 use Rattle.stream.specs.Needs.{Good}
 use Rattle.stream.proofs.Promises.{resumed-as-one-run}
-use Rattle.places.specs.Table.{spacing, Entry, entryOf, entriesFor, entriesIn, tableOf, tableWrote, tableAfter, MadeBeside, noMatch, Belongs, checkTable, readsInAll, stateFrom, readRange, RangeSays}
-use Rattle.places.proofs.Entries.{asked-for, own-number, entry-read}
-use Rattle.places.proofs.Made.{entry-of-run, run-number, table-append, beside-fresh, beside-number, beside-write, beside-reopen}
+use Rattle.places.specs.Table.{spacing, Entry, entryOf, entriesFor, entries, entriesIn, tableOf, added, tableWrote, tableAfter, MadeBeside, noMatch, Belongs, checkTable, entryBefore, readsFrom, readsInAll, stateFrom, without, readRange, RangeSays}
+use Rattle.places.specs.Calls.{wordsOf}
+use Rattle.places.proofs.Entries.{asked-for, fresh-entry, own-number, entry-read}
+use Rattle.places.proofs.Made.{entry-of-run, run-number, table-append, beside-fresh, beside-number, beside-write, beside-reopen, raw-entry-added}
 use Rattle.places.proofs.Check.{check-says, check-number, check-own, check-other, made-checks}
 use Rattle.places.proofs.Any.{few-before, raw-at-entry, range-says}
-use Rattle.places.proofs.Range.{checked-range, made-range}
+use Rattle.places.proofs.Range.{right-range, checked-range, made-range}
 use Rattle.places.proofs.Resume.{any-table-resumed}
+
+abbrev one : ℕ
+one = 0x3F80_0000
 
 -- ---- beside a stream, in a check, and in a range
 
@@ -30,10 +35,11 @@ module _ {A : Type 0} (rule : ℕ → ℕ → ℕ) (S : Stream A) (l : ℕ) wher
       → getElem? (tableOf rule S l xs) i ≡ some (entryOf S (wrote rule S (fresh S l) (take (spacing * i) xs)))
   an-entry-is-the-state-before-its-value = entry-of-run rule S l
 
-  -- so entry 0 is the fresh state: place 0, the opening window, and +0 or the opening value as last
-  pub entry-0-is-the-fresh-state : (xs : List ℕ) → 0 < length xs → getElem? (tableOf rule S l xs) 0 ≡ some (entryOf S (fresh S l))
+  -- so entry 0 is the fresh state: place 0, the opening window, and as last the value that the stream opens on, in the mode with a first value +0
+  pub entry-0-is-the-fresh-state : (xs : List ℕ) → 0 < length xs
+      → getElem? (tableOf rule S l xs) 0 ≡ some (record { place = 0; last = openedOn (S .mode) l; win = opening })
   unfolding keptFrom after
-  entry-0-is-the-fresh-state xs some-value = entry-of-run rule S l xs 0 some-value
+  entry-0-is-the-fresh-state xs some-value = entry-of-run rule S l xs 0 some-value ∙ ap some (fresh-entry S l)
 
   -- "for each value number that is a multiple of 64 and below the count"
   pub as-many-entries-as-the-count-asks-for : (xs : List ℕ) → length (tableOf rule S l xs) ≡ entriesFor (length xs)
@@ -83,6 +89,17 @@ module _ {A : Type 0} (rule : ℕ → ℕ → ℕ) (S : Stream A) (l : ℕ) wher
           → readRange S (bitsOf (take (wholeBytes (s .place)) buf)) table p q ≡ answered (take (q - p) (drop p (kept rule S (fresh S l) xs)))
       a-made-range = made-range rule S l M good K hl bx
 
+-- "With a first value, entry 0 .. holds place 0, last +0 and the opening window": +0 whatever last value a state of length 0 is handed in with
+pub entry-0-before-a-raw-value : {A : Type 0} (rule : ℕ → ℕ → ℕ) (S : Stream A) (s : State A) → S .mode ≡ withFirst → s .count ≡ 0 → (x : ℕ) (xs : List ℕ)
+    → getElem? (added rule S s (x ∷ xs)) 0 ≡ some (record { place = s .place; last = 0; win = s .win })
+entry-0-before-a-raw-value = raw-entry-added
+
+-- FORMAT's tables, in words: 65 times 1.0 with a first value; and 63 times 1.0, then 3F800001 and 3F808001, opened on 1.0
+pub the-tables-of-the-document : (wordsOf (tableOf lossless (bare withFirst) one (replicate 65 one)) ≡ 0 ∷ 0 ∷ 255 ∷ 0 ∷ 158 ∷ one ∷ 255 ∷ 0 ∷ [])
+    × (wordsOf (tableOf lossless (bare withoutFirst) one (replicate 63 one ++ (0x3F80_0001 ∷ 0x3F80_8001 ∷ []))) ≡ 0 ∷ one ∷ 255 ∷ 0 ∷ 140 ∷ 0x3F80_0001 ∷ 31 ∷ 0 ∷ [])
+unfolding entries wordsOf keptFrom field value starts bitsOf padded leadOf trailOf leadingZeros trailingZeros kindOf bodyOf windowBy bitsFor windowFor
+the-tables-of-the-document = (refl, refl)
+
 -- a count asks for the entries of the value numbers below it that are multiples of 64, so reopening at k keeps exactly those below k
 pub an-entry-is-asked-for-below-the-count : (i n : ℕ) → (i < entriesFor n → spacing * i < n) × (spacing * i < n → i < entriesFor n)
 an-entry-is-asked-for-below-the-count = asked-for
@@ -122,6 +139,14 @@ pub a-range-is-that-part-of-the-reading : {A : Type 0} (S : Stream A) → Good (
     → readRange S bits table p q ≡ answered (take (q - p) (drop p vs))
 a-range-is-that-part-of-the-reading = checked-range
 
+-- with the right entry at or before p a range is that part of reading the first q values, though the stream breaks behind them or in them: it is then refused
+-- as reading is, with the value and the place counted from the start
+pub a-range-of-a-right-entry : {A : Type 0} (S : Stream A) → Good (S .format) → (l : ℕ) → l < 2 ^ S .format .width
+    → (bits : List Bool) (p q : ℕ) → p < q → (table : List Entry) (us : List ℕ) (s : State A) (rest : List Bool)
+    → readN S (readsFrom p) (fresh S l) bits ≡ done us s rest → getElem? table (entryBefore p) ≡ some (entryOf S s)
+    → readRange S bits table p q ≡ without p (readN S q (fresh S l) bits)
+a-range-of-a-right-entry = right-range
+
 -- any accepted stream whose table the check accepts, reopened at k and written on: the check accepts what was kept and added
 pub any-table-resumes : {A : Type 0} (rule : ℕ → ℕ → ℕ) (S : Stream A) → Good (S .format) → Keeps (S .format .width) rule → (l : ℕ) → l < 2 ^ S .format .width
     → (n k used : ℕ) (buf : List ℕ) → k ≤ n → used ≤ length buf → (vs : List ℕ) (t : State A) (r : List Bool)
@@ -138,7 +163,7 @@ pub a-range-of-any-table : {A : Type 0} (S : Stream A) (bits : List Bool) (table
 a-range-of-any-table = range-says
 
 -- and reads at most 63 values before p, and none from q on
-pub a-range-reads-few-more : (p q : ℕ) → p ≤ q → readsInAll p q < (q - p) + spacing
+pub a-range-reads-few-more : (p q : ℕ) → p ≤ q → (readsFrom p ≤ p) × (p ≤ readsFrom p + 63) × (readsFrom p + readsInAll p q ≡ q)
 a-range-reads-few-more = few-before
 
 -- "With a first value, entry 0 and no other begins at the raw value."

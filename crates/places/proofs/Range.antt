@@ -29,7 +29,7 @@ use Rattle.stream.proofs.Near.{NearIn, read-near}
 use Rattle.stream.proofs.Gathered.{holding, Alike, read-any}
 use Rattle.stream.proofs.Reopen.{Opened, any-opened}
 use Rattle.stream.proofs.Made.{made-read}
-use Rattle.places.proofs.Entries.{entry-read}
+use Rattle.places.proofs.Entries.{fresh-entry, entry-read}
 use Rattle.places.proofs.Check.{check-says, made-checks}
 use Rattle.places.proofs.Any.{range-empty, range-reads}
 
@@ -58,15 +58,11 @@ not-raw withoutFirst n h = refl
 not-raw withFirst zero h = absurd (omega (arith, h))
 not-raw withFirst (suc n) h = refl
 
-fresh-last : (m : Mode) (l : ℕ) → cond (rawNext m 0) 0 (openedOn m l) ≡ openedOn m l
-fresh-last withFirst l = refl
-fresh-last withoutFirst l = refl
-
 said-plain : {A : Type 0} (S : Stream A) (l k : ℕ) (bs : List Bool) (vs : List ℕ) (s : State A) (r : List Bool) → readN S k (fresh S l) bs ≡ done vs s r → s .count ≡ k → entryOf S s ≡ plain s
 unfolding readN
 said-plain {A} S l zero bs vs s r h c =
     let is : fresh S l ≡ s = same h in
-    ap (entryOf S) (sym is) ∙ (let last : lastBefore S (fresh S l) ≡ (fresh S l) .last = fresh-last (S .mode) l in λ i. record { place = 0; last = last i; win = opening }) ∙ ap plain is
+    ap (entryOf S) (sym is) ∙ fresh-entry S l ∙ ap plain is
   where
     same : done [] (fresh S l) bs ≡ done vs s r → fresh S l ≡ s
     same e = cc
@@ -92,72 +88,89 @@ drop-take p q vs le long =
     ap (λ (n : ℕ). drop p (take n vs)) up ∙ ap (drop p) (take-add p (q - p) vs)
     ∙ drop-at (take p vs) (take (q - p) (drop p vs)) p (length-take-le p vs long)
 
--- the state before the value of the entry at or before p: the entry that holds it, and where it stands
-record Starts {A : Type 0} (S : Stream A) (l n p : ℕ) (bs : List Bool) (s : State A) (rest : List Bool) : Type 0 where
+-- the state behind the values before the entry at or before p: the entry that holds it, and where it stands
+record Starts {A : Type 0} (S : Stream A) (p : ℕ) (bs : List Bool) (us : List ℕ) (s : State A) (rest : List Bool) : Type 0 where
+  long : length us ≡ readsFrom p
   counted : s .count ≡ readsFrom p
-  found : getElem? (entriesIn S n (fresh S l) bs) (entryBefore p) ≡ some (plain s)
+  holds : entryOf S s ≡ plain s
   here : rest ≡ drop (s .place) bs
   within : s .place ≤ length bs
-  near : s .place ≤ n * longest (S .format)
+  near : s .place ≤ readsFrom p * longest (S .format)
   may : (bits : ℕ) → s .place ≤ bits → mayStart (S .format) bits (some (plain s)) ≡ true
 
-module _ {A : Type 0} (S : Stream A) (good : Good (S .format)) (l : ℕ) (hl : l < 2 ^ S .format .width) (n : ℕ) (bs : List Bool) (vs : List ℕ) where
-  starts-at : (p : ℕ) → p < n → (o : Opened S l n (readsFrom p) bs vs) → Starts S l n p bs (o .state) (o .rest)
-  starts-at p lt o =
+module _ {A : Type 0} (S : Stream A) (good : Good (S .format)) (l : ℕ) (hl : l < 2 ^ S .format .width) (bs : List Bool) where
+  starts-at : (p : ℕ) (us : List ℕ) (s : State A) (rest : List Bool) → readN S (readsFrom p) (fresh S l) bs ≡ done us s rest → Starts S p bs us s rest
+  starts-at p us s rest h =
       let F : Format = S .format in
       let f : State A = fresh S l in
       let hf : f .last < 2 ^ F .width = fresh-small S (F .width) l hl in
       let k : ℕ = readsFrom p in
-      let s : State A = o .state in
-      let rest : List Bool = o .rest in
-      let W : Whole S k f bs (take k vs) s rest = subst (WholeOf S k f bs) (o .reads) (whole S good k f bs hf) in
-      let R : Ruled F s = subst (RuledIn F) (o .reads) (read-ruled S good k f bs hf (fresh-ruled S l)) in
-      let near : s .place ≤ s .count * longest F = subst (NearIn F) (o .reads) (read-near S good k f bs hf (omega arith)) in
+      let W : Whole S k f bs us s rest = subst (WholeOf S k f bs) h (whole S good k f bs hf) in
+      let R : Ruled F s = subst (RuledIn F) h (read-ruled S good k f bs hf (fresh-ruled S l)) in
+      let near : s .place ≤ s .count * longest F = subst (NearIn F) h (read-near S good k f bs hf (omega arith)) in
       let c : s .count ≡ k = omega (arith, W .counted) in
-      let few : s .count ≤ n = omega arith in
       record {
+        long = W .long;
         counted = c;
-        found = entry-read S l n (entryBefore p) bs (omega arith) (take k vs) s rest (o .reads) ∙ ap some (said-plain S l k bs (take k vs) s rest (o .reads) c);
+        holds = said-plain S l k bs us s rest h c;
         here = sym (ap (drop (s .place)) (W .cut) ∙ drop-at (W .front) rest (s .place) (omega (arith, W .placed)));
         within = omega (arith, W .placed, ap length (W .cut), length-append (W .front) rest);
-        near = omega (arith, near, mul-le-mul-right (longest F) few);
+        near = subst (λ (n : ℕ). s .place ≤ n * longest F) c near;
         may = λ bits le. ruled-starts F bits s (W .small) R le;
       }
 
-  -- read from the state before the entry's value, that is from the start without the values before p
-  opened-range : (p q : ℕ) → p < q → q ≤ n → Opened S l n (readsFrom p) bs vs → Opened S l n q bs vs
-      → readRange S bs (entriesIn S n (fresh S l) bs) p q ≡ answered (take (q - p) (drop p vs))
-  opened-range p q lt le o z =
+  -- with the right entry at or before p, that of the state that a reader has there: a range is that part of reading the first q values, and refused as that
+  -- is, with its value and place
+  pub right-range : (p q : ℕ) → p < q → (table : List Entry) (us : List ℕ) (s : State A) (rest : List Bool)
+      → readN S (readsFrom p) (fresh S l) bs ≡ done us s rest → getElem? table (entryBefore p) ≡ some (entryOf S s)
+      → readRange S bs table p q ≡ without p (readN S q (fresh S l) bs)
+  right-range p q lt table us s rest h at =
       let f : State A = fresh S l in
-      let hf : f .last < 2 ^ S .format .width = fresh-small S (S .format .width) l hl in
       let k : ℕ = readsFrom p in
       let m : ℕ = readsInAll p q in
       let d : ℕ = p - k in
       let to : k + d ≡ p = omega arith in
       let all : k + m ≡ q = omega arith in
-      let s : State A = o .state in
-      let rest : List Bool = o .rest in
-      let W : Whole S k f bs (take k vs) s rest = subst (WholeOf S k f bs) (o .reads) (whole S good k f bs hf) in
-      let Q : Whole S q f bs (take q vs) (z .state) (z .rest) = subst (WholeOf S q f bs) (z .reads) (whole S good q f bs hf) in
-      let B : Starts S l n p bs s rest = starts-at p (omega arith) o in
-      range-reads S bs (entriesIn S n f bs) p q lt (plain s) (B .found) (B .may (length bs) (B .within))
+      let B : Starts S p bs us s rest = starts-at p us s rest h in
+      range-reads S bs table p q lt (plain s) (at ∙ ap some (B .holds)) (B .may (length bs) (B .within))
       ∙ ap₂ (λ (i : ℕ) (u : List Bool). without d (readN S m (stateFrom S i (plain s)) u)) (sym (B .counted)) (sym (B .here))
       ∙ sym (alike-without S d (readN S m s rest) (readN S m (holding S (S .gather) (S .gather .none) s) rest) (read-any S (S .gather) m s (S .gather .none) rest))
-      ∙ sym (without-prepend (take k vs) k d (readN S m s rest) (W .long))
-      ∙ ap₂ (λ (i : ℕ) (x : Reading A). without i x) to (sym (read-then S k m f bs ∙ ap (thenRead S m) (o .reads)))
+      ∙ sym (without-prepend us k d (readN S m s rest) (B .long))
+      ∙ ap₂ (λ (i : ℕ) (x : Reading A). without i x) to (sym (read-then S k m f bs ∙ ap (thenRead S m) h))
       ∙ ap (λ (i : ℕ). without p (readN S i f bs)) all
+
+  -- and may start from it, judged by so many bits as hold each place that is among the stream's bits and near the start
+  pub right-entry-starts : (p : ℕ) (table : List Entry) (us : List ℕ) (s : State A) (rest : List Bool)
+      → readN S (readsFrom p) (fresh S l) bs ≡ done us s rest → getElem? table (entryBefore p) ≡ some (entryOf S s)
+      → (bits : ℕ) → ((place : ℕ) → place ≤ length bs → place ≤ p * longest (S .format) → place ≤ bits)
+      → mayStart (S .format) bits (getElem? table (entryBefore p)) ≡ true
+  right-entry-starts p table us s rest h at bits holds =
+      let B : Starts S p bs us s rest = starts-at p us s rest h in
+      let few : readsFrom p ≤ p = omega arith in
+      ap (mayStart (S .format) bits) (at ∙ ap some (B .holds))
+      ∙ B .may bits (holds (s .place) (B .within) (omega (arith, B .near, mul-le-mul-right (longest (S .format)) few)))
+
+module _ {A : Type 0} (S : Stream A) (good : Good (S .format)) (l : ℕ) (hl : l < 2 ^ S .format .width) (n : ℕ) (bs : List Bool) (vs : List ℕ) where
+  -- of an accepted stream the entry is right
+  own-entry : (p : ℕ) → p < n → (o : Opened S l n (readsFrom p) bs vs) → getElem? (entriesIn S n (fresh S l) bs) (entryBefore p) ≡ some (entryOf S (o .state))
+  own-entry p lt o = entry-read S l n (entryBefore p) bs (omega arith) (take (readsFrom p) vs) (o .state) (o .rest) (o .reads)
+
+  opened-range : (p q : ℕ) → p < q → q ≤ n → Opened S l n (readsFrom p) bs vs → Opened S l n q bs vs
+      → readRange S bs (entriesIn S n (fresh S l) bs) p q ≡ answered (take (q - p) (drop p vs))
+  opened-range p q lt le o z =
+      let f : State A = fresh S l in
+      let hf : f .last < 2 ^ S .format .width = fresh-small S (S .format .width) l hl in
+      let Q : Whole S q f bs (take q vs) (z .state) (z .rest) = subst (WholeOf S q f bs) (z .reads) (whole S good q f bs hf) in
+      right-range S good l hl bs p q lt (entriesIn S n f bs) (take (readsFrom p) vs) (o .state) (o .rest) (o .reads) (own-entry p (omega arith) o)
       ∙ ap (without p) (z .reads)
       ∙ ap answered (drop-take p q vs (omega arith) (omega (arith, Q .long, length-take q vs)))
 
-  -- a range of an accepted stream may start from the stream's own entry at or before p, judged by so many bits as hold each place that is among the
-  -- stream's bits and near the start
   pub own-entry-starts : (t : State A) (r : List Bool) → readAll S n (fresh S l) bs ≡ done vs t r → (p : ℕ) → p < n
-      → (bits : ℕ) → ((place : ℕ) → place ≤ length bs → place ≤ n * longest (S .format) → place ≤ bits)
+      → (bits : ℕ) → ((place : ℕ) → place ≤ length bs → place ≤ p * longest (S .format) → place ≤ bits)
       → mayStart (S .format) bits (getElem? (entriesIn S n (fresh S l) bs) (entryBefore p)) ≡ true
-  own-entry-starts t r h p lt bits holds =
+  own-entry-starts t r h p lt =
       let o = any-opened S good l hl n (readsFrom p) (omega arith) bs vs t r h in
-      let B : Starts S l n p bs (o .state) (o .rest) = starts-at p lt o in
-      ap (mayStart (S .format) bits) (B .found) ∙ B .may bits (holds (o .state .place) (B .within) (B .near))
+      right-entry-starts S good l hl bs p (entriesIn S n (fresh S l) bs) (take (readsFrom p) vs) (o .state) (o .rest) (o .reads) (own-entry p lt o)
 
   -- for a table that the check accepts: the values p to q − 1 of the full reading
   pub checked-range : (t : State A) (r : List Bool) → readAll S n (fresh S l) bs ≡ done vs t r

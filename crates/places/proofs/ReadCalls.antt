@@ -9,33 +9,36 @@ use mathlib.Core.Option as option
 use Prim.Native.Nat.{ℕ, _+_, _-_, _*_, _^_, _≤_, _<_}
 use native.Mathlib.Nat.{eq-or-lt-of-le, min-le-left, mul-le-mul-right}
 use native.Mathlib.Omega.{arith}
-use borrow.Author.Tests.{le-ltb, lt-ltb, le-leb, ne-eqb, ltb-false, leb-true, leb-false, not-false}
+use borrow.Author.Tests.{le-ltb, lt-ltb, le-leb, eq-eqb, ne-eqb, eqb-true, ltb-true, ltb-false, leb-true, leb-false, not-false}
 use lib.Dec.{eqb, leb, ltb}
-use lib.ListN.{length, take, drop, replicate, getElem?}
+use lib.ListN.{length, take, drop, replicate, getElem?, length-append, length-drop}
+use lib.Seq.{drop-at}
 use Rattle.bits.specs.Bits.{Below, bitsOf, wholeBytes, padding}
 use Rattle.bits.proofs.Bytes.{length-bitsOf}
 use Rattle.models.specs.declared.Fault.{Fault}
-use Rattle.models.specs.Answers.{Said, Done, answered, refused, answeredOn, Cause, _when_, judge, judgedMemory, verdict, keeping, NoneHolds}
+use Rattle.models.specs.Answers.{fault, Said, Done, answered, refused, answeredOn, Cause, _when_, judge, judgedMemory, verdict, keeping, NoneHolds}
 use Rattle.models.proofs.Judged.{none, not-refused, same-answer, answered-only, accepted-only}
 use Rattle.models.proofs.Judged as judging
-use Rattle.models.proofs.Tests.{and-parts, and-both, and-past, and-false, neither}
+use Rattle.models.proofs.Tests.{and-parts, and-both, and-past, and-false, or-either, neither}
+use Rattle.stream.proofs.Branches.{or-some}
 use Rattle.stream.specs.Format.{Format, Stream, State, fresh, isOpening, leavesABit, mostValues}
 use Rattle.stream.specs.Write.{kept, wrote, wroteIn}
 use Rattle.stream.specs.Read.{StreamRefusal, Reading, done, stopped, readN, readAll, Reopened, reopened, bufferAfter}
 use Rattle.stream.specs.Calls.{Coder, lentBytes, faultAt, valuesRead, valuesIn, drawn, drawnIn, reopening, resumed, reopenCauses, reopenAnswer, reopenMemory, writeAnswer}
 use Rattle.stream.specs.Made.{stateOver, Resumes, Resumed}
-use Rattle.places.specs.Table.{spacing, Entry, entriesFor, entriesIn, added, tableWrote, tableAfter, MadeBeside, noMatch, Belongs, checkTable, entryBefore, readsFrom, readsInAll, mayStart, stateFrom, without, rangeAt, readRange, RangeSays}
-use Rattle.places.specs.Calls.{entriesLent, entryAt, tableIn, rangeCauses, checkCauses, checkAnswer, rangeRead, rangeAnswer, rangeMemory, Beside, tableWriteAnswer, tableWriteMemory, tableWriteTable, tableReopenAnswer, tableReopenMemory, MadeByBeside, OwnTable, OwnEntry, TableResumes, RangeAnswers}
+use Rattle.places.specs.Table.{spacing, Entry, entryOf, entriesFor, entriesIn, added, tableWrote, tableAfter, MadeBeside, noMatch, Belongs, checkTable, entryBefore, readsFrom, readsInAll, mayStart, stateFrom, without, rangeAt, readRange, RangeSays}
+use Rattle.places.specs.Calls.{entriesLent, entryAt, tableIn, MayStart, rangeCauses, checkCauses, checkAnswer, rangeRead, rangeAnswer, rangeMemory, Beside, tableWriteAnswer, tableWriteMemory, tableWriteTable, tableReopenAnswer, tableReopenMemory, MadeByBeside, OwnTable, OwnEntry, TableResumes, RangeAnswers}
 use Rattle.stream.specs.Needs.{Good, longest, GoodCoder}
 use Rattle.stream.proofs.Reopen.{ended-inv, any-opened}
 use Rattle.stream.proofs.Made.{made-read}
 use Rattle.stream.proofs.AnyStream.{any-resumed}
+use Rattle.stream.proofs.Calls.{alike-after, as-long}
 use Rattle.stream.proofs.Calls as calls
 use Rattle.places.proofs.Entries.{asked-for, own-number, entry-read}
 use Rattle.places.proofs.Words.{table-length, take-table, entry-in-use, no-entry-in-use, laid-table}
 use Rattle.places.proofs.Check.{check-says, check-own, check-other, check-refused, made-own}
 use Rattle.places.proofs.Any.{ReadsIn, reads-in, range-empty, range-reads, range-says}
-use Rattle.places.proofs.Range.{own-entry-starts, checked-range}
+use Rattle.places.proofs.Range.{right-range, right-entry-starts, own-entry-starts, checked-range}
 use Rattle.places.proofs.Steps.{added-count}
 use Rattle.places.proofs.Resume.{any-table-resumed}
 use Rattle.places.proofs.Calls.{number-allowed, number-says}
@@ -143,6 +146,62 @@ module _ (F : Format) (bytes count : ℕ) (words : List ℕ) (in-use p q room : 
   range-started free =
       (ltb-false q p (neither (ltb q p) _ (free .1 .0) .0), λ lt. not-false starts (and-past (ltb p q) (not starts) (lt-ltb p q lt) (free .1 .1 .0)))
 
+-- the bits of lent bytes hold each place that is among them and near the start
+lent-holds : {A : Type 0} (S : Stream A) → mostValues * longest (S .format) ≤ 8 * 2 ^ 60 → (bytes : List ℕ) (p : ℕ) → p ≤ mostValues
+    → (place : ℕ) → place ≤ length (bitsOf bytes) → place ≤ p * longest (S .format) → place ≤ 8 * lentBytes (length bytes)
+lent-holds S near bytes p few place within close = omega (arith, length-bitsOf bytes, mul-le-mul-right (longest (S .format)) few, near)
+
+-- an entry that a range may start from, in its words
+module _ (F : Format) (bits : ℕ) (words : List ℕ) (in-use p : ℕ) where
+  abbrev at-p : Entry
+  at-p = entryAt words (entryBefore p)
+
+  abbrev no-window : Type 0
+  no-window = (at-p .win .lead ≡ 255) × (at-p .win .trail ≡ 0)
+
+  abbrev a-window : Type 0
+  a-window = (at-p .win .lead ≤ 2 ^ F .leadBits - 1) × (at-p .win .lead + at-p .win .trail ≤ F .width - 1)
+
+  window-says : (isOpening (at-p .win) ≡ true) ⊎ (leavesABit F (at-p .win) ≡ true) → no-window ⊎ a-window
+  window-says (inl o) =
+      let q = and-parts (eqb (at-p .win .lead) 255) (eqb (at-p .win .trail) 0) o in
+      inl (eqb-true (at-p .win .lead) 255 (q .0), eqb-true (at-p .win .trail) 0 (q .1))
+  window-says (inr b) =
+      let q = and-parts (leb (at-p .win .lead) (2 ^ F .leadBits - 1)) _ b in
+      inr (leb-true (at-p .win .lead) (2 ^ F .leadBits - 1) (q .0), leb-true (at-p .win .lead + at-p .win .trail) (F .width - 1) (q .1))
+
+  window-may : no-window ⊎ a-window → (isOpening (at-p .win) ≡ true) ⊎ (leavesABit F (at-p .win) ≡ true)
+  window-may (inl o) = inl (and-both (eqb (at-p .win .lead) 255) _ (eq-eqb (at-p .win .lead) 255 (o .0)) (eq-eqb (at-p .win .trail) 0 (o .1)))
+  window-may (inr b) =
+      inr (and-both (leb (at-p .win .lead) (2 ^ F .leadBits - 1)) _ (le-leb (at-p .win .lead) (2 ^ F .leadBits - 1) (b .0)) (le-leb (at-p .win .lead + at-p .win .trail) (F .width - 1) (b .1)))
+
+  start-says : entryBefore p < in-use → mayStart F bits (option.some at-p) ≡ true → MayStart F bits words in-use p
+  start-says there h =
+      let x = and-parts (ltb (at-p .last) (2 ^ F .width)) _ h in
+      let y = and-parts (leb (at-p .place) bits) (isOpening (at-p .win) || leavesABit F (at-p .win)) (x .1) in
+      record {
+        there = there;
+        small = ltb-true (at-p .last) (2 ^ F .width) (x .0);
+        within = leb-true (at-p .place) bits (y .0);
+        window = window-says (or-either (isOpening (at-p .win)) (leavesABit F (at-p .win)) (y .1));
+      }
+
+  pub a-range-starts-exactly-if : (mayStart F bits (getElem? (tableIn words in-use) (entryBefore p)) ≡ true → MayStart F bits words in-use p)
+      × (MayStart F bits words in-use p → mayStart F bits (getElem? (tableIn words in-use) (entryBefore p)) ≡ true)
+  a-range-starts-exactly-if = (
+    go (leb in-use (entryBefore p)) refl,
+    λ M.
+        ap (mayStart F bits) (entry-in-use words in-use (entryBefore p) (M .there))
+        ∙ and-both (ltb (at-p .last) (2 ^ F .width)) _ (lt-ltb (at-p .last) (2 ^ F .width) (M .small))
+        (and-both (leb (at-p .place) bits) _ (le-leb (at-p .place) bits (M .within)) (or-some (isOpening (at-p .win)) (leavesABit F (at-p .win)) (window-may (M .window)))),
+  )
+    where
+      go : (b : Bool) → leb in-use (entryBefore p) ≡ b → mayStart F bits (getElem? (tableIn words in-use) (entryBefore p)) ≡ true → MayStart F bits words in-use p
+      go true far h = absurd (false≢true (ap (mayStart F bits) (sym (no-entry-in-use words in-use (entryBefore p) (leb-true in-use (entryBefore p) far))) ∙ h))
+      go false near h =
+          let there : entryBefore p < in-use = leb-false in-use (entryBefore p) near in
+          start-says there (ap (mayStart F bits) (sym (entry-in-use words in-use (entryBefore p) there)) ∙ h)
+
 -- a further bit at the end takes no entry away
 starts-wider : (F : Format) (a b : ℕ) (e : Entry) → a ≤ b → mayStart F a (option.some e) ≡ true → mayStart F b (option.some e) ≡ true
 starts-wider F a b e le h =
@@ -174,6 +233,28 @@ module _ {A : Type 0} (S : Stream A) where
       → rangeAnswer S bytes count words in-use p q (length out) ≡ refused f → rangeMemory S bytes count words in-use p q out ≡ out
   a-refused-range-changes-nothing bytes count words in-use p q out f h =
       refused-range out (rangeCauses (S .format) (length bytes) count words in-use p q (length out)) (rangeRead S bytes words in-use p q) f h
+
+  -- "an output's places past the answer keep what they held" (01), with any table
+  pub a-range-changes-only-its-places : (bytes : List ℕ) (count : ℕ) (words : List ℕ) (in-use p q : ℕ) (out : List ℕ)
+      → (drop (q - p) (rangeMemory S bytes count words in-use p q out) ≡ drop (q - p) out) × (length (rangeMemory S bytes count words in-use p q out) ≡ length out)
+  a-range-changes-only-its-places bytes count words in-use p q out = (
+    alike-after (drop (q - p)) out _ causes (λ free. drawn-behind (rangeRead S bytes words in-use p q) (says free)),
+    as-long out _ causes (λ free. drawn-length (rangeRead S bytes words in-use p q) (says free) (ltb-false (length out) (q - p) (free .1 .1 .1 .0))),
+  )
+    where
+      causes : List Cause
+      causes = rangeCauses (S .format) (length bytes) count words in-use p q (length out)
+
+      says : NoneHolds (rangeCauses (S .format) (length bytes) count words in-use p q (length out)) → RangeSays p q (rangeRead S bytes words in-use p q)
+      says free = range-says S (bitsOf bytes) (tableIn words in-use) p q (range-started (S .format) (length bytes) count words in-use p q (length out) free .0)
+
+      drawn-behind : (x : Said (List ℕ)) → RangeSays p q x → drop (q - p) (drawnIn out x) ≡ drop (q - p) out
+      drawn-behind (answered vs) e = drop-at vs (drop (length vs) out) (q - p) e ∙ ap (λ (n : ℕ). drop n out) e
+      drawn-behind (refused f) e = refl
+
+      drawn-length : (x : Said (List ℕ)) → RangeSays p q x → q - p ≤ length out → length (drawnIn out x) ≡ length out
+      drawn-length (answered vs) e room = omega (arith, length-append vs (drop (length vs) out), length-drop (length vs) out)
+      drawn-length (refused f) e room = refl
 
   -- a range looks at no entry but that at or before p: two tables that agree in whether it is in use and in what it holds give the same
   module _ (bytes : List ℕ) (count p q : ℕ) (ws us : List ℕ) (n m : ℕ) (lent : n ≤ entriesLent (length ws)) (also : m ≤ entriesLent (length us))
@@ -257,6 +338,79 @@ module _ {A : Type 0} (S : Stream A) where
     pub a-range-with-any-table : RangeAnswers causes p q (rangeAnswer S bytes count words in-use p q room)
     a-range-with-any-table = by-verdict (verdict causes) refl
 
+    -- its causes, one by one, where the count is no cause
+    module _ (few : count ≤ mostValues) where
+      abbrev by-causes : Bool → Bool → Bool → Bool → Said Done
+      by-causes a b c d = judge refused (3 when a ∷ 12 when b ∷ 13 when c ∷ 4 when d ∷ []) (drawn (rangeRead S bytes words in-use p q))
+
+      abbrev asked : Bool
+      asked = ltb q p || (ltb count q || (ltb p q && ltb (entriesLent (length words)) in-use))
+
+      abbrev far : Bool
+      far = ltb p q && not (mayStart (S .format) (8 * lentBytes (length bytes)) (getElem? table (entryBefore p)))
+
+      no-3 : rangeAnswer S bytes count words in-use p q room ≡ by-causes false asked far (ltb room (q - p))
+      no-3 = ap (λ (a : Bool). by-causes a asked far (ltb room (q - p))) (le-ltb mostValues count few)
+
+      -- "p above q, or q above the count, is 12"
+      pub a-range-is-12 : (q < p) ⊎ (count < q) → rangeAnswer S bytes count words in-use p q room ≡ refused (fault 12)
+      unfolding judge
+      a-range-is-12 h = no-3 ∙ ap (λ (b : Bool). by-causes false b far (ltb room (q - p))) (go h)
+        where
+          go : (q < p) ⊎ (count < q) → asked ≡ true
+          go (inl lt) = or-some (ltb q p) _ (inl (lt-ltb q p lt))
+          go (inr lt) = or-some (ltb q p) _ (inr (or-some (ltb count q) _ (inl (lt-ltb count q lt))))
+
+      module _ (lt : p < q) (most : q ≤ count) where
+        asked-by : (b : Bool) → ltb (entriesLent (length words)) in-use ≡ b → asked ≡ b
+        asked-by b e =
+            let order : p ≤ q = omega arith in
+            ap₂ (λ (x y : Bool). x || y) (le-ltb q p order) (ap₂ (λ (x y : Bool). x || y) (le-ltb count q most) (ap₂ (λ (x y : Bool). x && y) (lt-ltb p q lt) e))
+
+        -- entries in use above what is lent is 12
+        pub a-range-of-more-than-is-lent-is-12 : entriesLent (length words) < in-use → rangeAnswer S bytes count words in-use p q room ≡ refused (fault 12)
+        unfolding judge
+        a-range-of-more-than-is-lent-is-12 more =
+            no-3 ∙ ap (λ (b : Bool). by-causes false b far (ltb room (q - p))) (asked-by true (lt-ltb (entriesLent (length words)) in-use more))
+
+        module _ (lent : in-use ≤ entriesLent (length words)) where
+          no-12 : rangeAnswer S bytes count words in-use p q room ≡ by-causes false false far (ltb room (q - p))
+          no-12 = no-3 ∙ ap (λ (b : Bool). by-causes false b far (ltb room (q - p))) (asked-by false (le-ltb (entriesLent (length words)) in-use lent))
+
+          -- "refuses with 13 one that is missing, has its place beyond the stream's bits, or has a window neither .."
+          pub a-range-is-13 : (MayStart (S .format) (8 * lentBytes (length bytes)) words in-use p → ⊥) → rangeAnswer S bytes count words in-use p q room ≡ noMatch
+          unfolding judge
+          a-range-is-13 other = no-12 ∙ ap (λ (c : Bool). by-causes false false c (ltb room (q - p))) (go (mayStart (S .format) (8 * lentBytes (length bytes)) (getElem? table (entryBefore p))) refl)
+            where
+              go : (b : Bool) → mayStart (S .format) (8 * lentBytes (length bytes)) (getElem? table (entryBefore p)) ≡ b → far ≡ true
+              go true e = absurd (other (a-range-starts-exactly-if (S .format) (8 * lentBytes (length bytes)) words in-use p .0 e))
+              go false e = and-both (ltb p q) _ (lt-ltb p q lt) (ap not e)
+
+          -- and then with 4 an output that is too short
+          pub a-range-is-4 : MayStart (S .format) (8 * lentBytes (length bytes)) words in-use p → room < q - p → rangeAnswer S bytes count words in-use p q room ≡ refused (fault 4)
+          unfolding judge
+          a-range-is-4 may short =
+              no-12
+              ∙ ap₂ (by-causes false false)
+              (and-false (ltb p q) _ (ap not (a-range-starts-exactly-if (S .format) (8 * lentBytes (length bytes)) words in-use p .1 may)))
+              (lt-ltb room (q - p) short)
+
+  -- with the right entry at or before p a range is that part of reading the first q values, though the stream breaks behind them or in them: it is then
+  -- refused as reading is, with the value and the place counted from the start
+  pub a-range-of-a-right-entry : Good (S .format) → mostValues * longest (S .format) ≤ 8 * 2 ^ 60 → (l : ℕ) → l < 2 ^ S .format .width → (bytes : List ℕ) (count : ℕ)
+      (words : List ℕ) (in-use : ℕ) → count ≤ mostValues → in-use ≤ entriesLent (length words) → (p q : ℕ) → p < q → q ≤ count
+      → (us : List ℕ) (s : State A) (rest : List Bool) → readN S (readsFrom p) (fresh S l) (bitsOf bytes) ≡ done us s rest → entryBefore p < in-use
+      → entryAt words (entryBefore p) ≡ entryOf S s → (out : List ℕ) → q - p ≤ length out
+      → (rangeAnswer S bytes count words in-use p q (length out) ≡ drawn (without p (readN S q (fresh S l) (bitsOf bytes))))
+      × (rangeMemory S bytes count words in-use p q out ≡ drawnIn out (without p (readN S q (fresh S l) (bitsOf bytes))))
+  a-range-of-a-right-entry good near l hl bytes count words in-use few lent p q lt most us s rest h there is out fits =
+      let at = entry-in-use words in-use (entryBefore p) there ∙ ap option.some is in
+      let may =
+      right-entry-starts S good l hl (bitsOf bytes) p (tableIn words in-use) us s rest h at (8 * lentBytes (length bytes)) (lent-holds S near bytes p (omega arith)) in
+      let free = range-allowed (S .format) (length bytes) count words in-use p q (length out) few (omega arith) most fits (λ lt. (lent, may)) in
+      let read = right-range S good l hl (bitsOf bytes) p q lt (tableIn words in-use) us s rest h at in
+      (sym (judging.accepted refused _ _ free) ∙ ap drawn read, sym (judging.accepted (keeping out) _ _ free) ∙ ap (drawnIn out) read)
+
   -- "For each table that the check accepts, this must be shown equal to that part of the full reading."
   module _ (good : Good (S .format)) (near : mostValues * longest (S .format) ≤ 8 * 2 ^ 60) (l : ℕ) (hl : l < 2 ^ S .format .width) (bytes : List ℕ) (count : ℕ)
       (words : List ℕ) (in-use : ℕ) (ok : checkAnswer S l bytes count words in-use ≡ answered tt) where
@@ -309,8 +463,7 @@ module _ {A : Type 0} (S : Stream A) where
         range-allowed (S .format) (length bytes) count words in-use p q (length out) few le most fits (λ lt. (
           own .lent,
           ap (λ (d : List Entry). mayStart (S .format) (8 * lentBytes (length bytes)) (getElem? d (entryBefore p))) (own .belongs .own)
-              ∙ own-entry-starts S good l hl count bits vs (w .0) (w .1) (w .2) p (omega arith) (8 * lentBytes (length bytes)) (λ place within close.
-              omega (arith, length-bitsOf bytes, mul-le-mul-right (longest (S .format)) few, near)),
+              ∙ own-entry-starts S good l hl count bits vs (w .0) (w .1) (w .2) p (omega arith) (8 * lentBytes (length bytes)) (lent-holds S near bytes p (omega arith)),
         )) in (
           sym (judging.accepted refused _ _ free) ∙ ap drawn read,
           sym (judging.accepted (keeping out) _ _ free) ∙ ap (drawnIn out) read ∙ ap (λ (n : ℕ). part ++ drop n out) long,

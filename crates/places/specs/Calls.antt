@@ -4,7 +4,7 @@ use mathlib.Core.Path.{_≡_}
 use mathlib.Core.Bool.{Bool, not, _&&_, _||_}
 use mathlib.Core.Logic.{_⊎_}
 use mathlib.Core.List.{List, [], _∷_, _++_}
-use Prim.Native.Nat.{ℕ, zero, suc, _+_, _-_, _*_, _/_, _≤_}
+use Prim.Native.Nat.{ℕ, zero, suc, _+_, _-_, _*_, _/_, _^_, _≤_, _<_}
 use lib.Dec.{eqb, leb, ltb}
 use lib.ListN.{length, take, drop, getD, getElem?}
 use Rattle.bits.specs.Bits.{Below, bitsOf, wholeBytes}
@@ -108,6 +108,15 @@ rangeCauses F bytes count words entries p q room =
     ∷ 13 when (ltb p q && not (mayStart F (8 * lentBytes bytes) (getElem? (tableIn words entries) (entryBefore p))))
     ∷ 4 when ltb room (q - p)
     ∷ []
+
+-- the entry at or before p, in its words: it is in use, its last value is one of the width, its place is not "beyond the stream's bits (equal is not
+-- beyond)", and its window is "the opening one" or can be said and leaves a bit, of 32 bits "leading + trailing at most 31"
+pub record MayStart (F : Format) (bits : ℕ) (words : List ℕ) (in-use p : ℕ) : Type 0 where
+  pub there : p / 64 < in-use
+  pub small : getD words (4 * (p / 64) + 1) 0 < 2 ^ F .width
+  pub within : getD words (4 * (p / 64)) 0 ≤ bits
+  pub window : ((getD words (4 * (p / 64) + 2) 0 ≡ 255) × (getD words (4 * (p / 64) + 3) 0 ≡ 0))
+      ⊎ ((getD words (4 * (p / 64) + 2) 0 ≤ 2 ^ F .leadBits - 1) × (getD words (4 * (p / 64) + 2) 0 + getD words (4 * (p / 64) + 3) 0 ≤ F .width - 1))
 
 -- ---- the check: 3, 12, 13 by the number of entries; 5 to 8; 13 by what they hold
 
