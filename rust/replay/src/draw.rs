@@ -568,7 +568,7 @@ mod tests {
     use super::{Record, answered, within_limits};
     use crate::Told;
 
-    /// At its limit a call is accepted, but for the write that lacks a byte.
+    /// At its limit a call is accepted, but for the write that lacks a byte or a word.
     #[test]
     fn limits_are_accepted() {
         let answers = |call: usize| -> Vec<Told> {
@@ -582,7 +582,7 @@ mod tests {
         for call in [7, 8, 13, 14, 19, 30, 37, 40] {
             assert_eq!(answers(call), [accepted], "call {call}");
         }
-        assert_eq!(answers(38), [accepted, [4, 0, 0], [4, 0, 0]]);
+        assert_eq!(answers(38), [accepted, [4, 0, 0], [4, 0, 0], accepted]);
         assert_eq!(answers(39), [accepted; 3]);
         assert_eq!(answers(41), [accepted; 2]);
     }

@@ -33,7 +33,7 @@ fn stale(entries: usize, words: usize) -> Vec<u64> {
     in_use(entries, &vec![STALE.into(); words])
 }
 
-/// As many values as a call takes, all the same.
+/// As many values as a call takes, all the same; and a write from a state of length 0 that holds a last value.
 pub fn within_limits(call: usize) -> Vec<Record> {
     let all = entries_for(MOST_VALUES);
     match call {
