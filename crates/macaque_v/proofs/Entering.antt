@@ -2,7 +2,7 @@
 use mathlib.Core.Path.{_≡_, refl, sym, ap, ap₂, _∙_, subst}
 use mathlib.Core.Bool.{Bool, true, false, cond, true≢false}
 use mathlib.Core.List.{List, [], _∷_, _++_, append-nil}
-use Prim.Native.Nat.{ℕ, suc, _+_, _*_, _/_, _%_, _≤_, _<_}
+use Prim.Native.Nat.{ℕ, zero, suc, _+_, _*_, _/_, _%_, _≤_, _<_}
 use native.Mathlib.Numerals.{add-one}
 use native.Mathlib.Omega.{arith}
 use borrow.Author.Tests.{eqb-true, eqb-false}
@@ -72,6 +72,19 @@ module _ (m : MacaqueV) (xs : List ℕ) (i : ℕ) (h : i < length xs) where
   counted : s .count ≡ m .length + i
   counted = after-count m xs i (omega arith)
 
+  -- before which none is due
+  note-pass : (note : Bool) (old words : List ℕ) (due : ℕ) → Noting note m xs old i words due → i < due → Noting note m xs old (i + 1) words due
+  note-pass false old words due N lt = record { table = N .table; next = N .next; long = N .long }
+  note-pass true old words due N lt =
+      let no : s .count % spacing ≡ 0 → ⊥ = λ z. omega (arith, z, counted, lt, N .next .1, N .next .2) in
+      let none : entriesBy m (take (i + 1) xs) ≡ entriesBy m (take i xs) =
+      more ∙ ap (λ (z : List Entry). entriesBy m (take i xs) ++ z) (noted-none (streamBy m) s no) ∙ append-nil (entriesBy m (take i xs)) in
+      record {
+        table = N .table ∙ ap (laidEntries old (entriesFor (m .length))) (sym none);
+        next = (omega arith, omega (arith, N .next .1), N .next .2);
+        long = N .long;
+      }
+
   note-more-by : (note t : Bool) (old words words′ : List ℕ) (due due′ : ℕ) (p : Pen) (raw : Bool) → raw ≡ rawNext (modeOf (m .«with_first»)) (m .length + i) → PenAt m s i p → eqb i due ≡ t → Noting note m xs old i words due → Room note m xs old
       → due′ ≡ cond t (i + spacing) due → words′ ≡ cond t (notedBy raw p ((m .length + i) / spacing) words) words
       → Noting note m xs old (i + 1) words′ due′
@@ -97,19 +110,31 @@ module _ (m : MacaqueV) (xs : List ℕ) (i : ℕ) (h : i < length xs) where
       }
   note-more-by true false old words words′ due due′ p raw same P e N room d w =
       let apart : ¬ (i ≡ due) = eqb-false i due e in
-      let no : s .count % spacing ≡ 0 → ⊥ = λ z. omega (arith, z, counted, N .next .0, N .next .1, N .next .2, apart) in
-      let none : entriesBy m (take (i + 1) xs) ≡ entriesBy m (take i xs) =
-      more ∙ ap (λ (z : List Entry). entriesBy m (take i xs) ++ z) (noted-none (streamBy m) s no) ∙ append-nil (entriesBy m (take i xs)) in
-      record {
-        table = w ∙ N .table ∙ ap (laidEntries old (entriesFor (m .length))) (sym none);
-        next = (omega (arith, N .next .0, apart, d), omega (arith, N .next .1, d), ap (λ (n : ℕ). (m .length + n) % spacing) d ∙ N .next .2);
-        long = ap length w ∙ N .long;
-      }
+      subst (λ (z : List ℕ). Noting true m xs old (i + 1) z due′) (sym w)
+      (subst (λ (n : ℕ). Noting true m xs old (i + 1) words n) (sym d) (note-pass true old words due N (omega (arith, N .next .0, apart))))
 
   pub note-more : (note : Bool) (old words words′ : List ℕ) (due due′ : ℕ) (p : Pen) (raw : Bool) → raw ≡ rawNext (modeOf (m .«with_first»)) (m .length + i) → PenAt m s i p → Noting note m xs old i words due → Room note m xs old
       → due′ ≡ cond (eqb i due) (i + spacing) due → words′ ≡ cond (eqb i due) (notedBy raw p ((m .length + i) / spacing) words) words
       → Noting note m xs old (i + 1) words′ due′
   note-more note old words words′ due due′ p raw same P N room d w = note-more-by note (eqb i due) old words words′ due due′ p raw same P refl N room d w
+
+-- behind a value the next entry is due later
+pub note-ahead : (note : Bool) (m : MacaqueV) (xs old : List ℕ) (i : ℕ) (words : List ℕ) (due : ℕ) → i < length xs → Noting note m xs old (i + 1) words due → i < due
+note-ahead true m xs old i words due h N = omega (arith, N .next .0)
+note-ahead false m xs old i words due h N = omega (arith, N .next)
+
+-- values more, up to the one before which it is due
+pub note-skip : (note : Bool) (m : MacaqueV) (xs old words : List ℕ) (due i k : ℕ) → Noting note m xs old i words due → i + k ≤ due → i + k ≤ length xs → Noting note m xs old (i + k) words due
+note-skip note m xs old words due i zero N far few = subst (λ (j : ℕ). Noting note m xs old j words due) (add-none i) N
+  where
+    add-none : (i : ℕ) → i ≡ i + 0
+    add-none i = omega arith
+note-skip note m xs old words due i (suc k) N far few =
+    subst (λ (j : ℕ). Noting note m xs old j words due) (further i k)
+    (note-pass m xs (i + k) (omega arith) note old words due (note-skip note m xs old words due i k N (omega arith) (omega arith)) (omega arith))
+  where
+    further : (i k : ℕ) → i + k + 1 ≡ i + suc k
+    further i k = omega arith
 
 -- ---- an entry's four words, one after another
 

@@ -1,7 +1,7 @@
 // The entries of a place table, as the writer notes them: where the next one is due, and its words.
 ghost use mathlib.Core.Path.{_≡_};
 ghost use mathlib.Core.Bool.{cond, false};
-ghost use Prim.Native.Nat.{_+_, _/_, _≤_, _<_};
+ghost use Prim.Native.Nat.{ℕ, _+_, _/_, _≤_, _<_};
 ghost use lib.Dec.{eqb};
 ghost use lib.ListN.{length};
 ghost use Rattle.models.specs.Limits.{mostValues};
@@ -54,6 +54,16 @@ pub fn noted(
     table[at + 2] = pen.lead as u64;
     table[at + 3] = pen.trail as u64;
     i + SPACING
+}
+
+// The end of the values that are written before an entry is due, among n.
+pub fn until(due: usize, n: usize) -> usize
+    ensures { λ r. ⌜ (r ≤ due) × (r ≤ n) × ((i : ℕ) → i < due → i < n → i < r) ⌝ }
+{
+    if due < n {
+        return due;
+    }
+    n
 }
 
 // The last value kept before the next one; before a raw one there is none, and 0 stands for it.

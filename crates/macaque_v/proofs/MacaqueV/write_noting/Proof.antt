@@ -22,10 +22,19 @@ use Rattle.macaque_v.specs.declared.MacaqueV.{MacaqueV}
 use borrow.Author.Tests.{ltb-true}
 use Rattle.models.proofs.Tests.{and-left, and-right}
 use Rattle.macaque_v.proofs.Stepping.{PenAt}
-use Rattle.macaque_v.proofs.Entering.{Noting, Room, note-start, note-more, note-fits, note-idle, note-end}
+use Rattle.macaque_v.proofs.Entering.{Noting, Room, note-start, note-more, note-fits, note-idle, note-ahead, note-skip, note-end}
 use Rattle.macaque_v.proofs.Writing.{Laying, lay-start, lay-next, lay-long, lay-end, lay-none, place-grows, afterFirst, keptAt, after-most, pen-start, pen-more, left-is, next-place, step-digits}
 use Rattle.macaque_v.proofs.MacaqueV.write_noting.Statement.{statement}
 use Rattle.macaque_v.proofs.MacaqueV.write_noting.Tie as tie
+
+-- the inner loop goes on with the pen and the buffer, up to the value before which the next entry is due
+abbrev Inv-loop2 : tie.InvT-loop2
+Inv-loop2 self values buffer₀ lay table note error-bound count raw due pen₀ waiting₀ i₀ to buffer pen waiting i =
+    (i ≤ to) × PenAt self (afterFirst self values i) i pen
+    × ((old : List ℕ) → (lay ≡ true → wroteBy self values .place ≤ 8 * length old) → Laying lay self values old i₀ buffer₀ waiting₀ → Laying lay self values old i buffer waiting)
+
+abbrev μ-loop2 : tie.MeasureT-loop2
+μ-loop2 self values buffer₀ lay table note error-bound count raw due pen₀ waiting₀ i₀ to buffer pen waiting i = to - i
 
 abbrev Inv-loop : tie.InvT-loop
 Inv-loop self values buffer₀ lay table₀ note error-bound count raw due₀ pen₀ waiting₀ i₀ buffer table due pen waiting i =
@@ -35,86 +44,120 @@ abbrev μ-loop : tie.MeasureT-loop
 μ-loop self values buffer₀ lay table₀ note error-bound count raw due₀ pen₀ waiting₀ i₀ buffer table due pen waiting i = length values - i
 
 -- the least and the greatest value are words of 32 bits
-small : (c : tie.Start Inv-loop μ-loop) → (c .args .self .«min_value» < 2 ^ 32) × (c .args .self .«max_value» < 2 ^ 32)
+small : (c : tie.Start Inv-loop2 μ-loop2 Inv-loop μ-loop) → (c .args .self .«min_value» < 2 ^ 32) × (c .args .self .«max_value» < 2 ^ 32)
 small c = (omega arith, omega arith)
 
 -- ---- in the loop: the arguments, and the buffer that it begins with, which is as it was
-abbrev self : tie.At-loop Inv-loop μ-loop → MacaqueV
+abbrev self : tie.At-loop Inv-loop2 μ-loop2 Inv-loop μ-loop → MacaqueV
 self c = c .before .before .before .before .before .before .before .before .before .before .before .args .self
 
-abbrev values : tie.At-loop Inv-loop μ-loop → List ℕ
+abbrev values : tie.At-loop Inv-loop2 μ-loop2 Inv-loop μ-loop → List ℕ
 values c = c .before .before .before .before .before .before .before .before .before .before .before .args .values .now
 
-abbrev lay : tie.At-loop Inv-loop μ-loop → Bool
+abbrev lay : tie.At-loop Inv-loop2 μ-loop2 Inv-loop μ-loop → Bool
 lay c = c .before .before .before .before .before .before .before .before .before .before .before .args .lay
 
-abbrev buffer₀ : tie.At-loop Inv-loop μ-loop → List ℕ
+abbrev buffer₀ : tie.At-loop Inv-loop2 μ-loop2 Inv-loop μ-loop → List ℕ
 buffer₀ c = c .before .before .before .opened .last .0
 
-begun : (c : tie.At-loop Inv-loop μ-loop) → buffer₀ c ≡ c .before .before .before .before .before .before .before .before .before .before .before .args .buffer .now
+begun : (c : tie.At-loop Inv-loop2 μ-loop2 Inv-loop μ-loop) → buffer₀ c ≡ c .before .before .before .before .before .before .before .before .before .before .before .args .buffer .now
 begun c = c .before .before .before .opened .ensures .1
 
 -- the table that it begins with, and what is noted in it
-abbrev note : tie.At-loop Inv-loop μ-loop → Bool
+abbrev note : tie.At-loop Inv-loop2 μ-loop2 Inv-loop μ-loop → Bool
 note c = c .before .before .before .before .before .before .before .before .before .before .before .args .note
 
-abbrev table₀ : tie.At-loop Inv-loop μ-loop → List ℕ
+abbrev table₀ : tie.At-loop Inv-loop2 μ-loop2 Inv-loop μ-loop → List ℕ
 table₀ c = c .before .before .before .before .before .before .before .before .before .before .before .args .table .now
 
-entered : (c : tie.At-loop Inv-loop μ-loop) → Room (note c) (self c) (values c) (table₀ c)
+entered : (c : tie.At-loop Inv-loop2 μ-loop2 Inv-loop μ-loop) → Room (note c) (self c) (values c) (table₀ c)
 entered c = c .before .before .before .before .before .before .before .before .before .before .before .pre .3
 
 -- which value is raw
-abbrev raw : tie.At-loop Inv-loop μ-loop → ℕ
+abbrev raw : tie.At-loop Inv-loop2 μ-loop2 Inv-loop μ-loop → ℕ
 raw c = c .before .before .before .before .before .before .before .raw-at .result
 
-rawAt : (c : tie.At-loop Inv-loop μ-loop) → RawAt (self c) (length (values c)) (raw c)
+rawAt : (c : tie.At-loop Inv-loop2 μ-loop2 Inv-loop μ-loop) → RawAt (self c) (length (values c)) (raw c)
 rawAt c = c .before .before .before .before .before .before .before .raw-at .ensures
 
--- where the pen stands
-here : (c : tie.At-loop Inv-loop μ-loop) → c .loop .pen .place ≡ (afterFirst (self c) (values c) (c .loop .i)) .place
-here c = ap (λ (s : State Known). s .place) (sym (c .loop .inv .1 .state))
-
-most : (c : tie.At-loop Inv-loop μ-loop) → (afterFirst (self c) (values c) (c .loop .i)) .place ≤ self c .place + 45 * c .loop .i
-most c = after-most (self c) (values c) (c .loop .i) (c .loop .inv .0)
-
--- the buffer where values are laid: as long as it was, and the bits that wait
-laying : (c : tie.At-loop Inv-loop μ-loop) → lay c ≡ true → Laying true (self c) (values c) (buffer₀ c) (c .loop .i) (c .loop .buffer) (c .loop .waiting)
-laying c e = subst (λ (b : Bool). Laying b (self c) (values c) (buffer₀ c) (c .loop .i) (c .loop .buffer) (c .loop .waiting)) e (c .loop .inv .2)
-
-room : (c : tie.At-loop Inv-loop μ-loop) → lay c ≡ true → wroteBy (self c) (values c) .place ≤ 8 * length (buffer₀ c)
+-- there is room in the buffer that it begins with
+room : (c : tie.At-loop Inv-loop2 μ-loop2 Inv-loop μ-loop) → lay c ≡ true → wroteBy (self c) (values c) .place ≤ 8 * length (buffer₀ c)
 room c e = omega (arith, ap length (begun c), c .before .before .before .before .before .before .before .before .before .before .before .pre .1 e)
 
--- ---- one value more
-abbrev atLoop : tie.After-step Inv-loop μ-loop → tie.At-loop Inv-loop μ-loop
-atLoop c = c .before .before .before .before .before .before .before
+laying-from : (c : tie.At-loop Inv-loop2 μ-loop2 Inv-loop μ-loop) → lay c ≡ true → Laying true (self c) (values c) (buffer₀ c) (c .loop .i) (c .loop .buffer) (c .loop .waiting)
+laying-from c e = subst (λ (b : Bool). Laying b (self c) (values c) (buffer₀ c) (c .loop .i) (c .loop .buffer) (c .loop .waiting)) e (c .loop .inv .2)
 
-digits : (c : tie.After-step Inv-loop μ-loop)
-    → field (c .step .result .width) (c .step .result .bits) ≡ bitsOne (streamBy (self (atLoop c))) (afterFirst (self (atLoop c)) (values (atLoop c)) (atLoop c .loop .i)) (keptAt (self (atLoop c)) (values (atLoop c)) (atLoop c .loop .i))
+most-of : (c : tie.At-loop Inv-loop2 μ-loop2 Inv-loop μ-loop) → (afterFirst (self c) (values c) (c .loop .i)) .place ≤ self c .place + 45 * c .loop .i
+most-of c = after-most (self c) (values c) (c .loop .i) (c .loop .inv .0)
+
+-- ---- where an entry was noted, if it was due: the table after it, and how far the values go till the next
+abbrev from : tie.After-until Inv-loop2 μ-loop2 Inv-loop μ-loop → tie.At-loop Inv-loop2 μ-loop2 Inv-loop μ-loop
+from c = c .before .before .before .before .before .before
+
+some-value : (c : tie.After-until Inv-loop2 μ-loop2 Inv-loop μ-loop) → from c .loop .i < length (values (from c))
+some-value c = c .before .before .before .before .before .loop-test .taken
+
+entering : (c : tie.After-until Inv-loop2 μ-loop2 Inv-loop μ-loop) → Noting (note (from c)) (self (from c)) (values (from c)) (table₀ (from c)) (from c .loop .i + 1) (c .before .before .before .noted .last .0) (c .before .before .before .noted .result)
+entering c =
+    let l = from c in
+    let N = c .before .before .before .noted in
+    note-more (self l) (values l) (l .loop .i) (some-value c) (note l) (table₀ l) (l .loop .table) (N .last .0) (l .loop .due) (N .result) (l .loop .pen) (eqb (l .loop .i) (raw l)) (rawAt l (l .loop .i) (some-value c)) (l .loop .inv .1) (l .loop .inv .3) (entered l) (N .ensures .0) (N .ensures .1)
+
+goes-on : (c : tie.After-until Inv-loop2 μ-loop2 Inv-loop μ-loop) → from c .loop .i < c .until .result
+goes-on c =
+    let l = from c in
+    let N = c .before .before .before .noted in
+    c .until .ensures .2 (l .loop .i) (note-ahead (note l) (self l) (values l) (table₀ l) (l .loop .i) (N .last .0) (N .result) (some-value c) (entering c)) (some-value c)
+
+-- ---- in the inner loop
+abbrev outer : tie.At-loop2 Inv-loop2 μ-loop2 Inv-loop μ-loop → tie.At-loop Inv-loop2 μ-loop2 Inv-loop μ-loop
+outer c = from (c .before)
+
+few : (c : tie.At-loop2 Inv-loop2 μ-loop2 Inv-loop μ-loop) → c .loop2 .i ≤ length (values (outer c))
+few c = omega (arith, c .loop2 .inv .0, c .before .until .ensures .1)
+
+-- where the pen stands
+here : (c : tie.At-loop2 Inv-loop2 μ-loop2 Inv-loop μ-loop) → c .loop2 .pen .place ≡ (afterFirst (self (outer c)) (values (outer c)) (c .loop2 .i)) .place
+here c = ap (λ (s : State Known). s .place) (sym (c .loop2 .inv .1 .state))
+
+most : (c : tie.At-loop2 Inv-loop2 μ-loop2 Inv-loop μ-loop) → (afterFirst (self (outer c)) (values (outer c)) (c .loop2 .i)) .place ≤ self (outer c) .place + 45 * c .loop2 .i
+most c = after-most (self (outer c)) (values (outer c)) (c .loop2 .i) (few c)
+
+-- the buffer, and the bits that wait
+lays : (c : tie.At-loop2 Inv-loop2 μ-loop2 Inv-loop μ-loop) → Laying (lay (outer c)) (self (outer c)) (values (outer c)) (buffer₀ (outer c)) (c .loop2 .i) (c .loop2 .buffer) (c .loop2 .waiting)
+lays c = c .loop2 .inv .2 (buffer₀ (outer c)) (room (outer c)) (outer c .loop .inv .2)
+
+laying : (c : tie.At-loop2 Inv-loop2 μ-loop2 Inv-loop μ-loop) → lay (outer c) ≡ true → Laying true (self (outer c)) (values (outer c)) (buffer₀ (outer c)) (c .loop2 .i) (c .loop2 .buffer) (c .loop2 .waiting)
+laying c e = subst (λ (b : Bool). Laying b (self (outer c)) (values (outer c)) (buffer₀ (outer c)) (c .loop2 .i) (c .loop2 .buffer) (c .loop2 .waiting)) e (lays c)
+
+-- ---- one value more
+abbrev atLoop : tie.After-step Inv-loop2 μ-loop2 Inv-loop μ-loop → tie.At-loop2 Inv-loop2 μ-loop2 Inv-loop μ-loop
+atLoop c = c .before .before .before
+
+next-value : (c : tie.After-step Inv-loop2 μ-loop2 Inv-loop μ-loop) → atLoop c .loop2 .i < length (values (outer (atLoop c)))
+next-value c = omega (arith, c .before .before .loop2-test .taken, atLoop c .before .until .ensures .1)
+
+digits : (c : tie.After-step Inv-loop2 μ-loop2 Inv-loop μ-loop)
+    → field (c .step .result .width) (c .step .result .bits) ≡ bitsOne (streamBy (self (outer (atLoop c)))) (afterFirst (self (outer (atLoop c))) (values (outer (atLoop c))) (atLoop c .loop2 .i)) (keptAt (self (outer (atLoop c))) (values (outer (atLoop c))) (atLoop c .loop2 .i))
 digits c =
     let l = atLoop c in
-    step-digits (self l) (values l) (l .loop .i) (omega arith) (l .loop .pen) (l .loop .inv .1) (eqb (l .loop .i) (raw l)) (rawAt l (l .loop .i) (omega arith)) (c .step .result) (c .step .ensures)
+    let o = outer l in
+    step-digits (self o) (values o) (l .loop2 .i) (next-value c) (l .loop2 .pen) (l .loop2 .inv .1) (eqb (l .loop2 .i) (raw o)) (rawAt o (l .loop2 .i) (next-value c)) (c .step .result) (c .step .ensures)
 
-moved : (c : tie.After-step Inv-loop μ-loop) → PenAt (self (atLoop c)) (afterFirst (self (atLoop c)) (values (atLoop c)) (atLoop c .loop .i + 1)) (atLoop c .loop .i + 1) (c .step .result .pen)
+moved : (c : tie.After-step Inv-loop2 μ-loop2 Inv-loop μ-loop) → PenAt (self (outer (atLoop c))) (afterFirst (self (outer (atLoop c))) (values (outer (atLoop c))) (atLoop c .loop2 .i + 1)) (atLoop c .loop2 .i + 1) (c .step .result .pen)
 moved c =
     let l = atLoop c in
-    pen-more (self l) (values l) (l .loop .i) (omega arith) (l .loop .pen) (l .loop .inv .1) (eqb (l .loop .i) (raw l)) (rawAt l (l .loop .i) (omega arith)) (c .step .result) (c .step .ensures) (omega (arith, c .step .ok))
-
--- the table after it
-entering : (c : tie.After-step Inv-loop μ-loop) → Noting (note (atLoop c)) (self (atLoop c)) (values (atLoop c)) (table₀ (atLoop c)) (atLoop c .loop .i + 1) (c .before .before .before .before .noted .last .0) (c .before .before .before .before .noted .result)
-entering c =
-    let l = atLoop c in
-    let N = c .before .before .before .before .noted in
-    note-more (self l) (values l) (l .loop .i) (omega arith) (note l) (table₀ l) (l .loop .table) (N .last .0) (l .loop .due) (N .result) (l .loop .pen) (eqb (l .loop .i) (raw l)) (rawAt l (l .loop .i) (omega arith)) (l .loop .inv .1) (l .loop .inv .3) (entered l) (N .ensures .0) (N .ensures .1)
+    let o = outer l in
+    pen-more (self o) (values o) (l .loop2 .i) (next-value c) (l .loop2 .pen) (l .loop2 .inv .1) (eqb (l .loop2 .i) (raw o)) (rawAt o (l .loop2 .i) (next-value c)) (c .step .result) (c .step .ensures) (omega (arith, c .step .ok))
 
 -- ---- the end: the writer that is left
-left : (c : tie.After-loop Inv-loop μ-loop) → leftBy (self (c .before)) (c .before .loop .pen) (c .before .loop .i) ≡ writerAt (self (c .before)) (wroteBy (self (c .before)) (values (c .before)))
+left : (c : tie.After-loop Inv-loop2 μ-loop2 Inv-loop μ-loop) → leftBy (self (c .before)) (c .before .loop .pen) (c .before .loop .i) ≡ writerAt (self (c .before)) (wroteBy (self (c .before)) (values (c .before)))
 left c =
     let l = c .before in
     left-is (self l) (values l) (l .loop .i) (l .loop .inv .0) (l .loop .pen) (l .loop .inv .1)
     ∙ ap (λ (ys : List ℕ). writerAt (self l) (wroteBy (self l) ys)) (take-all (l .loop .i) (values l) (c .loop-test .left))
 
-loop-holds : tie.Need-loop-holds Inv-loop μ-loop
+loop-holds : tie.Need-loop-holds Inv-loop2 μ-loop2 Inv-loop μ-loop
 loop-holds c =
     let a = c .before .before .before .before .before .before .before .before .before .before .args in
     let o = c .before .before .opened in (
@@ -124,7 +167,7 @@ loop-holds c =
       note-start (a .note) (a .self) (a .values .now) (a .table .now) (c .before .before .before .before .before .first-due .result) (c .before .before .before .before .before .first-due .ensures),
     )
 
-noted-requires : tie.Need-noted-requires Inv-loop μ-loop
+noted-requires : tie.Need-noted-requires Inv-loop2 μ-loop2 Inv-loop μ-loop
 noted-requires c κs =
     let l = c .before .before in
     let more : l .loop .i < length (values l) = c .before .loop-test .taken in
@@ -134,86 +177,114 @@ noted-requires c κs =
       note-idle (note l) (self l) (values l) (table₀ l) (l .loop .i) (l .loop .table) (l .loop .due) more (l .loop .inv .3),
     )
 
-step-requires : tie.Need-step-requires Inv-loop μ-loop
-step-requires c κs = omega (arith, here (c .before .before .before .before .before .before), most (c .before .before .before .before .before .before))
+loop2-holds : tie.Need-loop2-holds Inv-loop2 μ-loop2 Inv-loop μ-loop
+loop2-holds c =
+    let l = from c in
+    (omega (arith, goes-on c), l .loop .inv .1, λ old room L. L)
 
-append-requires : tie.Need-append-requires Inv-loop μ-loop
+loop-less : tie.Need-loop-less Inv-loop2 μ-loop2 Inv-loop μ-loop
+loop-less c = omega (arith, goes-on (c .before .before), c .loop2-test .left, some-value (c .before .before))
+
+loop-again : tie.Need-loop-again Inv-loop2 μ-loop2 Inv-loop μ-loop
+loop-again c =
+    let k = c .before in
+    let o = outer k in
+    let u = k .before in
+    let N = u .before .before .before .noted in
+    let there : k .loop2 .i ≡ o .loop .i + 1 + (k .loop2 .i - (o .loop .i + 1)) = omega (arith, goes-on u, c .loop2-test .left) in (
+      few k,
+      k .loop2 .inv .1,
+      lays k,
+      subst (λ (j : ℕ). Noting (note o) (self o) (values o) (table₀ o) j (N .last .0) (N .result)) (sym there)
+          (note-skip (note o) (self o) (values o) (table₀ o) (N .last .0) (N .result) (o .loop .i + 1) (k .loop2 .i - (o .loop .i + 1)) (entering u)
+          (omega (arith, there, k .loop2 .inv .0, u .until .ensures .0)) (omega (arith, there, few k))),
+    )
+
+step-requires : tie.Need-step-requires Inv-loop2 μ-loop2 Inv-loop μ-loop
+step-requires c κs = omega (arith, here (c .before .before), most (c .before .before))
+
+append-requires : tie.Need-append-requires Inv-loop2 μ-loop2 Inv-loop μ-loop
 append-requires c κs =
-    let l = atLoop (c .before .before) in
-    let r = c .before .before .step .result in
-    let s = c .before .before .step .ensures .code in
-    let L = laying l (c .before .if1 .taken) in
-    let next = next-place (self l) (values l) (l .loop .i) (omega arith) (r .width) (r .bits) (digits (c .before .before)) in (
+    let k = c .before .before in
+    let l = atLoop k in
+    let o = outer l in
+    let r = k .step .result in
+    let s = k .step .ensures .code in
+    let t = c .before .if1 .taken in
+    let L = laying l t in
+    let next = next-place (self o) (values o) (l .loop2 .i) (next-value k) (r .width) (r .bits) (digits k) in (
       L .1 .waits,
       omega (arith, s .short),
-      omega (arith, L .0, L .1 .here, next, room l (c .before .if1 .taken), place-grows (self l) (values l) (l .loop .i + 1)),
+      omega (arith, L .0, L .1 .here, next, room o t, place-grows (self o) (values o) (l .loop2 .i + 1)),
       s .small,
     )
 
-add-i : tie.Need-add-i Inv-loop μ-loop
+add-i : tie.Need-add-i Inv-loop2 μ-loop2 Inv-loop μ-loop
 add-i c =
-    let l = atLoop (c .before .before .before .before .before .before) in
-    omega (arith, c .before .before .before .before .before .before .before .before .before .before .before .before .loop-test .taken, l .before .before .before .before .before .before .before .before .before .before .before .pre .0)
+    let k = c .before .before .before .before .before .before in
+    omega (arith, next-value k, outer (atLoop k) .before .before .before .before .before .before .before .before .before .before .before .pre .0)
 
-loop-again : tie.Need-loop-again Inv-loop μ-loop
-loop-again c =
+loop2-again : tie.Need-loop2-again Inv-loop2 μ-loop2 Inv-loop μ-loop
+loop2-again c =
     let k = c .before .before .before .before .before .before in
     let l = atLoop k in
-    let more : l .loop .i < length (values l) = k .before .before .before .before .before .before .loop-test .taken in
+    let o = outer l in
     let A = c .before .before .before .append in
-    let lays = c .before .before .before .before .before .if1 .taken in (
-      omega (arith, more),
+    let t = c .before .before .before .before .before .if1 .taken in (
+      omega (arith, k .before .before .loop2-test .taken),
       moved k,
-      subst (λ (b : Bool). Laying b (self l) (values l) (buffer₀ l) (l .loop .i + 1) (A .last .0) (A .result)) (sym lays)
-          (lay-next (self l) (values l) (l .loop .i) more (k .step .result .width) (k .step .result .bits) (digits k) (k .step .ensures .code .some) (buffer₀ l) (l .loop .buffer) (A .last .0) (l .loop .waiting) (A .result) (room l lays) (laying l lays) (A .ensures)),
-      entering k,
+      λ old room L.
+          subst (λ (b : Bool). Laying b (self o) (values o) old (l .loop2 .i + 1) (A .last .0) (A .result)) (sym t)
+          (lay-next (self o) (values o) (l .loop2 .i) (next-value k) (k .step .result .width) (k .step .result .bits) (digits k) (k .step .ensures .code .some) old (l .loop2 .buffer) (A .last .0) (l .loop2 .waiting) (A .result) (room t)
+          (subst (λ (b : Bool). Laying b (self o) (values o) old (l .loop2 .i) (l .loop2 .buffer) (l .loop2 .waiting)) t (l .loop2 .inv .2 old room L)) (A .ensures)),
     )
 
-add-i-2 : tie.Need-add-i-2 Inv-loop μ-loop
+add-i-2 : tie.Need-add-i-2 Inv-loop2 μ-loop2 Inv-loop μ-loop
 add-i-2 c =
-    let l = atLoop (c .before .before) in
-    omega (arith, c .before .before .before .before .before .before .before .before .loop-test .taken, l .before .before .before .before .before .before .before .before .before .before .before .pre .0)
+    let k = c .before .before in
+    omega (arith, next-value k, outer (atLoop k) .before .before .before .before .before .before .before .before .before .before .before .pre .0)
 
-loop-again-2 : tie.Need-loop-again-2 Inv-loop μ-loop
-loop-again-2 c =
-    let l = atLoop (c .before .before) in
-    let more : l .loop .i < length (values l) = c .before .before .before .before .before .before .before .before .loop-test .taken in
+loop2-again-2 : tie.Need-loop2-again-2 Inv-loop2 μ-loop2 Inv-loop μ-loop
+loop2-again-2 c =
+    let k = c .before .before in
+    let l = atLoop k in
+    let o = outer l in
     let counts = c .before .if1 .left in (
-      omega (arith, more),
-      moved (c .before .before),
-      subst (λ (b : Bool). Laying b (self l) (values l) (buffer₀ l) (l .loop .i + 1) (l .loop .buffer) (l .loop .waiting)) (sym counts)
-          (subst (λ (b : Bool). Laying b (self l) (values l) (buffer₀ l) (l .loop .i) (l .loop .buffer) (l .loop .waiting)) counts (l .loop .inv .2)),
-      entering (c .before .before),
+      omega (arith, k .before .before .loop2-test .taken),
+      moved k,
+      λ old room L.
+          subst (λ (b : Bool). Laying b (self o) (values o) old (l .loop2 .i + 1) (l .loop2 .buffer) (l .loop2 .waiting)) (sym counts)
+          (subst (λ (b : Bool). Laying b (self o) (values o) old (l .loop2 .i) (l .loop2 .buffer) (l .loop2 .waiting)) counts (l .loop2 .inv .2 old room L)),
     )
 
-mul-put : tie.Need-mul-put Inv-loop μ-loop
+mul-put : tie.Need-mul-put Inv-loop2 μ-loop2 Inv-loop μ-loop
 mul-put c =
     let l = c .before .before .before .before in
-    let L = laying l (and-left _ _ (c .before .before .if2 .taken)) in
-    omega (arith, L .1 .here, most l, l .loop .inv .0, l .before .before .before .before .before .before .before .before .before .before .before .pre .2)
+    let L = laying-from l (and-left _ _ (c .before .before .if2 .taken)) in
+    omega (arith, L .1 .here, most-of l, l .loop .inv .0, l .before .before .before .before .before .before .before .before .before .before .before .pre .2)
 
-put-requires : tie.Need-put-requires Inv-loop μ-loop
+put-requires : tie.Need-put-requires Inv-loop2 μ-loop2 Inv-loop μ-loop
 put-requires c κs =
     let l = c .before .before .before .before in
     let t = and-left _ _ (c .before .before .if2 .taken) in
-    let L = laying l t in
+    let L = laying-from l t in
     (omega (arith, L .1 .waits .fewer), omega (arith, L .0, L .1 .here, room l t, place-grows (self l) (values l) (l .loop .i)), L .1 .waits .small)
 
-same-length : tie.Need-same-length Inv-loop μ-loop
+same-length : tie.Need-same-length Inv-loop2 μ-loop2 Inv-loop μ-loop
 same-length c =
     let l = c .before .before .before .before .before .before .before .before in
     let w = l .loop .waiting in
     let t = and-left (lay l) (ltb 0 (l .loop .i)) (c .before .before .before .before .before .before .if2 .taken) in
-    let L = laying l t in
+    let L = laying-from l t in
     ap length (c .before .before .before .put .ensures)
     ∙ length-laidIn (l .loop .buffer) (8 * w .at) (field (w .held) (w .word)) (omega (arith, L .0, L .1 .here, length-field (w .held) (w .word), room l t, place-grows (self l) (values l) (l .loop .i)))
     ∙ L .0
     ∙ ap length (begun l)
 
-table-long : tie.Need-same-length-2 Inv-loop μ-loop
+table-long : tie.Need-same-length-2 Inv-loop2 μ-loop2 Inv-loop μ-loop
 table-long c = c .before .before .before .before .before .before .before .before .loop .inv .3 .long
 
-returns : tie.Need-returns Inv-loop μ-loop
+returns : tie.Need-returns Inv-loop2 μ-loop2 Inv-loop μ-loop
 returns c =
     let l = c .before .before .before .before .before .before .before .before in
     let t = c .before .before .before .before .before .before .if2 .taken in (
@@ -226,15 +297,15 @@ returns c =
       ),
     )
 
-same-length-3 : tie.Need-same-length-3 Inv-loop μ-loop
+same-length-3 : tie.Need-same-length-3 Inv-loop2 μ-loop2 Inv-loop μ-loop
 same-length-3 c =
     let l = c .before .before .before in
     lay-long (lay l) (self l) (values l) (buffer₀ l) (l .loop .i) (l .loop .buffer) (l .loop .waiting) (l .loop .inv .2) ∙ ap length (begun l)
 
-table-long-2 : tie.Need-same-length-4 Inv-loop μ-loop
+table-long-2 : tie.Need-same-length-4 Inv-loop2 μ-loop2 Inv-loop μ-loop
 table-long-2 c = c .before .before .before .loop .inv .3 .long
 
-returns-2 : tie.Need-returns-2 Inv-loop μ-loop
+returns-2 : tie.Need-returns-2 Inv-loop2 μ-loop2 Inv-loop μ-loop
 returns-2 c =
     let l = c .before .before .before in (
       c .left-by2 .ensures ∙ left (c .before .before),
@@ -249,6 +320,8 @@ pub write-noting-spec : {M : Type 1} → statement M
 write-noting-spec =
     tie.close
     (tie.spec
+    Inv-loop2
+    μ-loop2
     Inv-loop
     μ-loop
     (λ c κs. search needs)
@@ -257,16 +330,20 @@ write-noting-spec =
     (λ c κs. search needs)
     loop-holds
     noted-requires
+    (λ c κs. search needs)
+    loop2-holds
+    loop-less
+    loop-again
     (λ c. search needs)
     (λ c. search needs)
     step-requires
     append-requires
     add-i
     (λ c. omega arith)
-    loop-again
+    loop2-again
     add-i-2
     (λ c. omega arith)
-    loop-again-2
+    loop2-again-2
     mul-put
     put-requires
     (λ c κs. omega arith)
