@@ -102,7 +102,7 @@ impl Bench {
         let nights = series::rooms(self.streams / 66, MOST_VALUES);
         let sides = self.beside_the_rust(&rooms);
         let long = self.long_streams(&rooms, &nights);
-        let tables = self.tabled(&rooms) & self.ranges(&nights);
+        let tables = self.tabled(&rooms, &nights) & self.ranges(&nights);
         self.short_calls(&rooms[..500]);
         sides && long && tables
     }

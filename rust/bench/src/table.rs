@@ -17,32 +17,39 @@ const TABLED_GOAL: f64 = 1.05;
 const RANGE_GOAL: f64 = 100.0;
 
 impl Bench {
-    /// The same bytes, with a table and without.
-    pub fn tabled(&self, rooms: &[Vec<f32>]) -> bool {
+    /// The same bytes, with a table and without: of short streams, and of the longest.
+    pub fn tabled(&self, rooms: &[Vec<f32>], nights: &[Vec<f32>]) -> bool {
         if !self.is_wanted("tabled") {
             return true;
         }
-        say!(
-            "Nanoseconds a value, streams of 1,000 values written with a place table and without\n"
+        say!("Nanoseconds a value, streams written with a place table and without\n");
+        head(
+            "| job | bound | values | with | without | ratio | goal |",
+            "",
         );
-        head("| job | bound | with | without | ratio | goal |", "");
         let mut good = true;
         for (bound, error_bound) in BOUNDS {
-            let lists = Lists::new(rooms, error_bound);
-            if !lists.agree(&Tabled, &Ours, Job::Written) {
-                say!("tabled, {bound}: other bytes than without a table");
-                good = false;
+            for (values, rooms) in [("1,000", rooms), ("65,536", nights)] {
+                good &= self.tabled_row(bound, values, &Lists::new(rooms, error_bound));
             }
-            let times = self.until(
-                || lists.times(&[&Tabled, &Ours], Job::Written, self.rounds),
-                |times| self.keeps(times[0] / times[1], TABLED_GOAL),
-            );
-            put!("| tabled | {bound} | {:.2} |", times[0]);
-            good &= self.ratio(times[0], times[1], TABLED_GOAL);
-            say!();
         }
         say!();
         good
+    }
+
+    fn tabled_row(&self, bound: &str, values: &str, lists: &Lists) -> bool {
+        let same = lists.agree(&Tabled, &Ours, Job::Written);
+        if !same {
+            say!("tabled, {bound}, {values}: other bytes than without a table");
+        }
+        let times = self.until(
+            || lists.times(&[&Tabled, &Ours], Job::Written, self.rounds),
+            |times| self.keeps(times[0] / times[1], TABLED_GOAL),
+        );
+        put!("| tabled | {bound} | {values} | {:.2} |", times[0]);
+        let good = self.ratio(times[0], times[1], TABLED_GOAL);
+        say!();
+        good && same
     }
 
     /// The last values of each of the longest streams.
