@@ -41,11 +41,11 @@ pub fn noted(
     ensures next { λ r. ⌜ r ≡ cond (eqb i due) (i + spacing) due ⌝ }
     ensures words { λ r. ⌜ now (table .exit) ≡ cond (eqb i due) (notedBy raw pen ((count + i) / spacing) (now (table .entry))) (now (table .entry)) ⌝ }
 {
-    if i != due {
+    if !note {
         return due;
     }
-    if !note {
-        return i + SPACING;
+    if i != due {
+        return due;
     }
     let last = last_before(raw, pen.last);
     let at = WORDS * ((count + i) / SPACING);

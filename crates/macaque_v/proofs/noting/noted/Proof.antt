@@ -17,31 +17,30 @@ not-true false e = refl
 
 -- it is due, and its words are in the table
 fits : (c : tie.Else2) → 4 * ((c .before .before .before .args .count + c .before .before .before .args .i) / 64) + 4 ≤ length (c .before .before .before .args .table .now)
-fits c = omega (arith, c .before .before .before .pre .1 (c .before .if1 .left))
+fits c = omega (arith, c .before .before .before .pre .1 (c .if2 .left))
 
 returns : tie.Need-returns
 returns c =
     let a = c .before .before .args in
-    rw (ne-eqb (a .i) (a .due) (c .if1 .taken)) (refl, refl)
+    let apart : ¬ (a .i ≡ a .due) = λ e. omega (arith, e, c .before .before .pre .2 (not-true (a .note) (c .if1 .taken))) in
+    rw (ne-eqb (a .i) (a .due) apart) (refl, refl)
 
--- none is due where none is noted
 returns-2 : tie.Need-returns-2
 returns-2 c =
-    let s = c .before .before .before in
-    absurd (omega (arith, c .before .if1 .left, s .pre .2 (not-true (s .args .note) (c .if2 .taken))))
+    let a = c .before .before .before .args in
+    rw (ne-eqb (a .i) (a .due) (c .if2 .taken)) (refl, refl)
 
 returns-3 : tie.Need-returns-3
 returns-3 c =
     let e = c .before .before .before in
     let a = e .before .before .before .args in
-    rw (eq-eqb (a .i) (a .due) (e .before .if1 .left), c .before .before .last-before .ensures) (refl, stored (a .table .now) ((a .count + a .i) / 64) (entryBy (a .raw) (a .pen)) (fits e))
+    rw (eq-eqb (a .i) (a .due) (e .if2 .left), c .before .before .last-before .ensures) (refl, stored (a .table .now) ((a .count + a .i) / 64) (entryBy (a .raw) (a .pen)) (fits e))
 
 pub noted-spec : {M : Type 1} → statement M
 noted-spec =
     tie.close
     (tie.spec
     returns
-    (λ c. search needs)
     returns-2
     (λ c κs. search needs)
     (λ c. search needs)
