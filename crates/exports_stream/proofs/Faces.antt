@@ -6,7 +6,7 @@ use mathlib.Core.Logic.{inl}
 use Prim.Native.Nat.{ℕ, _*_, _≤_}
 use lib.Dec.{leb}
 use lib.ListN.{length}
-use Rattle.models.specs.Answers.{Said, Done, answered, refused, answeredOn, refusedOn, stateless, verdict, keeping, itself}
+use Rattle.models.specs.Answers.{Said, Done, answered, refused, SaidOn, answeredOn, refusedOn, stateless, verdict, keeping, itself}
 use Rattle.models.specs.Bound.{boundAllowed}
 use Rattle.models.specs.Refusals.{faultOf}
 use Rattle.models.specs.Calls.{saysVerdict}
@@ -87,6 +87,15 @@ pub spoiled-may-not : (b : ErrorBound) (bytes : ℕ) → usable macaque bytes (s
 unfolding keepsRule
 spoiled-may-not b bytes = and-false (leb ((spoiledWriter b) .place) (8 * bytes)) _ refl
 
+-- where a row that stands for no state is refused, an accepted call tells that the row stands for one
+pub accepted-stands : {A : Type 0} (row : List ℕ) (said : SaidOn MacaqueV A) (f : Fault) → (standsForState row ≡ false → stateless said ≡ refused f) → (a : A) → said ≡ answeredOn a
+    → standsForState row ≡ true
+accepted-stands row said f refuses a e = go (standsForState row) refl
+  where
+    go : (b : Bool) → standsForState row ≡ b → b ≡ true
+    go true h = refl
+    go false h = absurd (not-answered (sym (refuses h) ∙ ap stateless e))
+
 module _ (row xs buf : List ℕ) where
   -- a row that stands for no state is refused: with 1 where its bound is not allowed, else with 2
   pub no-state-refused : standsForState row ≡ false → stateless (writeAnswer (writerIn row) xs buf) ≡ refused (noState (boundAllowed (boundFront row)))
@@ -95,10 +104,5 @@ module _ (row xs buf : List ℕ) where
       ap (λ (m : MacaqueV). stateless (writeAnswer m xs buf)) (sym (no-state row h))
       ∙ rows.no-state (spoiledWriter (boundFront row)) (boundAllowed (boundFront row)) _ _ _ (ap not (spoiled-may-not (boundFront row) (lentBytes (length buf))))
 
-  -- so an accepted write tells that the row stands for one
   pub stands : (n : MacaqueV) → writeAnswer (writerIn row) xs buf ≡ answeredOn n → standsForState row ≡ true
-  stands n e = go (standsForState row) refl
-    where
-      go : (b : Bool) → standsForState row ≡ b → b ≡ true
-      go true h = refl
-      go false h = absurd (not-answered (sym (no-state-refused h) ∙ ap stateless e))
+  stands = accepted-stands row (writeAnswer (writerIn row) xs buf) _ no-state-refused

@@ -1,6 +1,7 @@
 -- What the proofs of MacaqueV's C face share, and what its rows promise.
 pub mod Words
 pub mod Faces
+pub mod Tabled
 pub mod Numbers
 pub mod Promises
 pub mod Broken

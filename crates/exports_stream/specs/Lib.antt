@@ -1,3 +1,4 @@
 -- How MacaqueV crosses the C face.
 pub mod Row
 pub mod Calls
+pub mod Tabled

@@ -13,6 +13,7 @@ ghost use Rattle.exports_stream.specs.Row.{writerLength, writerRow, writ
 ghost use Rattle.exports_stream.specs.Calls.{openingOf, countIn, newCauses, reopenCausesWith};
 ghost use Rattle.exports_stream.specs.Calls.{newFault, newRow};
 ghost use Rattle.exports_stream.specs.Calls.{reopenFault, reopenRow, reopenBuffer, gridFault, gridOut, sumFault, sumOut};
+ghost use Rattle.exports_stream.specs.Tabled.{tableWriteFault, tableWriteRow, tableWriteBuffer, tableWriteWords, tableWriteEntries};
 use exports::words;
 use macaque_v::MacaqueV;
 use macaque_v::Opening;
@@ -24,6 +25,7 @@ use models::Fault;
 use models::GridAnswer;
 use models::Refusal;
 use models::Verdict;
+use place_table::TableWriteAnswer;
 
 pub mod row;
 
@@ -65,6 +67,32 @@ pub extern "C" fn modelardb_macaque_v_compress_values(
     match row::writer_of(state).compress_values(values, buffer) {
         WriteAnswer::Refused(r, _) => models::fault_of(r),
         WriteAnswer::Written(after) => {
+            exports::put_said(Verdict::Passed, &row::written_words(state, after), state)
+        }
+    }
+}
+
+// Writes the values behind the state's place, and behind the entries in use that of each value whose number is a
+// multiple of 64; the row becomes the state after them, and the number that of the entries now in use.
+#[no_mangle]
+pub extern "C" fn modelardb_table_compress_values(
+    state: &mut [u64],
+    values: &[u32],
+    buffer: &mut [u8],
+    table: &mut [u64],
+    entries: &mut usize,
+) -> Fault
+    ensures fault { λ r. ⌜ r ≡ tableWriteFault (now (state .entry)) (now (values .entry)) (now (buffer .entry)) (now (table .entry)) (now (entries .entry)) ⌝ }
+    ensures row { λ r. ⌜ now (state .exit) ≡ tableWriteRow (now (state .entry)) (now (values .entry)) (now (buffer .entry)) (now (table .entry)) (now (entries .entry)) ⌝ }
+    ensures bytes { λ r. ⌜ now (buffer .exit) ≡ tableWriteBuffer (now (state .entry)) (now (values .entry)) (now (buffer .entry)) (now (table .entry)) (now (entries .entry)) ⌝ }
+    ensures words { λ r. ⌜ now (table .exit) ≡ tableWriteWords (now (state .entry)) (now (values .entry)) (now (buffer .entry)) (now (table .entry)) (now (entries .entry)) ⌝ }
+    ensures number { λ r. ⌜ now (entries .exit) ≡ tableWriteEntries (now (state .entry)) (now (values .entry)) (now (buffer .entry)) (now (table .entry)) (now (entries .entry)) ⌝ }
+{
+    let given = *entries;
+    match place_table::compress_values(row::writer_of(state), values, buffer, table, given) {
+        TableWriteAnswer::Refused(r, _) => models::fault_of(r),
+        TableWriteAnswer::Written(after, n) => {
+            *entries = n;
             exports::put_said(Verdict::Passed, &row::written_words(state, after), state)
         }
     }

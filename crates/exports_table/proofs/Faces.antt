@@ -1,28 +1,19 @@
--- What the calls with a place table on a writer's row answer and leave, case by case. Assumes nothing.
-use mathlib.Core.Path.{_≡_, refl, sym, ap, _∙_}
-use mathlib.Core.Bool.{Bool, true, false, not}
+-- What reopening with a place table into a row answers and leaves, case by case. Assumes nothing.
+use mathlib.Core.Path.{_≡_, ap, _∙_}
 use mathlib.Core.List.{List}
 use Prim.Native.Nat.{ℕ}
-use lib.ListN.{length}
-use Rattle.models.specs.Answers.{Said, answeredOn, refused, stateless, verdict, keeping, itself}
-use Rattle.models.specs.Bound.{boundAllowed}
+use Rattle.models.specs.Answers.{Said, verdict, keeping, itself}
 use Rattle.models.specs.Refusals.{faultOf}
 use Rattle.models.specs.Calls.{saysVerdict}
 use Rattle.models.specs.declared.Refusal.{Refusal}
 use Rattle.models.specs.declared.Verdict.{Verdict}
 use Rattle.models.specs.declared.Verdict.the-variants.{Passed, Refused}
-use Rattle.models.proofs.Judged.{when-passed, when-refused, not-answered}
-use Rattle.stream.specs.Calls.{lentBytes}
+use Rattle.models.proofs.Judged.{when-passed, when-refused}
 use Rattle.places.specs.Calls.{Beside}
 use Rattle.macaque_v.specs.declared.MacaqueV.{MacaqueV}
-use Rattle.place_table.specs.Calls.{tableWriteAnswer}
-use Rattle.exports.specs.Face.{plainFault, rowIn, noState}
-use Rattle.exports.specs.Words.{boundFront}
-use Rattle.exports.proofs.Rows as rows
-use Rattle.exports_stream.specs.Row.{standsForState, spoiledWriter, writerIn}
-use Rattle.exports_stream.proofs.Words.{no-state}
-use Rattle.exports_stream.proofs.Faces.{spoiled-may-not}
-use Rattle.exports_table.specs.Calls.{besideRow, entriesAfter, tableReopenFaceCauses, tableReopenSaid, tableReopenLeft, tableReopenFault, tableReopenRow, tableReopenBuffer, tableReopenEntries}
+use Rattle.exports.specs.Face.{plainFault, rowIn}
+use Rattle.exports_stream.specs.Tabled.{entriesAfter}
+use Rattle.exports_table.specs.Calls.{besideRow, tableReopenFaceCauses, tableReopenSaid, tableReopenLeft, tableReopenFault, tableReopenRow, tableReopenBuffer, tableReopenEntries}
 
 -- ---- reopen, by the verdict on its causes
 
@@ -55,21 +46,3 @@ module _ (buf : List ℕ) (used count k mode opening kind bound : ℕ) (row word
         when-passed causes v says (keeping buf) _ e,
         ap (entriesAfter entries) q ∙ when-passed causes v says (keeping entries) _ e,
       )
-
--- ---- compress_values
-
-module _ (row xs buf words : List ℕ) (entries : ℕ) where
-  -- a row that stands for no state is refused: with 1 where its bound is not allowed, else with 2
-  pub no-state-refused : standsForState row ≡ false → stateless (tableWriteAnswer (writerIn row) xs buf words entries) ≡ refused (noState (boundAllowed (boundFront row)))
-  unfolding tableWriteAnswer
-  no-state-refused h =
-      ap (λ (m : MacaqueV). stateless (tableWriteAnswer m xs buf words entries)) (sym (no-state row h))
-      ∙ rows.no-state (spoiledWriter (boundFront row)) (boundAllowed (boundFront row)) _ _ _ (ap not (spoiled-may-not (boundFront row) (lentBytes (length buf))))
-
-  -- so an accepted write tells that the row stands for one
-  pub stands : (a : Beside MacaqueV) → tableWriteAnswer (writerIn row) xs buf words entries ≡ answeredOn a → standsForState row ≡ true
-  stands a e = go (standsForState row) refl
-    where
-      go : (b : Bool) → standsForState row ≡ b → b ≡ true
-      go true h = refl
-      go false h = absurd (not-answered (sym (no-state-refused h) ∙ ap stateless e))

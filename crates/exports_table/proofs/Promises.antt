@@ -42,9 +42,9 @@ use Rattle.exports_stream.specs.Row.{writerLength, writerRow, writtenRow, stand
 use Rattle.exports_stream.specs.Calls.{openingOf, countIn, newFault, newRow, writeFault, writeRow, writeBuffer, gridFault, gridOut, RowMade}
 use Rattle.exports_stream.proofs.Words.{short-stands-for-none, written-long, own-words}
 use Rattle.exports_stream.proofs.Promises.{row-made, place-word, length-word, a-new-row, a-row-goes-on, one-more}
-use Rattle.exports_table.specs.Calls.{besideRow, besideWritten, entriesAfter, tableWriteSaid, tableWriteFault, tableWriteRow, tableWriteBuffer, tableWriteWords, tableWriteEntries}
-use Rattle.exports_table.specs.Calls.{tableReopenFaceCauses, tableReopenSaid, tableReopenLeft, tableReopenFault, tableReopenRow, tableReopenBuffer, tableReopenEntries, tableCheckFault, tableRangeFault, tableRangeOut, RowMadeBeside, RowTableResumesAsOne}
-use Rattle.exports_table.proofs.Faces.{no-state-refused, stands}
+use Rattle.exports_stream.specs.Tabled.{besideWritten, entriesAfter, tableWriteSaid, tableWriteFault, tableWriteRow, tableWriteBuffer, tableWriteWords, tableWriteEntries}
+use Rattle.exports_stream.proofs.Tabled.{no-state-refused, stands}
+use Rattle.exports_table.specs.Calls.{besideRow, tableReopenFaceCauses, tableReopenSaid, tableReopenLeft, tableReopenFault, tableReopenRow, tableReopenBuffer, tableReopenEntries, tableCheckFault, tableRangeFault, tableRangeOut, RowMadeBeside, RowTableResumesAsOne}
 use Rattle.exports_table.proofs.Told.{a-write-told, a-check-told, as-many-values, read-refused}
 
 -- ---- a new row

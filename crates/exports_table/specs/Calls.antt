@@ -5,7 +5,7 @@ use mathlib.Core.List.{List, [], _∷_, _++_}
 use Prim.Native.Nat.{ℕ}
 use lib.Dec.{ltb}
 use lib.ListN.{length, take}
-use Rattle.models.specs.Answers.{Said, answered, refused, SaidOn, stateless, Cause, _when_, judge, judgedMemory, keeping, itself, noFault}
+use Rattle.models.specs.Answers.{Said, Cause, _when_, judge, judgedMemory, keeping, itself, noFault}
 use Rattle.models.specs.declared.Fault.{Fault}
 use Rattle.models.specs.declared.ErrorBound.{ErrorBound}
 use Rattle.places.specs.Calls.{Beside}
@@ -14,43 +14,14 @@ use Rattle.macaque_v.specs.declared.MacaqueV.{MacaqueV}
 use Rattle.macaque_v.specs.declared.Opening.{Opening}
 use Rattle.place_table.specs.Calls as table
 use Rattle.place_table.specs.Made.{MadeBeside}
-use Rattle.exports.specs.Face.{boundOf, plainFault, rowIn, stepFault, stepRow}
-use Rattle.exports_stream.specs.Row.{writerLength, writerRow, writtenRow, writerIn}
+use Rattle.exports.specs.Face.{boundOf, plainFault, rowIn}
+use Rattle.exports_stream.specs.Row.{writerLength, writerRow, writerIn}
 use Rattle.exports_stream.specs.Calls.{openingOf, countIn, RowMade}
+use Rattle.exports_stream.specs.Tabled.{entriesAfter, tableWriteFault, tableWriteRow, tableWriteBuffer, tableWriteWords, tableWriteEntries}
 
--- ---- a state and how many entries are in use
-
--- the state's words, as they are handed out and as they are after a write
+-- the words of a state as it is handed out
 abbrev pub besideRow : Beside MacaqueV → List ℕ
 besideRow a = writerRow (a .writer)
-
-abbrev pub besideWritten : List ℕ → Beside MacaqueV → List ℕ
-besideWritten row a = writtenRow row (a .writer)
-
--- the number afterwards: a refusal leaves it
-abbrev pub entriesAfter : ℕ → Said (Beside MacaqueV) → ℕ
-entriesAfter entries (answered a) = a .entries
-entriesAfter entries (refused f) = entries
-
--- ---- compress_values: the fault and the row of a step, the buffer, the table's words, and how many entries are in use
-
-abbrev pub tableWriteSaid : List ℕ → List ℕ → List ℕ → List ℕ → ℕ → SaidOn MacaqueV (Beside MacaqueV)
-tableWriteSaid row xs buf words entries = table.tableWriteAnswer (writerIn row) xs buf words entries
-
-abbrev pub tableWriteFault : List ℕ → List ℕ → List ℕ → List ℕ → ℕ → Fault
-tableWriteFault row xs buf words entries = stepFault (tableWriteSaid row xs buf words entries)
-
-abbrev pub tableWriteRow : List ℕ → List ℕ → List ℕ → List ℕ → ℕ → List ℕ
-tableWriteRow row xs buf words entries = stepRow (besideWritten row) row (tableWriteSaid row xs buf words entries)
-
-abbrev pub tableWriteBuffer : List ℕ → List ℕ → List ℕ → List ℕ → ℕ → List ℕ
-tableWriteBuffer row xs buf words entries = table.tableWriteMemory (writerIn row) xs buf words entries
-
-abbrev pub tableWriteWords : List ℕ → List ℕ → List ℕ → List ℕ → ℕ → List ℕ
-tableWriteWords row xs buf words entries = table.tableWriteTable (writerIn row) xs buf words entries
-
-abbrev pub tableWriteEntries : List ℕ → List ℕ → List ℕ → List ℕ → ℕ → ℕ
-tableWriteEntries row xs buf words entries = entriesAfter entries (stateless (tableWriteSaid row xs buf words entries))
 
 -- ---- reopen: 1, 3, 12, 13, then 4 for the row, and only then what the stream gives. Till then the buffer is untouched.
 

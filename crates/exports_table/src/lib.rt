@@ -5,7 +5,6 @@
 ghost use mathlib.Core.Path.{_≡_};
 ghost use Rattle.models.specs.Answers.{verdict};
 ghost use Rattle.models.specs.Calls.{saysVerdict};
-ghost use Rattle.exports_table.specs.Calls.{tableWriteFault, tableWriteRow, tableWriteBuffer, tableWriteWords, tableWriteEntries};
 ghost use Rattle.exports_table.specs.Calls.{tableReopenCausesWith, tableReopenFault, tableReopenRow, tableReopenBuffer, tableReopenEntries};
 ghost use Rattle.exports_table.specs.Calls.{tableCheckFault, tableRangeFault, tableRangeOut};
 use exports_stream::row;
@@ -17,35 +16,8 @@ use models::Refusal;
 use models::Verdict;
 use place_table::CheckAnswer;
 use place_table::TableOpenAnswer;
-use place_table::TableWriteAnswer;
 
 // ---- the writer's calls
-
-// Writes the values behind the state's place, and behind the entries in use that of each value whose number is a
-// multiple of 64; the row becomes the state after them, and the number that of the entries now in use.
-#[no_mangle]
-pub extern "C" fn modelardb_table_compress_values(
-    state: &mut [u64],
-    values: &[u32],
-    buffer: &mut [u8],
-    table: &mut [u64],
-    entries: &mut usize,
-) -> Fault
-    ensures fault { λ r. ⌜ r ≡ tableWriteFault (now (state .entry)) (now (values .entry)) (now (buffer .entry)) (now (table .entry)) (now (entries .entry)) ⌝ }
-    ensures row { λ r. ⌜ now (state .exit) ≡ tableWriteRow (now (state .entry)) (now (values .entry)) (now (buffer .entry)) (now (table .entry)) (now (entries .entry)) ⌝ }
-    ensures bytes { λ r. ⌜ now (buffer .exit) ≡ tableWriteBuffer (now (state .entry)) (now (values .entry)) (now (buffer .entry)) (now (table .entry)) (now (entries .entry)) ⌝ }
-    ensures words { λ r. ⌜ now (table .exit) ≡ tableWriteWords (now (state .entry)) (now (values .entry)) (now (buffer .entry)) (now (table .entry)) (now (entries .entry)) ⌝ }
-    ensures number { λ r. ⌜ now (entries .exit) ≡ tableWriteEntries (now (state .entry)) (now (values .entry)) (now (buffer .entry)) (now (table .entry)) (now (entries .entry)) ⌝ }
-{
-    let given = *entries;
-    match place_table::compress_values(row::writer_of(state), values, buffer, table, given) {
-        TableWriteAnswer::Refused(r, _) => models::fault_of(r),
-        TableWriteAnswer::Written(after, n) => {
-            *entries = n;
-            exports::put_said(Verdict::Passed, &row::written_words(state, after), state)
-        }
-    }
-}
 
 // The writer behind the first k of the `count` values in the buffer's first `used` bytes into the row, and how many
 // entries of their table are of these into `entries`. The table's words are neither read nor changed.

@@ -244,7 +244,7 @@ fn of_table_writing(
     let count = x.m as usize;
     let k = x.n as usize;
     match call {
-        38 => told(exports_table::modelardb_table_compress_values(r, v, p, u, entries)),
+        38 => told(exports_stream::modelardb_table_compress_values(r, v, p, u, entries)),
         _ => told(exports_table::modelardb_table_reopen(
             p,
             used,

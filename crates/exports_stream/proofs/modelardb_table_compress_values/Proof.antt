@@ -1,4 +1,4 @@
--- `exports_table::modelardb_table_compress_values` meets its contract, by what the call behind it said. Assumes nothing.
+-- `exports_stream::modelardb_table_compress_values` meets its contract, by what the call behind it said. Assumes nothing.
 use mathlib.Core.Path.{_≡_, sym, ap, _∙_}
 use mathlib.Core.List.{List}
 use mathlib.Core.Logic.{inl}
@@ -12,13 +12,13 @@ use Rattle.place_table.specs.Calls.{saysTableWrite, tableWriteAnswer, tableWrit
 use Rattle.exports.specs.Face.{stepFault, stepRow}
 use Rattle.exports.specs.inner.Put.{worded}
 use Rattle.exports.proofs.Rows.{step-said, put}
 use Rattle.exports_stream.specs.Row.{writerLength, writerIn}
 use Rattle.exports_stream.proofs.Words.{has-words, written-long}
-use Rattle.exports_table.specs.Calls.{besideWritten, entriesAfter}
-use Rattle.exports_table.proofs.Faces.{stands}
+use Rattle.exports_stream.specs.Tabled.{besideWritten, entriesAfter}
+use Rattle.exports_stream.proofs.Tabled.{stands}
 use borrow.Author.Needs.{needs}
-use Rattle.exports_table.proofs.modelardb_table_compress_values.Statement.{statement}
-use Rattle.exports_table.proofs.modelardb_table_compress_values.Tie as tie
+use Rattle.exports_stream.proofs.modelardb_table_compress_values.Statement.{statement}
+use Rattle.exports_stream.proofs.modelardb_table_compress_values.Tie as tie
 
 module _ (c : tie.After-compress-values) where
   abbrev start : tie.Start
