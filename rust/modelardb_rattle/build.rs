@@ -11,6 +11,9 @@ const LIBRARIES: &str = include_str!("../libraries.txt");
 /// The variable that may name the folder of the libraries.
 const FOLDER: &str = "MODELARDB_STATICLIB";
 
+/// The variable that may name another processor than x86-64 that they are for, as `tools/here` makes them.
+const PROCESSOR: &str = "MODELARDB_STATICLIB_ARCH";
+
 fn main() -> ExitCode {
     match linked() {
         Ok(()) => ExitCode::SUCCESS,
@@ -38,6 +41,7 @@ fn linked() -> Result<(), String> {
     }
     println!("cargo::rerun-if-changed=../libraries.txt");
     println!("cargo::rerun-if-env-changed={FOLDER}");
+    println!("cargo::rerun-if-env-changed={PROCESSOR}");
     println!("cargo::rustc-link-search=native={}", folder.display());
     for name in names {
         println!("cargo::rerun-if-changed={}", file(name).display());
@@ -46,11 +50,12 @@ fn linked() -> Result<(), String> {
     Ok(())
 }
 
-/// The libraries are made for x86-64 Linux alone.
+/// The libraries are made for x86-64 Linux alone, but for those that are named as made for something else.
 fn allowed_target() -> Result<(), String> {
     let of = |part| env::var(format!("CARGO_CFG_TARGET_{part}")).unwrap_or_default();
     let (arch, os) = (of("ARCH"), of("OS"));
-    if (arch.as_str(), os.as_str()) == ("x86_64", "linux") {
+    let made_for = env::var(PROCESSOR).unwrap_or_else(|_| "x86_64".to_owned());
+    if (arch.as_str(), os.as_str()) == (made_for.as_str(), "linux") {
         return Ok(());
     }
     Err(format!(

@@ -1,12 +1,12 @@
--- The entries that a loop of the writer notes: what the table holds after i values, and how one more goes. Assumes nothing.
+-- The entries that the writer notes: what the table holds up to a value, and how it goes on from there. Assumes nothing.
 use mathlib.Core.Path.{_≡_, refl, sym, ap, ap₂, _∙_, subst}
 use mathlib.Core.Bool.{Bool, true, false, cond, true≢false}
 use mathlib.Core.List.{List, [], _∷_, _++_, append-nil}
-use Prim.Native.Nat.{ℕ, zero, suc, _+_, _*_, _/_, _%_, _≤_, _<_}
+use Prim.Native.Nat.{ℕ, zero, suc, _+_, _-_, _*_, _/_, _%_, _≤_, _<_}
 use native.Mathlib.Numerals.{add-one}
 use native.Mathlib.Omega.{arith}
-use borrow.Author.Tests.{eqb-true, eqb-false}
-use lib.Dec.{eqb}
+use borrow.Author.Tests.{ltb-true, ltb-false}
+use lib.Dec.{ltb}
 use lib.ListN.{length, take, getD, set}
 use lib.Seq.{sets, take-suc, take-all, length-take-le}
 use Rattle.stream.specs.Format.{State, rawNext}
@@ -25,34 +25,26 @@ use Rattle.macaque_v.specs.declared.write.Pen.{Pen}
 use Rattle.macaque_v.proofs.Stepping.{PenAt}
 use Rattle.macaque_v.proofs.Writing.{afterFirst, after-count}
 
--- after i of the values xs: the table `words`, which was `old`, and the next value that has an entry
-pub record Noting (note : Bool) (m : MacaqueV) (xs old : List ℕ) (i : ℕ) (words : List ℕ) (due : ℕ) : Type 0 where
-  pub table : words ≡ notedWhere note old m (take i xs)
-  pub next : DueAt note (m .length) (length xs) i due
+-- the table `words`, which was `old`, has the entries of those of the values xs before number `to`; and value `to`, if there is one, has the next
+pub record Noting (note : Bool) (m : MacaqueV) (xs old : List ℕ) (to : ℕ) (words : List ℕ) : Type 0 where
+  pub table : words ≡ notedWhere note old m (take to xs)
+  pub few : to ≤ length xs
+  pub next : note ≡ true → to < length xs → (m .length + to) % spacing ≡ 0
+  pub none : note ≡ false → to ≡ length xs
   pub long : length words ≡ length old
 
 -- there is room for the entries of all values
 abbrev pub Room : Bool → MacaqueV → List ℕ → List ℕ → Type 0
 Room note m xs old = note ≡ true → entriesFor (m .length + length xs) ≤ entriesLent (length old)
 
-pub note-start : (note : Bool) (m : MacaqueV) (xs old : List ℕ) (due : ℕ) → DueAt note (m .length) (length xs) 0 due → Noting note m xs old 0 old due
-unfolding keptFrom entries
-note-start true m xs old due d = record { table = sym (laid-none old (entriesFor (m .length))); next = d; long = refl }
-note-start false m xs old due d = record { table = refl; next = d; long = refl }
+pub note-end : (note : Bool) (m : MacaqueV) (xs old : List ℕ) (to : ℕ) (words : List ℕ) → Noting note m xs old to words → length xs ≤ to → words ≡ notedWhere note old m xs
+note-end note m xs old to words N h = N .table ∙ ap (notedWhere note old m) (take-all to xs h)
 
-pub note-end : (note : Bool) (m : MacaqueV) (xs old : List ℕ) (i : ℕ) (words : List ℕ) (due : ℕ) → Noting note m xs old i words due → length xs ≤ i → words ≡ notedWhere note old m xs
-note-end note m xs old i words due N h = N .table ∙ ap (notedWhere note old m) (take-all i xs h)
-
--- an entry that is due has its place in the table
-pub note-fits : (note : Bool) (m : MacaqueV) (xs old : List ℕ) (i : ℕ) (words : List ℕ) (due : ℕ) → i < length xs → Noting note m xs old i words due → Room note m xs old → i ≡ due
-    → (m .length + i) / spacing < entriesLent (length words)
-note-fits true m xs old i words due h N room e = omega (arith, room refl, N .long)
-note-fits false m xs old i words due h N room e = absurd (omega (arith, N .next))
-
--- and none is due where none is noted
-pub note-idle : (note : Bool) (m : MacaqueV) (xs old : List ℕ) (i : ℕ) (words : List ℕ) (due : ℕ) → i < length xs → Noting note m xs old i words due → note ≡ false → i < due
-note-idle true m xs old i words due h N e = absurd (true≢false e)
-note-idle false m xs old i words due h N e = omega (arith, N .next)
+-- the entry of value `to` has its place in the table
+pub note-fits : (note : Bool) (m : MacaqueV) (xs old : List ℕ) (to : ℕ) (words : List ℕ) → Noting note m xs old to words → Room note m xs old → to < length xs
+    → (m .length + to) / spacing < entriesLent (length words)
+note-fits true m xs old to words N room h = omega (arith, room refl, N .long)
+note-fits false m xs old to words N room h = absurd (omega (arith, h, N .none refl))
 
 -- ---- one value more
 
@@ -72,69 +64,93 @@ module _ (m : MacaqueV) (xs : List ℕ) (i : ℕ) (h : i < length xs) where
   counted : s .count ≡ m .length + i
   counted = after-count m xs i (omega arith)
 
-  -- before which none is due
-  note-pass : (note : Bool) (old words : List ℕ) (due : ℕ) → Noting note m xs old i words due → i < due → Noting note m xs old (i + 1) words due
-  note-pass false old words due N lt = record { table = N .table; next = N .next; long = N .long }
-  note-pass true old words due N lt =
-      let no : s .count % spacing ≡ 0 → ⊥ = λ z. omega (arith, z, counted, lt, N .next .1, N .next .2) in
-      let none : entriesBy m (take (i + 1) xs) ≡ entriesBy m (take i xs) =
-      more ∙ ap (λ (z : List Entry). entriesBy m (take i xs) ++ z) (noted-none (streamBy m) s no) ∙ append-nil (entriesBy m (take i xs)) in
-      record {
-        table = N .table ∙ ap (laidEntries old (entriesFor (m .length))) (sym none);
-        next = (omega arith, omega (arith, N .next .1), N .next .2);
-        long = N .long;
-      }
+  -- one that has no entry
+  without : ((m .length + i) % spacing ≡ 0 → ⊥) → entriesBy m (take (i + 1) xs) ≡ entriesBy m (take i xs)
+  without apart =
+      more
+      ∙ ap (λ (z : List Entry). entriesBy m (take i xs) ++ z) (noted-none (streamBy m) s (λ z. apart (omega (arith, z, counted))))
+      ∙ append-nil (entriesBy m (take i xs))
 
-  note-more-by : (note t : Bool) (old words words′ : List ℕ) (due due′ : ℕ) (p : Pen) (raw : Bool) → raw ≡ rawNext (modeOf (m .«with_first»)) (m .length + i) → PenAt m s i p → eqb i due ≡ t → Noting note m xs old i words due → Room note m xs old
-      → due′ ≡ cond t (i + spacing) due → words′ ≡ cond t (notedBy raw p ((m .length + i) / spacing) words) words
-      → Noting note m xs old (i + 1) words′ due′
-  note-more-by false t old words words′ due due′ p raw same P e N room d w = go t e d w
-    where
-      go : (t : Bool) → eqb i due ≡ t → due′ ≡ cond t (i + spacing) due → words′ ≡ cond t (notedBy raw p ((m .length + i) / spacing) words) words → Noting false m xs old (i + 1) words′ due′
-      go true e d w = absurd (omega (arith, eqb-true i due e, N .next))
-      go false e d w = record { table = w ∙ N .table; next = omega (arith, N .next, d); long = ap length w ∙ N .long }
-  note-more-by true true old words words′ due due′ p raw same P e N room d w =
-      let at : i ≡ due = eqb-true i due e in
-      let k : (m .length + i) / spacing ≡ entriesFor (m .length) + length (entriesBy m (take i xs)) = omega (arith, in-use, N .next .2) in
+  -- one that has: the table after its words
+  with-one : (old words words′ : List ℕ) (p : Pen) (raw : Bool) → raw ≡ rawNext (modeOf (m .«with_first»)) (m .length + i) → PenAt m s i p → Noting true m xs old i words → Room true m xs old
+      → words′ ≡ notedBy raw p ((m .length + i) / spacing) words → words′ ≡ notedWhere true old m (take (i + 1) xs)
+  with-one old words words′ p raw same P N room w =
+      let due : (m .length + i) % spacing ≡ 0 = N .next refl h in
+      let k : (m .length + i) / spacing ≡ entriesFor (m .length) + length (entriesBy m (take i xs)) = omega (arith, in-use, due) in
       let said : entryBy raw p ≡ entryOf (streamBy m) s = ap (λ (b : Bool). entryBy b p) (same ∙ ap (rawNext (modeOf (m .«with_first»))) (sym counted)) ∙ ap (entryOf (streamBy m)) (sym (P .state)) in
-      let one : noted (streamBy m) s ≡ entryBy raw p ∷ [] = noted-one (streamBy m) s (omega (arith, counted, N .next .2)) ∙ ap (λ (x : Entry). x ∷ []) (sym said) in
-      let fits : 4 * entriesFor (m .length) ≤ length old = omega (arith, room refl) in
-      let is : words′ ≡ notedWhere true old m (take (i + 1) xs) =
-      w ∙ ap₂ (λ (n : ℕ) (z : List ℕ). laidEntries z n (entryBy raw p ∷ [])) k (N .table)
-      ∙ laid-more old (entriesFor (m .length)) (entriesBy m (take i xs)) fits (entryBy raw p ∷ [])
-      ∙ ap (laidEntries old (entriesFor (m .length))) (ap (λ (z : List Entry). entriesBy m (take i xs) ++ z) (sym one) ∙ sym more) in
-      record {
-        table = is;
-        next = (omega arith, omega arith, omega (arith, N .next .2));
-        long = ap length w ∙ laid-length words ((m .length + i) / spacing) (entryBy raw p ∷ []) (omega (arith, note-fits true m xs old i words due h N room at)) ∙ N .long;
-      }
-  note-more-by true false old words words′ due due′ p raw same P e N room d w =
-      let apart : ¬ (i ≡ due) = eqb-false i due e in
-      subst (λ (z : List ℕ). Noting true m xs old (i + 1) z due′) (sym w)
-      (subst (λ (n : ℕ). Noting true m xs old (i + 1) words n) (sym d) (note-pass true old words due N (omega (arith, N .next .0, apart))))
+      let one : noted (streamBy m) s ≡ entryBy raw p ∷ [] = noted-one (streamBy m) s (omega (arith, counted, due)) ∙ ap (λ (x : Entry). x ∷ []) (sym said) in
+      w
+      ∙ ap₂ (λ (n : ℕ) (z : List ℕ). laidEntries z n (entryBy raw p ∷ [])) k (N .table)
+      ∙ laid-more old (entriesFor (m .length)) (entriesBy m (take i xs)) (omega (arith, room refl)) (entryBy raw p ∷ [])
+      ∙ ap (laidEntries old (entriesFor (m .length))) (ap (λ (z : List Entry). entriesBy m (take i xs) ++ z) (sym one) ∙ sym more)
 
-  pub note-more : (note : Bool) (old words words′ : List ℕ) (due due′ : ℕ) (p : Pen) (raw : Bool) → raw ≡ rawNext (modeOf (m .«with_first»)) (m .length + i) → PenAt m s i p → Noting note m xs old i words due → Room note m xs old
-      → due′ ≡ cond (eqb i due) (i + spacing) due → words′ ≡ cond (eqb i due) (notedBy raw p ((m .length + i) / spacing) words) words
-      → Noting note m xs old (i + 1) words′ due′
-  note-more note old words words′ due due′ p raw same P N room d w = note-more-by note (eqb i due) old words words′ due due′ p raw same P refl N room d w
+-- ---- values more, up to the next that has an entry
 
--- behind a value the next entry is due later
-pub note-ahead : (note : Bool) (m : MacaqueV) (xs old : List ℕ) (i : ℕ) (words : List ℕ) (due : ℕ) → i < length xs → Noting note m xs old (i + 1) words due → i < due
-note-ahead true m xs old i words due h N = omega (arith, N .next .0)
-note-ahead false m xs old i words due h N = omega (arith, N .next)
-
--- values more, up to the one before which it is due
-pub note-skip : (note : Bool) (m : MacaqueV) (xs old words : List ℕ) (due i k : ℕ) → Noting note m xs old i words due → i + k ≤ due → i + k ≤ length xs → Noting note m xs old (i + k) words due
-note-skip note m xs old words due i zero N far few = subst (λ (j : ℕ). Noting note m xs old j words due) (add-none i) N
+same-entries : (m : MacaqueV) (xs : List ℕ) (due i k : ℕ) → i + k ≤ length xs → i + k ≤ due → due < i + spacing → (m .length + due) % spacing ≡ 0
+    → entriesBy m (take (i + k) xs) ≡ entriesBy m (take i xs)
+same-entries m xs due i zero few far near next = ap (λ (n : ℕ). entriesBy m (take n xs)) (none-more i)
   where
-    add-none : (i : ℕ) → i ≡ i + 0
-    add-none i = omega arith
-note-skip note m xs old words due i (suc k) N far few =
-    subst (λ (j : ℕ). Noting note m xs old j words due) (further i k)
-    (note-pass m xs (i + k) (omega arith) note old words due (note-skip note m xs old words due i k N (omega arith) (omega arith)) (omega arith))
+    none-more : (i : ℕ) → i + 0 ≡ i
+    none-more i = omega arith
+same-entries m xs due i (suc k) few far near next =
+    ap (λ (n : ℕ). entriesBy m (take n xs)) (further i k)
+    ∙ without m xs (i + k) (omega arith) (λ z. omega (arith, z, next, far, near))
+    ∙ same-entries m xs due i k (omega arith) (omega arith) near next
   where
-    further : (i k : ℕ) → i + k + 1 ≡ i + suc k
+    further : (i k : ℕ) → i + suc k ≡ i + k + 1
     further i k = omega arith
+
+up-to : (m : MacaqueV) (xs : List ℕ) (due i to : ℕ) → i ≤ to → to ≤ length xs → to ≤ due → due < i + spacing → (m .length + due) % spacing ≡ 0
+    → entriesBy m (take to xs) ≡ entriesBy m (take i xs)
+up-to m xs due i to from few far near next =
+    ap (λ (n : ℕ). entriesBy m (take n xs)) (apart i to from) ∙ same-entries m xs due i (to - i) (omega arith) (omega arith) near next
+  where
+    apart : (i to : ℕ) → i ≤ to → to ≡ i + (to - i)
+    apart i to h = omega arith
+
+-- before the first value, none up to the first that has one
+pub note-start : (note : Bool) (m : MacaqueV) (xs old : List ℕ) (due to : ℕ) → DueAt note (m .length) (length xs) 0 due → to ≡ due - (due - length xs) → Noting note m xs old to old
+unfolding keptFrom entries
+note-start true m xs old due to d e =
+    let none : entriesBy m (take to xs) ≡ [] = up-to m xs due 0 to (omega arith) (omega (arith, e)) (omega (arith, e)) (omega (arith, d .1)) (d .2) in
+    record {
+      table = sym (laid-none old (entriesFor (m .length))) ∙ ap (laidEntries old (entriesFor (m .length))) (sym none);
+      few = omega (arith, e);
+      next = λ t h. subst (λ (n : ℕ). (m .length + n) % spacing ≡ 0) (omega (arith, e, h)) (d .2);
+      none = λ f. absurd (true≢false f);
+      long = refl;
+    }
+note-start false m xs old due to d e =
+    record { table = refl; few = omega (arith, e, d); next = λ t h. absurd (true≢false (sym t)); none = λ f. omega (arith, e, d); long = refl }
+
+-- before value i, which has one: that one, and up to the next
+note-more : (note : Bool) (m : MacaqueV) (xs old words words′ : List ℕ) (i to : ℕ) (p : Pen) (raw : Bool) → i < length xs → raw ≡ rawNext (modeOf (m .«with_first»)) (m .length + i)
+    → PenAt m (afterFirst m xs i) i p → Noting note m xs old i words → Room note m xs old → words′ ≡ notedBy raw p ((m .length + i) / spacing) words → to ≡ (i + spacing) - ((i + spacing) - length xs)
+    → Noting note m xs old to words′
+note-more false m xs old words words′ i to p raw h same P N room w e = absurd (omega (arith, h, N .none refl))
+note-more true m xs old words words′ i to p raw h same P N room w e =
+    let due : (m .length + (i + spacing)) % spacing ≡ 0 = omega (arith, N .next refl h) in
+    let on : entriesBy m (take to xs) ≡ entriesBy m (take (i + 1) xs) = up-to m xs (i + spacing) (i + 1) to (omega (arith, e, h)) (omega (arith, e)) (omega (arith, e)) (omega arith) due in
+    record {
+      table = with-one m xs i h old words words′ p raw same P N room w ∙ ap (laidEntries old (entriesFor (m .length))) (sym on);
+      few = omega (arith, e);
+      next = λ t l. omega (arith, e, l, due);
+      none = λ f. absurd (true≢false f);
+      long = ap length w ∙ laid-length words ((m .length + i) / spacing) (entryBy raw p ∷ []) (omega (arith, note-fits true m xs old i words N room h)) ∙ N .long;
+    }
+
+-- and where there is no value i, nothing
+pub note-on : (note : Bool) (m : MacaqueV) (xs old words words′ : List ℕ) (i to : ℕ) (p : Pen) (raw : Bool) → (i < length xs → raw ≡ rawNext (modeOf (m .«with_first»)) (m .length + i))
+    → PenAt m (afterFirst m xs i) i p → Noting note m xs old i words → Room note m xs old
+    → words′ ≡ cond (ltb i (length xs)) (notedBy raw p ((m .length + i) / spacing) words) words → to ≡ (i + spacing) - ((i + spacing) - length xs)
+    → Noting note m xs old to words′
+note-on note m xs old words words′ i to p raw same P N room w e = go (ltb i (length xs)) refl w
+  where
+    go : (b : Bool) → ltb i (length xs) ≡ b → words′ ≡ cond b (notedBy raw p ((m .length + i) / spacing) words) words → Noting note m xs old to words′
+    go true t w = let h : i < length xs = ltb-true i (length xs) t in note-more note m xs old words words′ i to p raw h (same h) P N room w e
+    go false t w =
+        subst (λ (z : List ℕ). Noting note m xs old to z) (sym w)
+        (subst (λ (n : ℕ). Noting note m xs old n words) (omega (arith, e, ltb-false i (length xs) t, N .few)) N)
 
 -- ---- an entry's four words, one after another
 

@@ -1,13 +1,14 @@
 // The entries of a place table, as the writer notes them: where the next one is due, and its words.
 ghost use mathlib.Core.Path.{_≡_};
-ghost use mathlib.Core.Bool.{cond, false};
-ghost use Prim.Native.Nat.{ℕ, _+_, _/_, _≤_, _<_};
-ghost use lib.Dec.{eqb};
+ghost use mathlib.Core.Bool.{cond};
+ghost use Prim.Native.Nat.{_+_, _-_, _/_, _≤_, _<_};
+ghost use lib.Dec.{ltb};
 ghost use lib.ListN.{length};
 ghost use Rattle.models.specs.Limits.{mostValues};
 ghost use Rattle.places.specs.Table.{spacing};
 ghost use Rattle.places.specs.Calls.{entriesLent};
 ghost use Rattle.macaque_v.specs.inner.Noting.{DueAt, notedBy};
+use crate::read_run;
 use crate::write::Pen;
 
 // How many values lie between two entries, and how many words an entry takes.
@@ -15,7 +16,7 @@ pub const SPACING: usize = 64;
 
 pub const WORDS: usize = 4;
 
-// Which of n values, behind `count` others, is the first with an entry; n or more where none has one, or none is noted.
+// Which of n values, behind `count` others, is the first with an entry, if it is one of them; n where none is noted.
 pub fn first_due(count: usize, n: usize, note: bool) -> usize
     requires { ⌜ count + n ≤ mostValues ⌝ }
     ensures { λ r. ⌜ DueAt note count n 0 r ⌝ }
@@ -26,26 +27,15 @@ pub fn first_due(count: usize, n: usize, note: bool) -> usize
     n
 }
 
-// The entry of where the pen stands, before value i of those behind `count` others, where it is due; and which value is due next. None is due where
-// none is noted: that is told besides, so that the compiler leaves all of this out of a loop that notes none.
-pub fn noted(
-    table: &mut [u64],
-    pen: Pen,
-    raw: bool,
-    count: usize,
-    i: usize,
-    due: usize,
-    note: bool,
-) -> usize
-    requires { ⌜ (count + i < mostValues) × (i ≡ due → (count + i) / spacing < entriesLent (length (now table))) × (note ≡ false → i < due) ⌝ }
-    ensures next { λ r. ⌜ r ≡ cond (eqb i due) (i + spacing) due ⌝ }
-    ensures words { λ r. ⌜ now (table .exit) ≡ cond (eqb i due) (notedBy raw pen ((count + i) / spacing) (now (table .entry))) (now (table .entry)) ⌝ }
+// The entry of where the pen stands, before value i of n behind `count` others, if there is that value; and up to which value the
+// next entry is not due.
+pub fn noted(table: &mut [u64], pen: Pen, raw: bool, count: usize, i: usize, n: usize) -> usize
+    requires { ⌜ (count + n ≤ mostValues) × (i ≤ n) × (i < n → (count + i) / spacing < entriesLent (length (now table))) ⌝ }
+    ensures next { λ r. ⌜ r ≡ (i + spacing) - ((i + spacing) - n) ⌝ }
+    ensures words { λ r. ⌜ now (table .exit) ≡ cond (ltb i n) (notedBy raw pen ((count + i) / spacing) (now (table .entry))) (now (table .entry)) ⌝ }
 {
-    if !note {
-        return due;
-    }
-    if i != due {
-        return due;
+    if n <= i {
+        return n;
     }
     let last = last_before(raw, pen.last);
     let at = WORDS * ((count + i) / SPACING);
@@ -53,17 +43,7 @@ pub fn noted(
     table[at + 1] = last;
     table[at + 2] = pen.lead as u64;
     table[at + 3] = pen.trail as u64;
-    i + SPACING
-}
-
-// The end of the values that are written before an entry is due, among n.
-pub fn until(due: usize, n: usize) -> usize
-    ensures { λ r. ⌜ (r ≤ due) × (r ≤ n) × ((i : ℕ) → i < due → i < n → i < r) ⌝ }
-{
-    if due < n {
-        return due;
-    }
-    n
+    read_run::smaller(i + SPACING, n)
 }
 
 // The last value kept before the next one; before a raw one there is none, and 0 stands for it.

@@ -8,10 +8,10 @@ use Rattle.places.specs.Table.{spacing, Entry}
 use Rattle.places.specs.Calls.{laidEntries}
 use Rattle.macaque_v.specs.declared.write.Pen.{Pen}
 
--- of the values from number i on, behind `count` others, `due` is the first with an entry; none of n where none is noted
+-- of the values from number i on, behind `count` others, `due` is the first with an entry; n, behind them all, where none is noted
 abbrev pub DueAt : Bool → ℕ → ℕ → ℕ → ℕ → Type 0
 DueAt true count n i due = (i ≤ due) × (due < i + spacing) × ((count + due) % spacing ≡ 0)
-DueAt false count n i due = n ≤ due
+DueAt false count n i due = due ≡ n
 
 -- the entry of where the pen stands, before a value that is raw or not
 abbrev pub entryBy : Bool → Pen → Entry

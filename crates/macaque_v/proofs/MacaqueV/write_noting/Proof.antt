@@ -17,104 +17,92 @@ use Rattle.stream.specs.Format.{State}
 use Rattle.stream.specs.Write.{bitsOne}
 use Rattle.macaque_v.specs.State.{Known}
 use Rattle.macaque_v.specs.Write.{streamBy, wroteBy, writerAt}
-use Rattle.macaque_v.specs.inner.Write.{writtenBy, laidWhere, RawAt, leftBy}
+use Rattle.macaque_v.specs.inner.Write.{writtenBy, laidWhere, notedWhere, RawAt, leftBy}
 use Rattle.macaque_v.specs.declared.MacaqueV.{MacaqueV}
 use borrow.Author.Tests.{ltb-true}
 use Rattle.models.proofs.Tests.{and-left, and-right}
 use Rattle.macaque_v.proofs.Stepping.{PenAt}
-use Rattle.macaque_v.proofs.Entering.{Noting, Room, note-start, note-more, note-fits, note-idle, note-ahead, note-skip, note-end}
+use Rattle.macaque_v.proofs.Entering.{Noting, Room, note-start, note-on, note-fits, note-end}
 use Rattle.macaque_v.proofs.Writing.{Laying, lay-start, lay-next, lay-long, lay-end, lay-none, place-grows, afterFirst, keptAt, after-most, pen-start, pen-more, left-is, next-place, step-digits}
 use Rattle.macaque_v.proofs.MacaqueV.write_noting.Statement.{statement}
 use Rattle.macaque_v.proofs.MacaqueV.write_noting.Tie as tie
 
--- the inner loop goes on with the pen and the buffer, up to the value before which the next entry is due
+-- the inner loop goes on with the pen and the buffer, up to the value that has the next entry
 abbrev Inv-loop2 : tie.InvT-loop2
-Inv-loop2 self values buffer₀ lay table note error-bound count raw due pen₀ waiting₀ i₀ to buffer pen waiting i =
+Inv-loop2 self values buffer₀ lay table note error-bound count raw due to pen₀ waiting₀ i₀ buffer pen waiting i =
     (i ≤ to) × PenAt self (afterFirst self values i) i pen
     × ((old : List ℕ) → (lay ≡ true → wroteBy self values .place ≤ 8 * length old) → Laying lay self values old i₀ buffer₀ waiting₀ → Laying lay self values old i buffer waiting)
 
 abbrev μ-loop2 : tie.MeasureT-loop2
-μ-loop2 self values buffer₀ lay table note error-bound count raw due pen₀ waiting₀ i₀ to buffer pen waiting i = to - i
+μ-loop2 self values buffer₀ lay table note error-bound count raw due to pen₀ waiting₀ i₀ buffer pen waiting i = to - i
 
 abbrev Inv-loop : tie.InvT-loop
-Inv-loop self values buffer₀ lay table₀ note error-bound count raw due₀ pen₀ waiting₀ i₀ buffer table due pen waiting i =
-    (i ≤ length values) × PenAt self (afterFirst self values i) i pen × Laying lay self values buffer₀ i buffer waiting × Noting note self values table₀ i table due
+Inv-loop self values buffer₀ lay table₀ note error-bound count raw due to₀ pen₀ waiting₀ i₀ buffer table to pen waiting i =
+    (i ≤ to) × PenAt self (afterFirst self values i) i pen × Laying lay self values buffer₀ i buffer waiting × Noting note self values table₀ to table
 
+-- each turn writes up to `to` and, but for the last, puts it further
 abbrev μ-loop : tie.MeasureT-loop
-μ-loop self values buffer₀ lay table₀ note error-bound count raw due₀ pen₀ waiting₀ i₀ buffer table due pen waiting i = length values - i
+μ-loop self values buffer₀ lay table₀ note error-bound count raw due to₀ pen₀ waiting₀ i₀ buffer table to pen waiting i = (length values - i) + (length values - to)
 
 -- the least and the greatest value are words of 32 bits
 small : (c : tie.Start Inv-loop2 μ-loop2 Inv-loop μ-loop) → (c .args .self .«min_value» < 2 ^ 32) × (c .args .self .«max_value» < 2 ^ 32)
 small c = (omega arith, omega arith)
 
 -- ---- in the loop: the arguments, and the buffer that it begins with, which is as it was
+abbrev start : tie.At-loop Inv-loop2 μ-loop2 Inv-loop μ-loop → tie.Start Inv-loop2 μ-loop2 Inv-loop μ-loop
+start c = c .before .before .before .before .before .before .before .before .before .before .before .before
+
 abbrev self : tie.At-loop Inv-loop2 μ-loop2 Inv-loop μ-loop → MacaqueV
-self c = c .before .before .before .before .before .before .before .before .before .before .before .args .self
+self c = start c .args .self
 
 abbrev values : tie.At-loop Inv-loop2 μ-loop2 Inv-loop μ-loop → List ℕ
-values c = c .before .before .before .before .before .before .before .before .before .before .before .args .values .now
+values c = start c .args .values .now
 
 abbrev lay : tie.At-loop Inv-loop2 μ-loop2 Inv-loop μ-loop → Bool
-lay c = c .before .before .before .before .before .before .before .before .before .before .before .args .lay
+lay c = start c .args .lay
 
 abbrev buffer₀ : tie.At-loop Inv-loop2 μ-loop2 Inv-loop μ-loop → List ℕ
 buffer₀ c = c .before .before .before .opened .last .0
 
-begun : (c : tie.At-loop Inv-loop2 μ-loop2 Inv-loop μ-loop) → buffer₀ c ≡ c .before .before .before .before .before .before .before .before .before .before .before .args .buffer .now
+begun : (c : tie.At-loop Inv-loop2 μ-loop2 Inv-loop μ-loop) → buffer₀ c ≡ start c .args .buffer .now
 begun c = c .before .before .before .opened .ensures .1
 
 -- the table that it begins with, and what is noted in it
 abbrev note : tie.At-loop Inv-loop2 μ-loop2 Inv-loop μ-loop → Bool
-note c = c .before .before .before .before .before .before .before .before .before .before .before .args .note
+note c = start c .args .note
 
 abbrev table₀ : tie.At-loop Inv-loop2 μ-loop2 Inv-loop μ-loop → List ℕ
-table₀ c = c .before .before .before .before .before .before .before .before .before .before .before .args .table .now
+table₀ c = start c .args .table .now
 
 entered : (c : tie.At-loop Inv-loop2 μ-loop2 Inv-loop μ-loop) → Room (note c) (self c) (values c) (table₀ c)
-entered c = c .before .before .before .before .before .before .before .before .before .before .before .pre .3
+entered c = start c .pre .3
 
 -- which value is raw
 abbrev raw : tie.At-loop Inv-loop2 μ-loop2 Inv-loop μ-loop → ℕ
-raw c = c .before .before .before .before .before .before .before .raw-at .result
+raw c = c .before .before .before .before .before .before .before .before .raw-at .result
 
 rawAt : (c : tie.At-loop Inv-loop2 μ-loop2 Inv-loop μ-loop) → RawAt (self c) (length (values c)) (raw c)
-rawAt c = c .before .before .before .before .before .before .before .raw-at .ensures
+rawAt c = c .before .before .before .before .before .before .before .before .raw-at .ensures
 
 -- there is room in the buffer that it begins with
 room : (c : tie.At-loop Inv-loop2 μ-loop2 Inv-loop μ-loop) → lay c ≡ true → wroteBy (self c) (values c) .place ≤ 8 * length (buffer₀ c)
-room c e = omega (arith, ap length (begun c), c .before .before .before .before .before .before .before .before .before .before .before .pre .1 e)
+room c e = omega (arith, ap length (begun c), start c .pre .1 e)
 
 laying-from : (c : tie.At-loop Inv-loop2 μ-loop2 Inv-loop μ-loop) → lay c ≡ true → Laying true (self c) (values c) (buffer₀ c) (c .loop .i) (c .loop .buffer) (c .loop .waiting)
 laying-from c e = subst (λ (b : Bool). Laying b (self c) (values c) (buffer₀ c) (c .loop .i) (c .loop .buffer) (c .loop .waiting)) e (c .loop .inv .2)
 
+few-of : (c : tie.At-loop Inv-loop2 μ-loop2 Inv-loop μ-loop) → c .loop .i ≤ length (values c)
+few-of c = omega (arith, c .loop .inv .0, c .loop .inv .3 .few)
+
 most-of : (c : tie.At-loop Inv-loop2 μ-loop2 Inv-loop μ-loop) → (afterFirst (self c) (values c) (c .loop .i)) .place ≤ self c .place + 45 * c .loop .i
-most-of c = after-most (self c) (values c) (c .loop .i) (c .loop .inv .0)
-
--- ---- where an entry was noted, if it was due: the table after it, and how far the values go till the next
-abbrev from : tie.After-until Inv-loop2 μ-loop2 Inv-loop μ-loop → tie.At-loop Inv-loop2 μ-loop2 Inv-loop μ-loop
-from c = c .before .before .before .before .before .before
-
-some-value : (c : tie.After-until Inv-loop2 μ-loop2 Inv-loop μ-loop) → from c .loop .i < length (values (from c))
-some-value c = c .before .before .before .before .before .loop-test .taken
-
-entering : (c : tie.After-until Inv-loop2 μ-loop2 Inv-loop μ-loop) → Noting (note (from c)) (self (from c)) (values (from c)) (table₀ (from c)) (from c .loop .i + 1) (c .before .before .before .noted .last .0) (c .before .before .before .noted .result)
-entering c =
-    let l = from c in
-    let N = c .before .before .before .noted in
-    note-more (self l) (values l) (l .loop .i) (some-value c) (note l) (table₀ l) (l .loop .table) (N .last .0) (l .loop .due) (N .result) (l .loop .pen) (eqb (l .loop .i) (raw l)) (rawAt l (l .loop .i) (some-value c)) (l .loop .inv .1) (l .loop .inv .3) (entered l) (N .ensures .0) (N .ensures .1)
-
-goes-on : (c : tie.After-until Inv-loop2 μ-loop2 Inv-loop μ-loop) → from c .loop .i < c .until .result
-goes-on c =
-    let l = from c in
-    let N = c .before .before .before .noted in
-    c .until .ensures .2 (l .loop .i) (note-ahead (note l) (self l) (values l) (table₀ l) (l .loop .i) (N .last .0) (N .result) (some-value c) (entering c)) (some-value c)
+most-of c = after-most (self c) (values c) (c .loop .i) (few-of c)
 
 -- ---- in the inner loop
 abbrev outer : tie.At-loop2 Inv-loop2 μ-loop2 Inv-loop μ-loop → tie.At-loop Inv-loop2 μ-loop2 Inv-loop μ-loop
-outer c = from (c .before)
+outer c = c .before .before
 
 few : (c : tie.At-loop2 Inv-loop2 μ-loop2 Inv-loop μ-loop) → c .loop2 .i ≤ length (values (outer c))
-few c = omega (arith, c .loop2 .inv .0, c .before .until .ensures .1)
+few c = omega (arith, c .loop2 .inv .0, outer c .loop .inv .3 .few)
 
 -- where the pen stands
 here : (c : tie.At-loop2 Inv-loop2 μ-loop2 Inv-loop μ-loop) → c .loop2 .pen .place ≡ (afterFirst (self (outer c)) (values (outer c)) (c .loop2 .i)) .place
@@ -135,7 +123,7 @@ abbrev atLoop : tie.After-step Inv-loop2 μ-loop2 Inv-loop μ-loop → tie.At-lo
 atLoop c = c .before .before .before
 
 next-value : (c : tie.After-step Inv-loop2 μ-loop2 Inv-loop μ-loop) → atLoop c .loop2 .i < length (values (outer (atLoop c)))
-next-value c = omega (arith, c .before .before .loop2-test .taken, atLoop c .before .until .ensures .1)
+next-value c = omega (arith, c .before .before .loop2-test .taken, outer (atLoop c) .loop .inv .3 .few)
 
 digits : (c : tie.After-step Inv-loop2 μ-loop2 Inv-loop μ-loop)
     → field (c .step .result .width) (c .step .result .bits) ≡ bitsOne (streamBy (self (outer (atLoop c)))) (afterFirst (self (outer (atLoop c))) (values (outer (atLoop c))) (atLoop c .loop2 .i)) (keptAt (self (outer (atLoop c))) (values (outer (atLoop c))) (atLoop c .loop2 .i))
@@ -154,51 +142,69 @@ moved c =
 left : (c : tie.After-loop Inv-loop2 μ-loop2 Inv-loop μ-loop) → leftBy (self (c .before)) (c .before .loop .pen) (c .before .loop .i) ≡ writerAt (self (c .before)) (wroteBy (self (c .before)) (values (c .before)))
 left c =
     let l = c .before in
-    left-is (self l) (values l) (l .loop .i) (l .loop .inv .0) (l .loop .pen) (l .loop .inv .1)
+    left-is (self l) (values l) (l .loop .i) (few-of l) (l .loop .pen) (l .loop .inv .1)
     ∙ ap (λ (ys : List ℕ). writerAt (self l) (wroteBy (self l) ys)) (take-all (l .loop .i) (values l) (c .loop-test .left))
+
+-- and the table
+all-noted : (c : tie.After-loop Inv-loop2 μ-loop2 Inv-loop μ-loop) → c .before .loop .table ≡ notedWhere (note (c .before)) (table₀ (c .before)) (self (c .before)) (values (c .before))
+all-noted c =
+    let l = c .before in
+    note-end (note l) (self l) (values l) (table₀ l) (l .loop .to) (l .loop .table) (l .loop .inv .3) (omega (arith, c .loop-test .left, l .loop .inv .0))
 
 loop-holds : tie.Need-loop-holds Inv-loop2 μ-loop2 Inv-loop μ-loop
 loop-holds c =
-    let a = c .before .before .before .before .before .before .before .before .before .before .args in
+    let b = c .before .before .before .before .before .before .before .before .before .before .before in
+    let a = b .args in
     let o = c .before .before .opened in (
       omega arith,
-      pen-start (a .self) (a .values .now) (c .before .before .before .before .pen .result) (c .before .before .before .before .pen .ensures) (small (c .before .before .before .before .before .before .before .before .before .before) .0) (small (c .before .before .before .before .before .before .before .before .before .before) .1),
-      lay-start (a .lay) (a .self) (a .values .now) (a .buffer .now) (o .last .0) (o .result) (o .ensures .1) (λ n. c .slice-known3 .given n .fits) (o .ensures .0) (c .before .before .before .before .before .before .before .before .before .before .pre .1),
-      note-start (a .note) (a .self) (a .values .now) (a .table .now) (c .before .before .before .before .before .first-due .result) (c .before .before .before .before .before .first-due .ensures),
+      pen-start (a .self) (a .values .now) (c .before .before .before .before .pen .result) (c .before .before .before .before .pen .ensures) (small b .0) (small b .1),
+      lay-start (a .lay) (a .self) (a .values .now) (a .buffer .now) (o .last .0) (o .result) (o .ensures .1) (λ n. c .slice-known3 .given n .fits) (o .ensures .0) (b .pre .1),
+      note-start (a .note) (a .self) (a .values .now) (a .table .now) (c .before .before .before .before .before .before .first-due .result) (c .before .before .before .before .before .smaller .result) (c .before .before .before .before .before .before .first-due .ensures) (c .before .before .before .before .before .smaller .ensures),
     )
+
+loop2-holds : tie.Need-loop2-holds Inv-loop2 μ-loop2 Inv-loop μ-loop
+loop2-holds c = (c .before .loop .inv .0, c .before .loop .inv .1, λ old room L. L)
+
+-- ---- behind the inner loop: the value that has the next entry, or none
+ended : (c : tie.After-loop2 Inv-loop2 μ-loop2 Inv-loop μ-loop) → c .before .loop2 .i ≡ outer (c .before) .loop .to
+ended c = omega (arith, c .before .loop2 .inv .0, c .loop2-test .left)
+
+noting : (c : tie.After-loop2 Inv-loop2 μ-loop2 Inv-loop μ-loop)
+    → Noting (note (outer (c .before))) (self (outer (c .before))) (values (outer (c .before))) (table₀ (outer (c .before))) (c .before .loop2 .i) (outer (c .before) .loop .table)
+noting c =
+    let o = outer (c .before) in
+    subst (λ (n : ℕ). Noting (note o) (self o) (values o) (table₀ o) n (o .loop .table)) (sym (ended c)) (o .loop .inv .3)
 
 noted-requires : tie.Need-noted-requires Inv-loop2 μ-loop2 Inv-loop μ-loop
 noted-requires c κs =
     let l = c .before .before in
-    let more : l .loop .i < length (values l) = c .before .loop-test .taken in
-    let few : self l .length + l .loop .i < mostValues = omega (arith, l .before .before .before .before .before .before .before .before .before .before .before .pre .0) in (
-      few,
-      note-fits (note l) (self l) (values l) (table₀ l) (l .loop .i) (l .loop .table) (l .loop .due) more (l .loop .inv .3) (entered l),
-      note-idle (note l) (self l) (values l) (table₀ l) (l .loop .i) (l .loop .table) (l .loop .due) more (l .loop .inv .3),
-    )
+    let o = outer l in
+    (start o .pre .0, few l, note-fits (note o) (self o) (values o) (table₀ o) (l .loop2 .i) (o .loop .table) (noting (c .before)) (entered o))
 
-loop2-holds : tie.Need-loop2-holds Inv-loop2 μ-loop2 Inv-loop μ-loop
-loop2-holds c =
-    let l = from c in
-    (omega (arith, goes-on c), l .loop .inv .1, λ old room L. L)
+-- ---- behind the entry
+abbrev behind : tie.After-noted Inv-loop2 μ-loop2 Inv-loop μ-loop → tie.After-loop2 Inv-loop2 μ-loop2 Inv-loop μ-loop
+behind c = c .before .before
+
+further : (c : tie.After-noted Inv-loop2 μ-loop2 Inv-loop μ-loop)
+    → Noting (note (outer (behind c .before))) (self (outer (behind c .before))) (values (outer (behind c .before))) (table₀ (outer (behind c .before))) (c .noted .result) (c .noted .last .0)
+further c =
+    let l = behind c .before in
+    let o = outer l in
+    note-on (note o) (self o) (values o) (table₀ o) (o .loop .table) (c .noted .last .0) (l .loop2 .i) (c .noted .result) (l .loop2 .pen) (eqb (l .loop2 .i) (raw o)) (rawAt o (l .loop2 .i)) (l .loop2 .inv .1)
+    (noting (behind c)) (entered o) (c .noted .ensures .1) (c .noted .ensures .0)
 
 loop-less : tie.Need-loop-less Inv-loop2 μ-loop2 Inv-loop μ-loop
-loop-less c = omega (arith, goes-on (c .before .before), c .loop2-test .left, some-value (c .before .before))
+loop-less c =
+    let k = c .before .before in
+    let l = behind k .before in
+    let o = outer l in
+    omega (arith, k .noted .ensures .0, ended (behind k), l .before .loop-test .taken, o .loop .inv .0, o .loop .inv .3 .few)
 
 loop-again : tie.Need-loop-again Inv-loop2 μ-loop2 Inv-loop μ-loop
 loop-again c =
-    let k = c .before in
-    let o = outer k in
-    let u = k .before in
-    let N = u .before .before .before .noted in
-    let there : k .loop2 .i ≡ o .loop .i + 1 + (k .loop2 .i - (o .loop .i + 1)) = omega (arith, goes-on u, c .loop2-test .left) in (
-      few k,
-      k .loop2 .inv .1,
-      lays k,
-      subst (λ (j : ℕ). Noting (note o) (self o) (values o) (table₀ o) j (N .last .0) (N .result)) (sym there)
-          (note-skip (note o) (self o) (values o) (table₀ o) (N .last .0) (N .result) (o .loop .i + 1) (k .loop2 .i - (o .loop .i + 1)) (entering u)
-          (omega (arith, there, k .loop2 .inv .0, u .until .ensures .0)) (omega (arith, there, few k))),
-    )
+    let k = c .before .before in
+    let l = behind k .before in
+    (omega (arith, k .noted .ensures .0, few l), l .loop2 .inv .1, lays l, further k)
 
 step-requires : tie.Need-step-requires Inv-loop2 μ-loop2 Inv-loop μ-loop
 step-requires c κs = omega (arith, here (c .before .before), most (c .before .before))
@@ -222,7 +228,7 @@ append-requires c κs =
 add-i : tie.Need-add-i Inv-loop2 μ-loop2 Inv-loop μ-loop
 add-i c =
     let k = c .before .before .before .before .before .before in
-    omega (arith, next-value k, outer (atLoop k) .before .before .before .before .before .before .before .before .before .before .before .pre .0)
+    omega (arith, next-value k, start (outer (atLoop k)) .pre .0)
 
 loop2-again : tie.Need-loop2-again Inv-loop2 μ-loop2 Inv-loop μ-loop
 loop2-again c =
@@ -242,7 +248,7 @@ loop2-again c =
 add-i-2 : tie.Need-add-i-2 Inv-loop2 μ-loop2 Inv-loop μ-loop
 add-i-2 c =
     let k = c .before .before in
-    omega (arith, next-value k, outer (atLoop k) .before .before .before .before .before .before .before .before .before .before .before .pre .0)
+    omega (arith, next-value k, start (outer (atLoop k)) .pre .0)
 
 loop2-again-2 : tie.Need-loop2-again-2 Inv-loop2 μ-loop2 Inv-loop μ-loop
 loop2-again-2 c =
@@ -261,7 +267,7 @@ mul-put : tie.Need-mul-put Inv-loop2 μ-loop2 Inv-loop μ-loop
 mul-put c =
     let l = c .before .before .before .before in
     let L = laying-from l (and-left _ _ (c .before .before .if2 .taken)) in
-    omega (arith, L .1 .here, most-of l, l .loop .inv .0, l .before .before .before .before .before .before .before .before .before .before .before .pre .2)
+    omega (arith, L .1 .here, most-of l, few-of l, start l .pre .2)
 
 put-requires : tie.Need-put-requires Inv-loop2 μ-loop2 Inv-loop μ-loop
 put-requires c κs =
@@ -293,7 +299,7 @@ returns c =
         lay-end (lay l) (self l) (values l) (buffer₀ l) (l .loop .i) (l .loop .buffer) (l .loop .waiting) (c .before .before .before .put .last .0) (l .loop .inv .2) (and-left (lay l) (ltb 0 (l .loop .i)) t)
             (ltb-true 0 (l .loop .i) (and-right (lay l) (ltb 0 (l .loop .i)) t)) (c .before .before .before .before .before .before .before .loop-test .left) (c .before .before .before .put .ensures)
             ∙ ap (λ (b : List ℕ). laidWhere (lay l) b (self l .place) (writtenBy (self l) (values l))) (begun l),
-        note-end (note l) (self l) (values l) (table₀ l) (l .loop .i) (l .loop .table) (l .loop .due) (l .loop .inv .3) (c .before .before .before .before .before .before .before .loop-test .left),
+        all-noted (c .before .before .before .before .before .before .before),
       ),
     )
 
@@ -312,7 +318,7 @@ returns-2 c =
       (
         lay-none (lay l) (self l) (values l) (buffer₀ l) (l .loop .i) (l .loop .buffer) (l .loop .waiting) (λ n. l .before .slice-known3 .given n .fits) (l .loop .inv .2) (c .before .if2 .left) (c .before .before .loop-test .left)
             ∙ ap (λ (b : List ℕ). laidWhere (lay l) b (self l .place) (writtenBy (self l) (values l))) (begun l),
-        note-end (note l) (self l) (values l) (table₀ l) (l .loop .i) (l .loop .table) (l .loop .due) (l .loop .inv .3) (c .before .before .loop-test .left),
+        all-noted (c .before .before),
       ),
     )
 
@@ -328,12 +334,9 @@ write-noting-spec =
     (λ c κs. search needs)
     (λ c κs. search needs)
     (λ c κs. search needs)
-    loop-holds
-    noted-requires
     (λ c κs. search needs)
+    loop-holds
     loop2-holds
-    loop-less
-    loop-again
     (λ c. search needs)
     (λ c. search needs)
     step-requires
@@ -344,6 +347,9 @@ write-noting-spec =
     add-i-2
     (λ c. omega arith)
     loop2-again-2
+    noted-requires
+    loop-less
+    loop-again
     mul-put
     put-requires
     (λ c κs. omega arith)

@@ -1,6 +1,6 @@
 -- `macaque_v::noting::first_due` meets its contract. Assumes nothing.
 use borrow.Author.Needs.{needs}
-use mathlib.Core.Path.{sym, subst}
+use mathlib.Core.Path.{refl, sym, subst}
 use mathlib.Core.Bool.{Bool}
 use Prim.Native.Nat.{_+_, _-_, _%_}
 use native.Mathlib.Omega.{arith}
@@ -16,7 +16,7 @@ returns c =
 returns-2 : tie.Need-returns-2
 returns-2 c =
     let a = c .before .args in
-    subst (λ (b : Bool). DueAt b (a .count) (a .n) 0 (a .n)) (sym (c .if1 .left)) (omega arith)
+    subst (λ (b : Bool). DueAt b (a .count) (a .n) 0 (a .n)) (sym (c .if1 .left)) refl
 
 pub first-due-spec : {M : Type 1} → statement M
 first-due-spec = tie.close (tie.spec (λ c. search needs) (λ c. search needs) (λ c. search needs) (λ c. search needs) returns returns-2)

@@ -1,7 +1,6 @@
--- `macaque_v::noting::noted` meets its contract: the four words of the entry, where it is due. Assumes nothing.
+-- `macaque_v::noting::noted` meets its contract: the four words of the entry, where there is the value. Assumes nothing.
 use borrow.Author.Needs.{needs}
-use borrow.Author.Tests.{eq-eqb, ne-eqb}
-use mathlib.Core.Bool.{Bool, true, false, not, false≢true}
+use borrow.Author.Tests.{lt-ltb, le-ltb}
 use mathlib.Core.Path.{_≡_, refl, sym, ap, _∙_}
 use Prim.Native.Nat.{ℕ, _+_, _*_, _/_, _≤_}
 use native.Mathlib.Omega.{arith}
@@ -11,37 +10,27 @@ use Rattle.macaque_v.proofs.Entering.{stored}
 use Rattle.macaque_v.proofs.noting.noted.Statement.{statement}
 use Rattle.macaque_v.proofs.noting.noted.Tie as tie
 
-not-true : (b : Bool) → not b ≡ true → b ≡ false
-not-true true e = absurd (false≢true e)
-not-true false e = refl
-
--- it is due, and its words are in the table
-fits : (c : tie.Else2) → 4 * ((c .before .before .before .args .count + c .before .before .before .args .i) / 64) + 4 ≤ length (c .before .before .before .args .table .now)
-fits c = omega (arith, c .before .before .before .pre .1 (c .if2 .left))
+-- there is the value, and its entry's words are in the table
+fits : (c : tie.Else1) → 4 * ((c .before .before .args .count + c .before .before .args .i) / 64) + 4 ≤ length (c .before .before .args .table .now)
+fits c = omega (arith, c .before .before .pre .2 (omega (arith, c .if1 .left)))
 
 returns : tie.Need-returns
 returns c =
     let a = c .before .before .args in
-    let apart : ¬ (a .i ≡ a .due) = λ e. omega (arith, e, c .before .before .pre .2 (not-true (a .note) (c .if1 .taken))) in
-    rw (ne-eqb (a .i) (a .due) apart) (refl, refl)
+    rw (le-ltb (a .i) (a .n) (c .if1 .taken)) (omega (arith, c .if1 .taken), refl)
 
 returns-2 : tie.Need-returns-2
 returns-2 c =
-    let a = c .before .before .before .args in
-    rw (ne-eqb (a .i) (a .due) (c .if2 .taken)) (refl, refl)
-
-returns-3 : tie.Need-returns-3
-returns-3 c =
-    let e = c .before .before .before in
-    let a = e .before .before .before .args in
-    rw (eq-eqb (a .i) (a .due) (e .if2 .left), c .before .before .last-before .ensures) (refl, stored (a .table .now) ((a .count + a .i) / 64) (entryBy (a .raw) (a .pen)) (fits e))
+    let l = c .before .before .before in
+    let a = l .before .before .before .args in
+    rw (lt-ltb (a .i) (a .n) (omega (arith, l .before .if1 .left)), l .last-before .ensures)
+    (c .smaller .ensures, stored (a .table .now) ((a .count + a .i) / 64) (entryBy (a .raw) (a .pen)) (fits (l .before)))
 
 pub noted-spec : {M : Type 1} → statement M
 noted-spec =
     tie.close
     (tie.spec
     returns
-    returns-2
     (λ c κs. search needs)
     (λ c. search needs)
     (λ c. search needs)
@@ -59,5 +48,6 @@ noted-spec =
     (λ c. search needs)
     (λ c. simp length-set (omega (arith, fits (c .before .before .before))))
     (λ c. search needs)
-    (λ c. search needs)
-    returns-3)
+    (λ c κs. search needs)
+    (λ c. simp length-set refl)
+    returns-2)
