@@ -5,8 +5,8 @@ use mathlib.Core.List.{List, [], _∷_, _++_, append-nil}
 use Prim.Native.Nat.{ℕ, zero, suc, _+_, _-_, _*_, _/_, _%_, _≤_, _<_}
 use native.Mathlib.Numerals.{add-one}
 use native.Mathlib.Omega.{arith}
-use borrow.Author.Tests.{ltb-true, ltb-false}
-use lib.Dec.{ltb}
+use borrow.Author.Tests.{eqb-true, eqb-false}
+use lib.Dec.{eqb}
 use lib.ListN.{length, take, getD, set}
 use lib.Seq.{sets, take-suc, take-all, length-take-le}
 use Rattle.stream.specs.Format.{State, rawNext}
@@ -139,18 +139,25 @@ note-more true m xs old words words′ i to p raw h same P N room w e =
       long = ap length w ∙ laid-length words ((m .length + i) / spacing) (entryBy raw p ∷ []) (omega (arith, note-fits true m xs old i words N room h)) ∙ N .long;
     }
 
--- and where there is no value i, nothing
-pub note-on : (note : Bool) (m : MacaqueV) (xs old words words′ : List ℕ) (i to : ℕ) (p : Pen) (raw : Bool) → (i < length xs → raw ≡ rawNext (modeOf (m .«with_first»)) (m .length + i))
-    → PenAt m (afterFirst m xs i) i p → Noting note m xs old i words → Room note m xs old
-    → words′ ≡ cond (ltb i (length xs)) (notedBy raw p ((m .length + i) / spacing) words) words → to ≡ (i + spacing) - ((i + spacing) - length xs)
-    → Noting note m xs old to words′
-note-on note m xs old words words′ i to p raw same P N room w e = go (ltb i (length xs)) refl w
+-- before a value that may have one
+pub note-on : (note : Bool) (m : MacaqueV) (xs old words words′ : List ℕ) (i to to′ : ℕ) (p : Pen) (raw : Bool) → i < length xs → raw ≡ rawNext (modeOf (m .«with_first»)) (m .length + i)
+    → PenAt m (afterFirst m xs i) i p → Noting note m xs old to words → Room note m xs old
+    → words′ ≡ cond (eqb i to) (notedBy raw p ((m .length + i) / spacing) words) words → to′ ≡ cond (eqb i to) ((i + spacing) - ((i + spacing) - length xs)) to
+    → Noting note m xs old to′ words′
+note-on note m xs old words words′ i to to′ p raw h same P N room w e = go (eqb i to) refl w e
   where
-    go : (b : Bool) → ltb i (length xs) ≡ b → words′ ≡ cond b (notedBy raw p ((m .length + i) / spacing) words) words → Noting note m xs old to words′
-    go true t w = let h : i < length xs = ltb-true i (length xs) t in note-more note m xs old words words′ i to p raw h (same h) P N room w e
-    go false t w =
-        subst (λ (z : List ℕ). Noting note m xs old to z) (sym w)
-        (subst (λ (n : ℕ). Noting note m xs old n words) (omega (arith, e, ltb-false i (length xs) t, N .few)) N)
+    go : (b : Bool) → eqb i to ≡ b → words′ ≡ cond b (notedBy raw p ((m .length + i) / spacing) words) words → to′ ≡ cond b ((i + spacing) - ((i + spacing) - length xs)) to
+        → Noting note m xs old to′ words′
+    go true t w e = note-more note m xs old words words′ i to′ p raw h same P (subst (λ (n : ℕ). Noting note m xs old n words) (sym (eqb-true i to t)) N) room w e
+    go false t w e = subst (λ (z : List ℕ). Noting note m xs old to′ z) (sym w) (subst (λ (n : ℕ). Noting note m xs old n words) (sym e) N)
+
+-- it goes on behind value i
+pub note-ahead : (i n to to′ : ℕ) → i < n → i ≤ to → to′ ≡ cond (eqb i to) ((i + spacing) - ((i + spacing) - n)) to → i < to′
+note-ahead i n to to′ h l e = go (eqb i to) refl e
+  where
+    go : (b : Bool) → eqb i to ≡ b → to′ ≡ cond b ((i + spacing) - ((i + spacing) - n)) to → i < to′
+    go true t e = omega (arith, e, h)
+    go false t e = let apart : ¬ (i ≡ to) = eqb-false i to t in omega (arith, e, l, apart)
 
 -- ---- an entry's four words, one after another
 

@@ -2,7 +2,7 @@
 ghost use mathlib.Core.Path.{_≡_};
 ghost use mathlib.Core.Bool.{cond};
 ghost use Prim.Native.Nat.{_+_, _-_, _/_, _≤_, _<_};
-ghost use lib.Dec.{ltb};
+ghost use lib.Dec.{eqb};
 ghost use lib.ListN.{length};
 ghost use Rattle.models.specs.Limits.{mostValues};
 ghost use Rattle.places.specs.Table.{spacing};
@@ -27,15 +27,23 @@ pub fn first_due(count: usize, n: usize, note: bool) -> usize
     n
 }
 
-// The entry of where the pen stands, before value i of n behind `count` others, if there is that value; and up to which value the
-// next entry is not due.
-pub fn noted(table: &mut [u64], pen: Pen, raw: bool, count: usize, i: usize, n: usize) -> usize
-    requires { ⌜ (count + n ≤ mostValues) × (i ≤ n) × (i < n → (count + i) / spacing < entriesLent (length (now table))) ⌝ }
-    ensures next { λ r. ⌜ r ≡ (i + spacing) - ((i + spacing) - n) ⌝ }
-    ensures words { λ r. ⌜ now (table .exit) ≡ cond (ltb i n) (notedBy raw pen ((count + i) / spacing) (now (table .entry))) (now (table .entry)) ⌝ }
+// The entry of where the pen stands, before value i of n behind `count` others, where i is `to`, the next that has one; and
+// which is the next then, or n where it is none of them.
+pub fn noted(
+    table: &mut [u64],
+    pen: Pen,
+    raw: bool,
+    count: usize,
+    i: usize,
+    to: usize,
+    n: usize,
+) -> usize
+    requires { ⌜ (count + n ≤ mostValues) × (i < n) × (i ≡ to → (count + i) / spacing < entriesLent (length (now table))) ⌝ }
+    ensures next { λ r. ⌜ r ≡ cond (eqb i to) ((i + spacing) - ((i + spacing) - n)) to ⌝ }
+    ensures words { λ r. ⌜ now (table .exit) ≡ cond (eqb i to) (notedBy raw pen ((count + i) / spacing) (now (table .entry))) (now (table .entry)) ⌝ }
 {
-    if n <= i {
-        return n;
+    if i != to {
+        return to;
     }
     let last = last_before(raw, pen.last);
     let at = WORDS * ((count + i) / SPACING);

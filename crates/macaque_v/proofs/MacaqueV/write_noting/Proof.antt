@@ -4,7 +4,7 @@ use borrow.Author.Needs.{needs}
 use mathlib.Core.Path.{_≡_, sym, ap, _∙_, subst}
 use mathlib.Core.Bool.{Bool, true}
 use mathlib.Core.List.{List}
-use Prim.Native.Nat.{ℕ, _+_, _-_, _*_, _^_, _≤_, _<_}
+use Prim.Native.Nat.{ℕ, _+_, _-_, _*_, _/_, _^_, _≤_, _<_}
 use native.Mathlib.Omega.{arith}
 use lib.ListN.{length}
 use lib.Seq.{take-all}
@@ -15,6 +15,8 @@ use Rattle.bits.proofs.InBytes.{length-laidIn}
 use Rattle.models.specs.Limits.{mostValues}
 use Rattle.stream.specs.Format.{State}
 use Rattle.stream.specs.Write.{bitsOne}
+use Rattle.places.specs.Table.{spacing}
+use Rattle.places.specs.Calls.{entriesLent}
 use Rattle.macaque_v.specs.State.{Known}
 use Rattle.macaque_v.specs.Write.{streamBy, wroteBy, writerAt}
 use Rattle.macaque_v.specs.inner.Write.{writtenBy, laidWhere, notedWhere, RawAt, leftBy}
@@ -22,7 +24,7 @@ use Rattle.macaque_v.specs.declared.MacaqueV.{MacaqueV}
 use borrow.Author.Tests.{ltb-true}
 use Rattle.models.proofs.Tests.{and-left, and-right}
 use Rattle.macaque_v.proofs.Stepping.{PenAt}
-use Rattle.macaque_v.proofs.Entering.{Noting, Room, note-start, note-on, note-fits, note-end}
+use Rattle.macaque_v.proofs.Entering.{Noting, Room, note-start, note-on, note-ahead, note-fits, note-end}
 use Rattle.macaque_v.proofs.Writing.{Laying, lay-start, lay-next, lay-long, lay-end, lay-none, place-grows, afterFirst, keptAt, after-most, pen-start, pen-more, left-is, next-place, step-digits}
 use Rattle.macaque_v.proofs.MacaqueV.write_noting.Statement.{statement}
 use Rattle.macaque_v.proofs.MacaqueV.write_noting.Tie as tie
@@ -40,9 +42,8 @@ abbrev Inv-loop : tie.InvT-loop
 Inv-loop self values buffer₀ lay table₀ note error-bound count raw due to₀ pen₀ waiting₀ i₀ buffer table to pen waiting i =
     (i ≤ to) × PenAt self (afterFirst self values i) i pen × Laying lay self values buffer₀ i buffer waiting × Noting note self values table₀ to table
 
--- each turn writes up to `to` and, but for the last, puts it further
 abbrev μ-loop : tie.MeasureT-loop
-μ-loop self values buffer₀ lay table₀ note error-bound count raw due to₀ pen₀ waiting₀ i₀ buffer table to pen waiting i = (length values - i) + (length values - to)
+μ-loop self values buffer₀ lay table₀ note error-bound count raw due to₀ pen₀ waiting₀ i₀ buffer table to pen waiting i = length values - i
 
 -- the least and the greatest value are words of 32 bits
 small : (c : tie.Start Inv-loop2 μ-loop2 Inv-loop μ-loop) → (c .args .self .«min_value» < 2 ^ 32) × (c .args .self .«max_value» < 2 ^ 32)
@@ -97,12 +98,36 @@ few-of c = omega (arith, c .loop .inv .0, c .loop .inv .3 .few)
 most-of : (c : tie.At-loop Inv-loop2 μ-loop2 Inv-loop μ-loop) → (afterFirst (self c) (values c) (c .loop .i)) .place ≤ self c .place + 45 * c .loop .i
 most-of c = after-most (self c) (values c) (c .loop .i) (few-of c)
 
+-- ---- where the entry was noted, if the value has one: the table, and how far the values go till the next
+abbrev from : tie.After-noted Inv-loop2 μ-loop2 Inv-loop μ-loop → tie.At-loop Inv-loop2 μ-loop2 Inv-loop μ-loop
+from c = c .before .before .before
+
+some-value : (c : tie.After-noted Inv-loop2 μ-loop2 Inv-loop μ-loop) → from c .loop .i < length (values (from c))
+some-value c = c .before .before .loop-test .taken
+
+entering : (c : tie.After-noted Inv-loop2 μ-loop2 Inv-loop μ-loop) → Noting (note (from c)) (self (from c)) (values (from c)) (table₀ (from c)) (c .noted .result) (c .noted .last .0)
+entering c =
+    let l = from c in
+    note-on (note l) (self l) (values l) (table₀ l) (l .loop .table) (c .noted .last .0) (l .loop .i) (l .loop .to) (c .noted .result) (l .loop .pen) (eqb (l .loop .i) (raw l)) (some-value c)
+    (rawAt l (l .loop .i) (some-value c)) (l .loop .inv .1) (l .loop .inv .3) (entered l) (c .noted .ensures .1) (c .noted .ensures .0)
+
+goes-on : (c : tie.After-noted Inv-loop2 μ-loop2 Inv-loop μ-loop) → from c .loop .i < c .noted .result
+goes-on c =
+    let l = from c in
+    note-ahead (l .loop .i) (length (values l)) (l .loop .to) (c .noted .result) (some-value c) (l .loop .inv .0) (c .noted .ensures .0)
+
 -- ---- in the inner loop
+abbrev before2 : tie.At-loop2 Inv-loop2 μ-loop2 Inv-loop μ-loop → tie.After-noted Inv-loop2 μ-loop2 Inv-loop μ-loop
+before2 c = c .before .before .before
+
 abbrev outer : tie.At-loop2 Inv-loop2 μ-loop2 Inv-loop μ-loop → tie.At-loop Inv-loop2 μ-loop2 Inv-loop μ-loop
-outer c = c .before .before
+outer c = from (before2 c)
 
 few : (c : tie.At-loop2 Inv-loop2 μ-loop2 Inv-loop μ-loop) → c .loop2 .i ≤ length (values (outer c))
-few c = omega (arith, c .loop2 .inv .0, outer c .loop .inv .3 .few)
+few c = omega (arith, c .loop2 .inv .0, entering (before2 c) .few)
+
+within : (c : tie.In-loop2 Inv-loop2 μ-loop2 Inv-loop μ-loop) → c .before .loop2 .i < length (values (outer (c .before)))
+within c = omega (arith, c .loop2-test .taken, entering (before2 (c .before)) .few)
 
 -- where the pen stands
 here : (c : tie.At-loop2 Inv-loop2 μ-loop2 Inv-loop μ-loop) → c .loop2 .pen .place ≡ (afterFirst (self (outer c)) (values (outer c)) (c .loop2 .i)) .place
@@ -123,7 +148,7 @@ abbrev atLoop : tie.After-step Inv-loop2 μ-loop2 Inv-loop μ-loop → tie.At-lo
 atLoop c = c .before .before .before
 
 next-value : (c : tie.After-step Inv-loop2 μ-loop2 Inv-loop μ-loop) → atLoop c .loop2 .i < length (values (outer (atLoop c)))
-next-value c = omega (arith, c .before .before .loop2-test .taken, outer (atLoop c) .loop .inv .3 .few)
+next-value c = within (c .before .before)
 
 digits : (c : tie.After-step Inv-loop2 μ-loop2 Inv-loop μ-loop)
     → field (c .step .result .width) (c .step .result .bits) ≡ bitsOne (streamBy (self (outer (atLoop c)))) (afterFirst (self (outer (atLoop c))) (values (outer (atLoop c))) (atLoop c .loop2 .i)) (keptAt (self (outer (atLoop c))) (values (outer (atLoop c))) (atLoop c .loop2 .i))
@@ -162,52 +187,34 @@ loop-holds c =
       note-start (a .note) (a .self) (a .values .now) (a .table .now) (c .before .before .before .before .before .before .first-due .result) (c .before .before .before .before .before .smaller .result) (c .before .before .before .before .before .before .first-due .ensures) (c .before .before .before .before .before .smaller .ensures),
     )
 
-loop2-holds : tie.Need-loop2-holds Inv-loop2 μ-loop2 Inv-loop μ-loop
-loop2-holds c = (c .before .loop .inv .0, c .before .loop .inv .1, λ old room L. L)
-
--- ---- behind the inner loop: the value that has the next entry, or none
-ended : (c : tie.After-loop2 Inv-loop2 μ-loop2 Inv-loop μ-loop) → c .before .loop2 .i ≡ outer (c .before) .loop .to
-ended c = omega (arith, c .before .loop2 .inv .0, c .loop2-test .left)
-
-noting : (c : tie.After-loop2 Inv-loop2 μ-loop2 Inv-loop μ-loop)
-    → Noting (note (outer (c .before))) (self (outer (c .before))) (values (outer (c .before))) (table₀ (outer (c .before))) (c .before .loop2 .i) (outer (c .before) .loop .table)
-noting c =
-    let o = outer (c .before) in
-    subst (λ (n : ℕ). Noting (note o) (self o) (values o) (table₀ o) n (o .loop .table)) (sym (ended c)) (o .loop .inv .3)
-
 noted-requires : tie.Need-noted-requires Inv-loop2 μ-loop2 Inv-loop μ-loop
 noted-requires c κs =
     let l = c .before .before in
-    let o = outer l in
-    (start o .pre .0, few l, note-fits (note o) (self o) (values o) (table₀ o) (l .loop2 .i) (o .loop .table) (noting (c .before)) (entered o))
+    let more : l .loop .i < length (values l) = c .before .loop-test .taken in (
+      start l .pre .0,
+      more,
+      λ e.
+          subst (λ (n : ℕ). (self l .length + n) / spacing < entriesLent (length (l .loop .table))) (sym e)
+          (note-fits (note l) (self l) (values l) (table₀ l) (l .loop .to) (l .loop .table) (l .loop .inv .3) (entered l) (omega (arith, e, more))),
+    )
 
--- ---- behind the entry
-abbrev behind : tie.After-noted Inv-loop2 μ-loop2 Inv-loop μ-loop → tie.After-loop2 Inv-loop2 μ-loop2 Inv-loop μ-loop
-behind c = c .before .before
-
-further : (c : tie.After-noted Inv-loop2 μ-loop2 Inv-loop μ-loop)
-    → Noting (note (outer (behind c .before))) (self (outer (behind c .before))) (values (outer (behind c .before))) (table₀ (outer (behind c .before))) (c .noted .result) (c .noted .last .0)
-further c =
-    let l = behind c .before in
-    let o = outer l in
-    note-on (note o) (self o) (values o) (table₀ o) (o .loop .table) (c .noted .last .0) (l .loop2 .i) (c .noted .result) (l .loop2 .pen) (eqb (l .loop2 .i) (raw o)) (rawAt o (l .loop2 .i)) (l .loop2 .inv .1)
-    (noting (behind c)) (entered o) (c .noted .ensures .1) (c .noted .ensures .0)
+loop2-holds : tie.Need-loop2-holds Inv-loop2 μ-loop2 Inv-loop μ-loop
+loop2-holds c =
+    let k = c .before .before in
+    (omega (arith, goes-on k), from k .loop .inv .1, λ old room L. L)
 
 loop-less : tie.Need-loop-less Inv-loop2 μ-loop2 Inv-loop μ-loop
 loop-less c =
-    let k = c .before .before in
-    let l = behind k .before in
-    let o = outer l in
-    omega (arith, k .noted .ensures .0, ended (behind k), l .before .loop-test .taken, o .loop .inv .0, o .loop .inv .3 .few)
+    let k = before2 (c .before) in
+    omega (arith, goes-on k, c .loop2-test .left, some-value k)
 
 loop-again : tie.Need-loop-again Inv-loop2 μ-loop2 Inv-loop μ-loop
 loop-again c =
-    let k = c .before .before in
-    let l = behind k .before in
-    (omega (arith, k .noted .ensures .0, few l), l .loop2 .inv .1, lays l, further k)
+    let k = c .before in
+    (k .loop2 .inv .0, k .loop2 .inv .1, lays k, entering (before2 k))
 
 step-requires : tie.Need-step-requires Inv-loop2 μ-loop2 Inv-loop μ-loop
-step-requires c κs = omega (arith, here (c .before .before), most (c .before .before))
+step-requires c κs = omega (arith, here (c .before .before), most (c .before .before), within (c .before), start (outer (c .before .before)) .pre .2)
 
 append-requires : tie.Need-append-requires Inv-loop2 μ-loop2 Inv-loop μ-loop
 append-requires c κs =
@@ -336,9 +343,12 @@ write-noting-spec =
     (λ c κs. search needs)
     (λ c κs. search needs)
     loop-holds
+    noted-requires
     loop2-holds
-    (λ c. search needs)
-    (λ c. search needs)
+    loop-less
+    loop-again
+    (λ c. omega (arith, within c, start (outer (c .before)) .pre .0))
+    (λ c. omega (arith, within (c .before)))
     step-requires
     append-requires
     add-i
@@ -347,9 +357,6 @@ write-noting-spec =
     add-i-2
     (λ c. omega arith)
     loop2-again-2
-    noted-requires
-    loop-less
-    loop-again
     mul-put
     put-requires
     (λ c κs. omega arith)

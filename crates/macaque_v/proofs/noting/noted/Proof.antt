@@ -1,6 +1,6 @@
--- `macaque_v::noting::noted` meets its contract: the four words of the entry, where there is the value. Assumes nothing.
+-- `macaque_v::noting::noted` meets its contract: the four words of the entry, where the value has one. Assumes nothing.
 use borrow.Author.Needs.{needs}
-use borrow.Author.Tests.{lt-ltb, le-ltb}
+use borrow.Author.Tests.{eq-eqb, ne-eqb}
 use mathlib.Core.Path.{_≡_, refl, sym, ap, _∙_}
 use Prim.Native.Nat.{ℕ, _+_, _*_, _/_, _≤_}
 use native.Mathlib.Omega.{arith}
@@ -10,20 +10,20 @@ use Rattle.macaque_v.proofs.Entering.{stored}
 use Rattle.macaque_v.proofs.noting.noted.Statement.{statement}
 use Rattle.macaque_v.proofs.noting.noted.Tie as tie
 
--- there is the value, and its entry's words are in the table
+-- the value has an entry, and its words are in the table
 fits : (c : tie.Else1) → 4 * ((c .before .before .args .count + c .before .before .args .i) / 64) + 4 ≤ length (c .before .before .args .table .now)
-fits c = omega (arith, c .before .before .pre .2 (omega (arith, c .if1 .left)))
+fits c = omega (arith, c .before .before .pre .2 (c .if1 .left))
 
 returns : tie.Need-returns
 returns c =
     let a = c .before .before .args in
-    rw (le-ltb (a .i) (a .n) (c .if1 .taken)) (omega (arith, c .if1 .taken), refl)
+    rw (ne-eqb (a .i) (a .to) (c .if1 .taken)) (refl, refl)
 
 returns-2 : tie.Need-returns-2
 returns-2 c =
     let l = c .before .before .before in
     let a = l .before .before .before .args in
-    rw (lt-ltb (a .i) (a .n) (omega (arith, l .before .if1 .left)), l .last-before .ensures)
+    rw (eq-eqb (a .i) (a .to) (l .before .if1 .left), l .last-before .ensures)
     (c .smaller .ensures, stored (a .table .now) ((a .count + a .i) / 64) (entryBy (a .raw) (a .pen)) (fits (l .before)))
 
 pub noted-spec : {M : Type 1} → statement M
