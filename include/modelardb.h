@@ -431,7 +431,8 @@ modelardb_fault modelardb_reader_end(const uint8_t *bytes, size_t bytes_length, 
 modelardb_fault modelardb_reader_last_value(const uint8_t *bytes, size_t bytes_length, size_t count, uint32_t mode,
                                             uint32_t opening, uint32_t *out, size_t out_length);
 
-/* ---- the place table: where reading can begin inside a stream, to read a range of it alone (exports_table)
+/* ---- the place table: where reading can begin inside a stream, to read a range of it alone (exports_table; the
+ * write in exports_stream)
  *
  * A table has an entry for each value whose number, counted from 0, is a multiple of 64 and below the count. An
  * entry is four words, each as it is before that value; those of value n begin at word 4 * (n / 64): */
