@@ -1,5 +1,6 @@
 //! Links the proved static libraries, those named in libraries.txt, from the folder that
-//! MODELARDB_STATICLIB names or else from the repository's own target/staticlib. Says in words what
+//! MODELARDB_STATICLIB names or else from the repository's own target/staticlib; they are for x86-64, or for
+//! the processor that MODELARDB_STATICLIB_ARCH names. Says in words what
 //! stands in the way: a machine that they are not made for, or which of them are not there.
 
 use std::env;
@@ -59,7 +60,7 @@ fn allowed_target() -> Result<(), String> {
         return Ok(());
     }
     Err(format!(
-        "The proved static libraries link into programs for x86-64 Linux alone, and this build is for {arch} {os}.\n\
+        "The proved static libraries link into programs for {made_for} Linux alone, and this build is for {arch} {os}.\n\
          Elsewhere ./check in the repository's root still proves everything."
     ))
 }

@@ -1,5 +1,5 @@
--- What the calls of the place table's C face answer and leave: the fault, and the lent memory and number afterwards, by what the call behind says. Assumes
--- nothing.
+-- What the calls of the place table's C face, but for the write, answer and leave: the fault, and the lent memory and number afterwards, by what the call
+-- behind says; and what is promised of rows. Assumes nothing.
 use mathlib.Core.Path.{_≡_}
 use mathlib.Core.List.{List, [], _∷_, _++_}
 use Prim.Native.Nat.{ℕ}

@@ -1,2 +1,2 @@
--- How the calls with a place table cross the C face.
+-- How reopening with a place table, its check and a range by it cross the C face.
 pub mod Calls

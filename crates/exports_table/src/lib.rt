@@ -1,4 +1,5 @@
-// The C face of the place table beside a stream. A writer's state crosses as its row of ten words, and how a
+// The C face of the place table beside a stream, but for the write with one, which stands beside the plain write in
+// crates/exports_stream. A writer's state crosses as its row of ten words, and how a
 // stream opens as a mode and a value (crates/exports_stream). A table crosses as its lent words, four to an
 // entry, and the number of entries in use beside it; a call that changes that number is handed a place for it.
 // A call answers a fault, of number 0 where nothing is refused, and a refusal changes nothing that was lent.
@@ -17,7 +18,7 @@ use models::Verdict;
 use place_table::CheckAnswer;
 use place_table::TableOpenAnswer;
 
-// ---- the writer's calls
+// ---- the writer's call
 
 // The writer behind the first k of the `count` values in the buffer's first `used` bytes into the row, and how many
 // entries of their table are of these into `entries`. The table's words are neither read nor changed.

@@ -16,7 +16,7 @@ pub const SPACING: usize = 64;
 
 pub const WORDS: usize = 4;
 
-// Which of n values, behind `count` others, is the first with an entry, if it is one of them; n where none is noted.
+// Which of the values behind `count` others is the first with an entry, be it one of the n or not; n where none is noted.
 pub fn first_due(count: usize, n: usize, note: bool) -> usize
     requires { ⌜ count + n ≤ mostValues ⌝ }
     ensures { λ r. ⌜ DueAt note count n 0 r ⌝ }

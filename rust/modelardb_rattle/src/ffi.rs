@@ -26,7 +26,8 @@ pub use segments::{
 };
 
 pub use table::{
-    ENTRY_WORDS, VALUES_PER_ENTRY, table_check, table_compress_values, table_range, table_reopen,
+    ENTRY_WORDS, VALUES_PER_ENTRY, table_check, table_compress_into, table_compress_values,
+    table_range, table_reopen,
 };
 
 use crate::Fault;

@@ -79,10 +79,46 @@ pub fn table_compress_values(
     table: &mut [u64],
     entries: &mut usize,
 ) -> Fault {
+    let words = (table.as_mut_ptr(), table.len());
+    // SAFETY: start and length are those of a slice lent for the call, which overlaps no other.
+    unsafe { compress_values(state, values, buffer, words, entries) }
+}
+
+/// The same with a list of just the entries in use, before and after, which is given room for `room` words first.
+pub fn table_compress_into(
+    state: &mut [u64],
+    values: &[u32],
+    buffer: &mut [u8],
+    table: &mut Vec<u64>,
+    room: usize,
+) -> Fault {
+    let mut entries = table.len() / ENTRY_WORDS;
+    table.reserve(room.saturating_sub(table.len()));
+    let words = (table.as_mut_ptr(), table.capacity().min(room));
+    // SAFETY: the list has that much room, and overlaps no other. The call looks at no word behind the entries in
+    // use, and sets those of each entry that it adds: after it so many are in use, and set.
+    unsafe {
+        let fault = compress_values(state, values, buffer, words, &mut entries);
+        table.set_len(ENTRY_WORDS * entries);
+        fault
+    }
+}
+
+/// The call behind both.
+///
+/// # Safety
+///
+/// So many words from that start on are the caller's for the call, and overlap nothing else that is lent.
+unsafe fn compress_values(
+    state: &mut [u64],
+    values: &[u32],
+    buffer: &mut [u8],
+    (words, words_length): (*mut u64, usize),
+    entries: &mut usize,
+) -> Fault {
     let (row, row_length) = (state.as_mut_ptr(), state.len());
     let (start, length) = (buffer.as_mut_ptr(), buffer.len());
-    let (words, words_length) = (table.as_mut_ptr(), table.len());
-    // SAFETY: each start and length are those of a slice lent for the call, and no two overlap.
+    // SAFETY: each other start and length are those of a slice lent for the call, and no two overlap.
     unsafe {
         c::modelardb_table_compress_values(
             row,

@@ -120,12 +120,9 @@ impl TabledWriter {
     ) -> Result<(), Refusal> {
         let length = self.writer.length() + values.len();
         let room = PlaceTable::entries_for(length.min(MacaqueV::MOST_VALUES));
-        let (mut entries, words) = (self.table.entries(), &mut self.table.words);
-        words.resize(ENTRY_WORDS * room, 0);
-        let row = &mut self.writer.row;
-        let fault = ffi::table_compress_values(row, values, buffer, words, &mut entries);
-        words.truncate(ENTRY_WORDS * entries);
-        Refusal::judge(fault)
+        let (row, words) = (&mut self.writer.row, &mut self.table.words);
+        let room = ENTRY_WORDS * room;
+        Refusal::judge(ffi::table_compress_into(row, values, buffer, words, room))
     }
 
     /// What is known of the values behind it: how many they are, how many bytes they take.
