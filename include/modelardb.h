@@ -448,7 +448,8 @@ modelardb_fault modelardb_reader_last_value(const uint8_t *bytes, size_t bytes_l
  * whole; more in use than that are refused with 12, but in a range with p = q, which looks at no table.
  *
  * Keep the table beside the bytes and their count. It carries no checksum either: write and reopen count its
- * entries and look at none, so that wrong ones are carried on, and a range looks at one and trusts it.
+ * entries and look at none, so that wrong ones are carried on, and a range looks at one and trusts it: by a wrong
+ * one it can read other values, or be refused with 5 to 7 where the stream is right.
  * modelardb_table_check says whether a table is the stream's own. Of one that is, every range reads as
  * modelardb_macaque_v_grid does.
  */

@@ -12,7 +12,8 @@ use std::ops::Range;
 pub use writer::TabledWriter;
 
 /// The table of a stream: an entry for each value whose number is a multiple of 64, with what a reader knows
-/// before that value. Keep its [`words`](PlaceTable::words) beside the bytes, the count and the opening.
+/// before that value. Keep its [`words`](PlaceTable::words) beside the bytes, the count, the opening, and to write on the
+/// bound.
 ///
 /// A range trusts the table: from a wrong entry it may read other values, as a stream with altered bytes may. So
 /// let one that comes from elsewhere pass a [`check`](PlaceTable::check) once.
@@ -26,10 +27,12 @@ pub use writer::TabledWriter;
 /// let mut upload = TabledWriter::new(ErrorBound::Lossless, Opening::First)?;
 /// upload.compress_values(&night, &mut bytes)?;
 /// bytes.truncate(upload.writer().bytes_used());
-/// let (count, stored) = (upload.writer().length(), upload.table().words().to_vec());
+/// let (count, words) = (upload.writer().length(), upload.table().words());
+/// let stored: Vec<u8> = words.iter().flat_map(|word| word.to_le_bytes()).collect();
 ///
 /// // Later: the bytes, their count and the words are taken from where they are kept.
-/// let table = PlaceTable::from_words(stored);
+/// let word = |bytes: &[u8]| u64::from_le_bytes(bytes.try_into().expect("eight bytes"));
+/// let table = PlaceTable::from_words(stored.chunks_exact(8).map(word).collect());
 /// table.check(&bytes, count, Opening::First)?;
 /// let hour = table.range(&bytes, count, Opening::First, 90..120)?;
 /// assert_eq!(hour, night[90..120]);
@@ -92,7 +95,9 @@ impl PlaceTable {
     ///
     /// [`Refusal::OverLimit`] for a count above 65,536; [`Refusal::CountsDisagree`] for a table that ends inside an
     /// entry; [`Refusal::TableDoesNotMatch`] for another number of entries; then what is wrong with the stream and
-    /// where; then [`Refusal::TableDoesNotMatch`] for an entry that is not the stream's.
+    /// where; then [`Refusal::TableDoesNotMatch`] for an entry that is not the stream's. [`entries`](PlaceTable::entries)
+    /// beside [`entries_for`](PlaceTable::entries_for) tells the two apart. Table, count and stream are held against each
+    /// other, so it does not say which of them is wrong.
     ///
     /// ```
     /// use modelardb_rattle::{Opening, PlaceTable, Refusal};
@@ -123,7 +128,8 @@ impl PlaceTable {
     /// its end or ends behind the count, or for a table that ends inside an entry; [`Refusal::TableDoesNotMatch`]
     /// where the entry to start from is missing, has its place beyond all of the stream's bits, or holds no value or no
     /// window; then what is wrong with the stream from there to the range's end, and where: [`Refusal::EndsEarly`],
-    /// [`Refusal::NoWindow`] or [`Refusal::WindowNotAllowed`]. An empty range needs no table.
+    /// [`Refusal::NoWindow`] or [`Refusal::WindowNotAllowed`]. By a table that is not the stream's these can be told of a
+    /// stream that is right: [`check`](PlaceTable::check) it first. An empty range needs no table.
     ///
     /// ```
     /// use modelardb_rattle::{Opening, PlaceTable, Refusal};

@@ -14,7 +14,8 @@ use std::fmt::{Display, Formatter, Result};
 /// first residual. What was altered can stand anywhere before that: a changed bit may read as other
 /// values for a while. So values in front of `value` are no more to be trusted than those behind it,
 /// unless it is known that no bit was changed, as where a stream was only cut short, and that the opening
-/// is its writer's.
+/// is its writer's. A [range](crate::PlaceTable::range) by a place table that is not the stream's can be
+/// refused with 5 to 7 where the stream is right: [check](crate::PlaceTable::check) the table first.
 ///
 /// ```
 /// use modelardb_rattle::{Opening, Refusal, macaque_v};
@@ -99,9 +100,10 @@ pub enum Refusal {
     CountsDisagree,
     /// 13: the place table does not match. It has not as many entries as the count asks for, one for each 64
     /// values and for the rest; or, in a check, an entry is not the stream's own; or, in a range, the entry to
-    /// start from is missing, has its place behind the stream's bytes, or is none that a stream can have. Call the
-    /// check: where it finds the stream broken, bytes are missing; else hand in the table that was written beside
-    /// these bytes, with their count. Where it is lost, read the whole stream.
+    /// start from is missing, has its place behind the stream's bytes, or holds no value of 32 bits or no window. Call
+    /// the check: where it finds the stream broken, see to that first; where it says 13 again, it is the table, the count,
+    /// or a stream that was changed and still reads. Compare all three with where they were written. The whole stream
+    /// reads without a table.
     TableDoesNotMatch,
 }
 
@@ -150,7 +152,7 @@ const CAUSES: [&str; 13] = [
     "the timestamps are not strictly increasing, one is outside -2^52 to 2^52, a line does not end behind its start, or a Swing segment owns one timestamp only",
     "there is no model: the state is of length 0, or the line has ends that differ, at least one not finite",
     "the counts do not match: k above the count, more used than the buffer holds, lists of unequal lengths, no value left for the model, a range that begins behind its end or ends behind the count, or a place table that ends inside an entry",
-    "the place table does not match: not as many entries as the count asks for, one that is not the stream's, or none that a range can start from",
+    "the place table does not match: not as many entries as the count asks for, one that is not the stream's, or none that a range can start from; check it against the stream",
 ];
 
 impl Refusal {

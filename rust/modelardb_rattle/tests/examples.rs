@@ -21,7 +21,7 @@ mod upload;
 #[path = "../examples/upload/written.rs"]
 mod upload_file;
 
-use modelardb_rattle::{ErrorBound, Opening};
+use modelardb_rattle::{ErrorBound, Opening, Refusal};
 use readings::Readings;
 use upload::{cut, resumed, written};
 
@@ -107,7 +107,11 @@ fn a_bad_line_is_named_by_its_number() {
         ),
         (
             "06:00 20\n\n06:60 20\n",
-            "room:3: \"06:60\" is no time of the day",
+            "room:3: \"06:60\" is no time of the day, as 06:05",
+        ),
+        (
+            "06:00 20\n6:5 20\n",
+            "room:2: \"6:5\" is no time of the day, as 06:05",
         ),
         (
             "06:00 20\n06:00 21\n",
@@ -159,6 +163,42 @@ fn an_hour_of_the_night_is_read_without_the_rest() {
         none.unwrap_err(),
         "no readings in the hour from 09:00 on: there are those from 18:00 to 08:00, and a time before the first is the next day's"
     );
+}
+
+#[test]
+fn a_night_of_one_reading_is_told_so() {
+    let readings = readings::of_text("room", "21:30 20\n").expect("a reading");
+    let stored = stored::store(&readings.values, ErrorBound::Lossless).expect("room");
+    let text = night::show(&readings, &stored, "21:30").expect("an hour");
+    assert_eq!(
+        text,
+        "1 reading from 21:30 to 21:30, stored in 4 bytes and a table of 1 place\n\
+         the hour from 21:30 on: readings 0 to 0, found by their times\n\
+         21:30  20.00\n\
+         1 value was decoded instead of 1: from reading 0 on, the last place before them\n"
+    );
+}
+
+/// The documents give these figures: each bit of the night's stream flipped in turn, and checked against its table.
+#[test]
+fn the_check_sees_many_flipped_bits() {
+    let values = shipped("night.txt").values;
+    for (bound, broken, other, accepted) in [("lossless", 632, 1026, 126), ("0.25", 820, 218, 26)] {
+        let error_bound = readings::bound(bound).expect("a bound");
+        let mut night = stored::store(&values, error_bound).expect("room");
+        let mut counts = [0; 3];
+        for bit in 0..8 * night.bytes.len() {
+            night.bytes[bit / 8] ^= 0x80 >> (bit % 8);
+            let said = night.table.check(&night.bytes, night.count, Opening::First);
+            counts[match said {
+                Err(Refusal::TableDoesNotMatch) => 1,
+                Err(_) => 0,
+                Ok(()) => 2,
+            }] += 1;
+            night.bytes[bit / 8] ^= 0x80 >> (bit % 8);
+        }
+        assert_eq!(counts, [broken, other, accepted], "{bound}");
+    }
 }
 
 #[test]

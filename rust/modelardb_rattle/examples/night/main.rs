@@ -15,7 +15,7 @@ fn main() -> ExitCode {
     let words: Vec<String> = std::env::args().skip(1).collect();
     told::told(match words.as_slice() {
         [file, bound, time] => shown(file, bound, time),
-        _ => Err("usage: night FILE BOUND TIME".to_string()),
+        _ => Err("usage: night FILE BOUND TIME, as night.txt lossless 21:00".to_string()),
     })
 }
 

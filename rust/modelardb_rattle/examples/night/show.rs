@@ -25,10 +25,10 @@ pub fn show(readings: &Readings, stored: &Stored, time: &str) -> Result<String, 
     let mut text = String::new();
     _ = writeln!(
         text,
-        "{} readings from {first} to {last}, stored in {} bytes and a table of {} places",
-        stored.count,
-        stored.bytes.len(),
-        stored.table.entries()
+        "{} from {first} to {last}, stored in {} and a table of {}",
+        counted(stored.count, "reading"),
+        counted(stored.bytes.len(), "byte"),
+        counted(stored.table.entries(), "place")
     );
     _ = writeln!(
         text,
@@ -44,12 +44,19 @@ pub fn show(readings: &Readings, stored: &Stored, time: &str) -> Result<String, 
     let decoded = PlaceTable::decoded(asked);
     _ = writeln!(
         text,
-        "{} values were decoded instead of {}: from reading {} on, the last place before them",
-        decoded.len(),
+        "{} {} decoded instead of {}: from reading {} on, the last place before them",
+        counted(decoded.len(), "value"),
+        if decoded.len() == 1 { "was" } else { "were" },
         stored.count,
         decoded.start
     );
     Ok(text)
+}
+
+/// So many of a thing, in words.
+fn counted(number: usize, thing: &str) -> String {
+    let ending = if number == 1 { "" } else { "s" };
+    format!("{number} {thing}{ending}")
 }
 
 /// The numbers of the readings from a minute on, for an hour. The times increase.

@@ -52,7 +52,8 @@ impl Readings {
 
     /// The minute at a time as 06:05: where the first reading's time is later, that of the next day.
     pub fn minute(&self, name: &str) -> Result<i64, String> {
-        let minute = minute(name).ok_or_else(|| format!("{name:?} is no time of the day"))?;
+        let not_one = || format!("{name:?} is no time of the day, as 06:05");
+        let minute = minute(name).ok_or_else(not_one)?;
         let is_next_day = self.times.first().is_some_and(|&first| minute < first);
         Ok(minute + if is_next_day { 24 * 60 } else { 0 })
     }
@@ -60,9 +61,15 @@ impl Readings {
 
 /// The minute of the day at a time as 06:05.
 fn minute(time: &str) -> Option<i64> {
-    let (hour, minute) = time.split_once(':')?;
-    let (hour, minute): (u8, u8) = (hour.parse().ok()?, minute.parse().ok()?);
-    (hour < 24 && minute < 60).then_some(60 * i64::from(hour) + i64::from(minute))
+    let &[h, i, b':', m, n] = time.as_bytes() else {
+        return None;
+    };
+    let two = |tens: u8, ones: u8| {
+        let are_digits = tens.is_ascii_digit() && ones.is_ascii_digit();
+        are_digits.then(|| 10 * i64::from(tens - b'0') + i64::from(ones - b'0'))
+    };
+    let (hour, minute) = (two(h, i)?, two(m, n)?);
+    (hour < 24 && minute < 60).then_some(60 * hour + minute)
 }
 
 fn number(word: &str) -> Result<f32, String> {
@@ -72,9 +79,10 @@ fn number(word: &str) -> Result<f32, String> {
 
 /// A bound in words: `lossless`, `0.5` or `5%`.
 pub fn bound(word: &str) -> Result<ErrorBound, String> {
-    match word.strip_suffix('%') {
+    let bound = match word.strip_suffix('%') {
         _ if word == "lossless" => Ok(ErrorBound::Lossless),
-        Some(percent) => number(percent).map(ErrorBound::Relative),
-        None => number(word).map(ErrorBound::Absolute),
-    }
+        Some(percent) => percent.parse().map(ErrorBound::Relative),
+        None => word.parse().map(ErrorBound::Absolute),
+    };
+    bound.map_err(|_| format!("{word:?} is no bound, as lossless, 0.5 or 5%"))
 }
