@@ -313,7 +313,8 @@ module _ (o : Opening) (bytes : List ℕ) (count : ℕ) (words : List ℕ) (entr
     unfolding rangeAnswer
     a-range-of-more-than-is-lent-is-12 = reads.a-range-of-more-than-is-lent-is-12 (streamIn (isFirst o)) bytes count words entries p q room few lt most
 
-    -- "refuses with 13 one that is missing, has its place beyond the stream's bits, or has a window neither the opening one nor of leading + trailing at most 31"
+    -- "refuses with 13 one that is missing, has its place beyond the stream's bits, or has a window neither the opening one nor of leading + trailing at most
+    -- 31"; and one whose last value is above 32 bits
     pub a-range-is-13 : entries ≤ entriesLent (length words) → (MayStart macaque (8 * lentBytes (length bytes)) words entries p → ⊥)
         → rangeAnswer bytes count o words entries p q room ≡ noMatch
     unfolding rangeAnswer

@@ -1,7 +1,8 @@
 //! The C face of the proved library as functions on slices. Each that can be refused answers a
 //! [`Fault`], of number 0 where it was accepted; the words below say what becomes of its outputs then.
 //! The only `unsafe` of this crate stands here: each function lends slices that are valid for the whole
-//! call, and no other memory. The types of this crate are made of these calls.
+//! call, and no other memory but the spare room of a table's list, of which the call sets what is then in use. The
+//! types of this crate are made of these calls.
 
 mod choice;
 mod fit;

@@ -84,7 +84,8 @@ pub fn table_compress_values(
     unsafe { compress_values(state, values, buffer, words, entries) }
 }
 
-/// The same with a list of just the entries in use, before and after, which is given room for `room` words first.
+/// The same with a list of just the entries in use, before and after, which is given room for `room` words first. Words
+/// behind the last whole entry are no part of one, and are dropped.
 pub fn table_compress_into(
     state: &mut [u64],
     values: &[u32],

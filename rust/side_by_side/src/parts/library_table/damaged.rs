@@ -1,11 +1,12 @@
 //! Damaged streams with the table of the sound one: each bit flipped, cut anywhere, a byte more, other counts. What
 //! stands before the entry or behind the range is not looked at. Where a damaged stream is accepted all the same, its
-//! own table reads its ranges.
+//! own table reads its ranges, and written on it has its own table again.
 
-use super::both::{self, Table};
+use super::both::{self, Stored, Table, Writer};
 use super::{Tabled, ranges};
 use crate::context::Context;
-use crate::lent::{STALE_VALUE, STALE_WORD};
+use crate::lent::{STALE, STALE_VALUE, STALE_WORD};
+use crate::parts::library_stream::room_for;
 use modelardb_rattle::Fault;
 use modelardb_rattle::ffi::{ENTRY_WORDS, STATE_WORDS, VALUES_PER_ENTRY, Words};
 use oracle::paper::macaque_v::Opening;
@@ -52,11 +53,39 @@ fn beside(context: &mut Context, tabled: &Tabled, bytes: &[u8], count: usize) {
     let mut at = tabled.stream.at(count / 2);
     (at.used, at.count) = (bytes.len(), count);
     both::reopened(context, &before, at);
-    if let Ok(own) = table_in(bytes, count, opening_of(opening))
-        && context.inputs.below(20) == 0
-    {
-        ranges::all(context, stream, &Table::new(&own.concat(), own.len()));
+    if let Ok(own) = table_in(bytes, count, opening_of(opening)) {
+        let own = Table::new(&own.concat(), own.len());
+        written_on(context, tabled, stream, &own);
+        if context.inputs.below(20) == 0 {
+            ranges::all(context, stream, &own);
+        }
     }
+}
+
+/// Any accepted stream, beside its own table, reopened at any value and written on over one entry or two: what it has
+/// then is its own table again.
+fn written_on(context: &mut Context, tabled: &Tabled, stream: Stored, own: &Table) {
+    let (bytes, count, opening) = stream;
+    let k = context.inputs.below(count as u64 + 1) as usize;
+    let values = context.inputs.values(VALUES_PER_ENTRY + 6);
+    let mut table = own.clone();
+    table.words.extend([STALE_WORD; 2 * ENTRY_WORDS]);
+    let before = Writer {
+        row: vec![STALE_WORD; STATE_WORDS],
+        buffer: [bytes, &vec![STALE; room_for(values.len())]].concat(),
+        table,
+    };
+    let mut at = tabled.stream.at(k);
+    (at.used, at.count) = (bytes.len(), count);
+    let (_, left) = both::reopened(context, &before, at);
+    let (fault, left) = both::written(context, &left, &values);
+    let used = left.row[8].div_ceil(8) as usize;
+    let after = (&left.buffer[..used], k + values.len(), opening);
+    let checked = both::checked(context, after, &left.table);
+    let accepted = (Fault::ACCEPTED, Fault::ACCEPTED);
+    context.same("its own table again", accepted, (fault, checked), || {
+        format!("{stream:X?} reopened at {k} with {own:X?}, and written on {values:08X?}")
+    });
 }
 
 fn opening_of((mode, value): Words) -> Opening {
