@@ -1,10 +1,11 @@
-/* Document 01's marked case a through the C face: three values written as a stream, and read back; then the same
- * stream without its last byte, and where it breaks. It is C and C++ alike.
+/* Document 01's marked case a through the C face: three values written as a stream, and read back; their mean, from the
+ * state alone; then the same stream without its last byte, and where it breaks. It is C and C++ alike.
  *
  *    cc -Iinclude examples/stream.c target/staticlib/libexports_stream.a -o stream && ./stream
  */
 #include "modelardb.h"
 #include <stdio.h>
+#include <string.h>
 
 #define COUNT 3
 
@@ -18,6 +19,8 @@ int main(void) {
   uint32_t out[COUNT];
   uint64_t state[MODELARDB_WRITER_WORDS];
   uint8_t buffer[MODELARDB_ROOM(COUNT)];
+  uint32_t bits;
+  float sum;
   size_t used, i;
   modelardb_fault fault;
 
@@ -31,6 +34,10 @@ int main(void) {
   fault = modelardb_macaque_v_grid(buffer, used, COUNT, MODELARDB_FIRST, 0, out, COUNT);
   if (fault.number != MODELARDB_ACCEPTED) return refused(fault);
   printf("reads back as %08X %08X %08X\n", (unsigned)out[0], (unsigned)out[1], (unsigned)out[2]);
+
+  bits = (uint32_t)state[MODELARDB_WRITER_SUM];
+  memcpy(&sum, &bits, sizeof sum);
+  printf("sum %g, mean %.4f\n", (double)sum, (double)sum / (double)state[MODELARDB_WRITER_LENGTH]);
 
   fault = modelardb_macaque_v_grid(buffer, used - 1, COUNT, MODELARDB_FIRST, 0, out, COUNT);
   printf("without its last byte: refused %u at value %u, bit %zu\n", (unsigned)fault.number, (unsigned)fault.value,

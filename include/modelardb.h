@@ -126,13 +126,18 @@ modelardb_fault modelardb_maximum_allowed_deviation(uint32_t kind, uint32_t boun
 #define MODELARDB_WRITER_WITH_FIRST 7 /* 1 where the first value is stored in full, else 0 */
 #define MODELARDB_WRITER_PLACE 8      /* the place: how many bits are written */
 #define MODELARDB_WRITER_LENGTH 9     /* the length: how many values are written */
-#define MODELARDB_WRITER_WORDS 10
+#define MODELARDB_WRITER_SUM 10       /* the bits of the f32 sum of the kept values, 0 before any */
+#define MODELARDB_WRITER_WORDS 11
 /*
- * A row may be used, else 2, if it has ten words, words 2 to 6 have at most 32 bits each, word 7 is 0 or 1, the
- * place lies within the buffer, the length is at most 65,536 and is 0 exactly where the place is 0, and the
+ * A row may be used, else 2, if it has eleven words, words 2 to 6 and 10 have at most 32 bits each, word 7 is 0 or
+ * 1, the place lies within the buffer, the length is at most 65,536 and is 0 exactly where the place is 0, and the
  * window is 255 and 0 or, at length 1 or more, has at most 31 zero bits in all. A bound in words of more than 32
  * bits is refused with 1, as any that is not allowed: a Lossless row's word 1 too, though its bits are not looked
  * at. `new` and `reopen` set that word to 0.
+ *
+ * The sum is what `modelardb_macaque_v_sum` answers on the stream's bytes, in f32 from the left: the mean is it by
+ * word 9, and no byte has to be read for it. With a first value, the write at length 0 sets it to that value. A NaN
+ * is MODELARDB_NAN.
  *
  * The stream's bytes are the buffer's first (word 8 + 7) / 8, and the bits behind the place in the last of them
  * are 0. No value takes more than 45 bits, and one that is stored in full takes 32.
@@ -145,19 +150,20 @@ modelardb_fault modelardb_maximum_allowed_deviation(uint32_t kind, uint32_t boun
 #define MODELARDB_ROOM(values) (((size_t)(values) * MODELARDB_MOST_BITS + 7) / 8)
 #define MODELARDB_BYTES(place) (((place) + 7) / 8)
 
-/* state: a writer before any value. Refusals: 1; 3 (mode); 4 (a row under ten words). */
+/* state: a writer before any value. Refusals: 1; 3 (mode); 4 (a row under eleven words). */
 modelardb_fault modelardb_macaque_v_new(uint32_t kind, uint32_t bound, uint32_t mode, uint32_t opening,
                                         uint64_t *state, size_t state_length);
 
-/* Writes the values behind the state's place into the buffer; state: words 2 to 6, 8 and 9 become those of the
- * writer after them, and the others stay, so that a write of no values changes nothing. Refusals: 1; 2; 3 (over
- * 65,536 values in all); 4 (the buffer). */
+/* Writes the values behind the state's place into the buffer; state: words 2 to 6 and 8 to 10 become those of the
+ * writer after them, and the others stay. A write of no values changes nothing. A sum that is handed in is not
+ * judged: a wrong one is carried on by the same additions, and nothing else depends on it. Refusals: 1; 2; 3
+ * (over 65,536 values in all); 4 (the buffer). */
 modelardb_fault modelardb_macaque_v_compress_values(uint64_t *state, size_t state_length, const uint32_t *values,
                                                     size_t values_length, uint8_t *buffer, size_t buffer_length);
 
 /* state: the writer behind the first k of the `count` values of the stream in the buffer's first `used`
  * bytes, which is checked whole. The bits behind them in the byte that they end in become 0. Refusals: 1; 3
- * (mode, or count above 65,536); 12 (k above count, or used above the buffer's length); 4 (a row under ten
+ * (mode, or count above 65,536); 12 (k above count, or used above the buffer's length); 4 (a row under eleven
  * words); then 5 to 8 with value and place, whatever k is. */
 modelardb_fault modelardb_macaque_v_reopen(uint8_t *buffer, size_t buffer_length, size_t used, size_t count,
                                            size_t k, uint32_t mode, uint32_t opening, uint32_t kind,
@@ -469,7 +475,7 @@ modelardb_fault modelardb_table_compress_values(uint64_t *state, size_t state_le
 
 /* Reopens as modelardb_macaque_v_reopen does. *entries: how many stay in use, those of the values before k. No
  * word of the table is looked at. Refusals: 1; 3 (mode, or count above 65,536); 12 (k above count, used above the
- * buffer's length, or entries); 13 (not as many entries in use as the count asks for); 4 (a row under ten words);
+ * buffer's length, or entries); 13 (not as many entries in use as the count asks for); 4 (a row under eleven words);
  * then 5 to 8 with value and place, whatever k is. */
 modelardb_fault modelardb_table_reopen(uint8_t *buffer, size_t buffer_length, size_t used, size_t count, size_t k,
                                        uint32_t mode, uint32_t opening, uint32_t kind, uint32_t bound,

@@ -4,5 +4,6 @@ pub mod Faces
 pub mod Tabled
 pub mod Numbers
 pub mod Promises
+pub mod Sums
 pub mod Broken
 pub mod Causes

@@ -5,8 +5,9 @@ use mathlib.Core.Bool.{Bool, true, false, cond}
 use mathlib.Core.List.{List, [], _∷_, _++_}
 use Prim.Native.Nat.{ℕ, _+_, _*_, _^_, _≤_, _<_}
 use native.Mathlib.Omega.{arith}
-use borrow.Author.Tests.{le-ltb, le-leb, lt-leb}
-use lib.Dec.{ltb}
+use borrow.Author.Tests.{le-ltb, le-leb, lt-leb, ne-eqb}
+use lib.Dec.{eqb, ltb}
+use lib.Ieee.{binary32, toBits}
 use lib.ListN.{length, take, drop, getD}
 use lib.Seq.{length-take-le}
 use Rattle.bits.specs.Bits.{Below, wholeBytes}
@@ -19,10 +20,10 @@ use Rattle.models.specs.declared.ErrorBound.{ErrorBound}
 use Rattle.models.specs.declared.ErrorBound.the-variants.{Lossless}
 use Rattle.models.proofs.Judged.{judged-parts, accepted, answered-only}
 use Rattle.stream.specs.Format.{Stream, State}
-use Rattle.stream.specs.Write.{after}
+use Rattle.stream.specs.Write.{keptFrom, after}
 use Rattle.stream.proofs.Writing.{count-after, length-kept}
 use Rattle.stream.proofs.Calls.{as-long}
-use Rattle.macaque_v.specs.State.{streamIn, writerOf, isFirst, openingValue, opened}
+use Rattle.macaque_v.specs.State.{sumIn, streamIn, writerOf, isFirst, openingValue, opened}
 use Rattle.macaque_v.specs.Calls.{newAnswer, lentBytes, writeCauses, writeAnswer}
 use Rattle.macaque_v.specs.Read.{reopenCauses, reopenAnswer, reopenMemory, gridAnswer}
 use Rattle.macaque_v.specs.Write.{writerAt, wroteBy}
@@ -32,10 +33,11 @@ use Rattle.macaque_v.specs.declared.Opening.{Opening}
 use Rattle.macaque_v.proofs.Promises.{a-fresh-writer, a-write-goes-on, a-write-is-accepted, reopening-goes-back, grid-reads-back, lossless-keeps-the-inputs}
 use Rattle.macaque_v.proofs.Promises as call
 use Rattle.macaque_v.proofs.Held.{made-held}
+use Rattle.macaque_v.proofs.Writing.{written-count}
 use Rattle.exports.specs.Face.{boundOf, plainFault, rowIn, noState, stepFault, stepRow}
 use Rattle.exports.specs.Words.{boundFront}
 use Rattle.exports.proofs.Back.{bound-of-held, bound-front-held}
-use Rattle.exports_stream.specs.Row.{writerLength, writerRow, writtenRow, standsForState, spoiledWriter, writerIn, bytesInUse, lengthWord}
+use Rattle.exports_stream.specs.Row.{writerLength, writerRow, sumWord, sumAfter, writtenRow, standsForState, spoiledWriter, writerIn, bytesInUse, lengthWord}
 use Rattle.exports_stream.specs.Calls.{openingOf, countIn, newFault, newRow, writeFault, writeRow, writeBuffer, reopenFaceCauses, reopenFault, reopenRow, reopenBuffer, gridFault, gridOut, RowMade, RowResumesAsOne}
 use Rattle.exports_stream.proofs.Words.{short-stands-for-none, no-state, a-state, row-back, written-long, own-words}
 use Rattle.exports_stream.proofs.Faces.{no-state-refused, stands}
@@ -65,7 +67,7 @@ module _ {b : ErrorBound} {o : Opening} {xs buf : List ℕ} {m : MacaqueV} (M : 
       let back : writerIn row ≡ m = ap writerIn is ∙ made-row f rest in
       record { made = subst (Made b o xs buf) (sym back) M; words = is ∙ ap₂ (λ (w : MacaqueV) (l : List ℕ). writerRow w ++ l) (sym back) (sym (ap (drop writerLength) is ∙ behind-words m rest)) }
 
--- bound, opening and inputs tell the ten words too
+-- bound, opening and inputs tell the eleven words too
 pub the-row-once : {b : ErrorBound} {o : Opening} {xs buf row other others : List ℕ} → RowMade b o xs buf row → RowMade b o xs other others → take writerLength row ≡ take writerLength others
 the-row-once {row = row} {others = others} R S =
     ap (take writerLength) (R .words) ∙ front-words (writerIn row) _ ∙ ap writerRow (R .made .writer ∙ sym (S .made .writer)) ∙ sym (ap (take writerLength) (S .words) ∙ front-words (writerIn others) _)
@@ -77,7 +79,7 @@ no-value-no-place S s [] h e = h
 no-value-no-place S s (v ∷ vs) h e = absurd (omega (arith, count-after S s (v ∷ vs), e))
 
 module _ {b : ErrorBound} {o : Opening} {xs buf row : List ℕ} (R : RowMade b o xs buf row) where
-  -- a row that stands for a made writer stands for a state: it holds ten words
+  -- a row that stands for a made writer stands for a state: it holds eleven words
   pub a-made-row-stands : standsForState row ≡ true
   a-made-row-stands = go (standsForState row) refl
     where
@@ -115,7 +117,7 @@ module _ (kind bound mode value : ℕ) (row : List ℕ) (hl : openingValue (open
   has-words : ltb (length row) writerLength ≡ false
   has-words = le-ltb (length row) writerLength words
 
-  -- an allowed bound, a mode and a row of ten words are accepted, and nothing of the buffer is in use, whatever it holds
+  -- an allowed bound, a mode and a row of eleven words are accepted, and nothing of the buffer is in use, whatever it holds
   pub a-new-row : (newFault kind bound mode value row ≡ noFault)
       × ((buf : List ℕ) → RowMade (boundOf kind bound) (openingOf mode value) [] buf (newRow kind bound mode value row))
   unfolding newFault newRow judge
@@ -127,8 +129,22 @@ module _ (kind bound mode value : ℕ) (row : List ℕ) (hl : openingValue (open
 
 -- ---- writing through a row
 
+-- the sum's word after a write on a row whose word of it is as a call leaves it: where no value came, it is the same sum
+pub sum-after-is : (row : List ℕ) → standsForState row ≡ true → sumWord row ≡ toBits binary32 ((writerIn row) .sum) → (ys : List ℕ)
+    → sumAfter row (writerAt (writerIn row) (wroteBy (writerIn row) ys)) ≡ toBits binary32 ((writerAt (writerIn row) (wroteBy (writerIn row) ys)) .sum)
+unfolding keptFrom after
+sum-after-is row h plain [] = go (eqb ((writerIn row) .length) (lengthWord row))
+  where
+    go : (b : Bool) → cond b (sumWord row) (toBits binary32 ((writerIn row) .sum)) ≡ toBits binary32 ((writerIn row) .sum)
+    go true = plain
+    go false = refl
+sum-after-is row h plain (y ∷ ys) =
+    let m : MacaqueV = writerIn row in
+    let more : ¬ ((wroteBy m (y ∷ ys)) .count ≡ lengthWord row) = λ e. omega (arith, e, written-count m (y ∷ ys), ap (λ (w : MacaqueV). w .length) (a-state row h)) in
+    ap (λ (b : Bool). cond b (sumWord row) (toBits binary32 (sumIn (wroteBy m (y ∷ ys))))) (ne-eqb ((wroteBy m (y ∷ ys)) .count) (lengthWord row) more)
+
 -- a number of 0 tells that nothing was refused
-accepted-zero : (m : MacaqueV) (ys buf : List ℕ) → (plainFault (stateless (writeAnswer m ys buf))) .number ≡ 0 → writeAnswer m ys buf ≡ answeredOn (writerAt m (wroteBy m ys))
+pub accepted-zero : (m : MacaqueV) (ys buf : List ℕ) → (plainFault (stateless (writeAnswer m ys buf))) .number ≡ 0 → writeAnswer m ys buf ≡ answeredOn (writerAt m (wroteBy m ys))
 unfolding writeAnswer
 accepted-zero m ys buf =
     judged-so (λ (q : SaidOn MacaqueV MacaqueV). (plainFault (stateless q)) .number ≡ 0 → q ≡ answeredOn (writerAt m (wroteBy m ys))) (refusing m) (λ n pos z. absurd (omega (arith, pos, z)))
@@ -139,9 +155,15 @@ module _ {b : ErrorBound} {o : Opening} {xs buf row : List ℕ} (R : RowMade b o
   own-word : (i : ℕ) → getD row i 0 ≡ getD (writerRow (writerIn row) ++ drop writerLength row) i 0
   own-word i = ap (λ (l : List ℕ). getD l i 0) (R .words)
 
-  written-same : (n : MacaqueV) → n .«error_bound» ≡ (writerIn row) .«error_bound» → n .«with_first» ≡ (writerIn row) .«with_first» → writtenRow row n ≡ writerRow n
+  written-same : (n : MacaqueV) → n .«error_bound» ≡ (writerIn row) .«error_bound» → n .«with_first» ≡ (writerIn row) .«with_first» → sumAfter row n ≡ toBits binary32 (n .sum)
+      → writtenRow row n ≡ writerRow n
   unfolding writtenRow writerRow
-  written-same n e f = rw (e, f, own-word 0, own-word 1, own-word 7)
+  written-same n e f sum = rw (e, f, sum, own-word 0, own-word 1, own-word 7)
+
+  -- its word of the sum is the pattern of the writer's
+  pub plain-sum : sumWord row ≡ toBits binary32 ((writerIn row) .sum)
+  unfolding writerRow
+  plain-sum = own-word 10
 
   -- its bound is of its format, whatever the words
   bound-held : BoundHeld b
@@ -152,7 +174,7 @@ module _ {b : ErrorBound} {o : Opening} {xs buf row : List ℕ} (R : RowMade b o
   a-row-goes-on ys by h =
       let n : MacaqueV = writerAt (writerIn row) (wroteBy (writerIn row) ys) in
       let a : writeAnswer (writerIn row) ys buf ≡ answeredOn n = accepted-zero (writerIn row) ys buf h in
-      let is : writeRow row ys buf ≡ writerRow n ++ drop (length (writtenRow row n)) row = ap (stepRow (writtenRow row) row) a ∙ ap (λ (l : List ℕ). l ++ drop (length (writtenRow row n)) row) (written-same n refl refl) in
+      let is : writeRow row ys buf ≡ writerRow n ++ drop (length (writtenRow row n)) row = ap (stepRow (writtenRow row) row) a ∙ ap (λ (l : List ℕ). l ++ drop (length (writtenRow row n)) row) (written-same n refl refl (sum-after-is row (a-made-row-stands R) plain-sum ys)) in
       row-made (a-write-goes-on (R .made) ys n a) hl by bound-held _ is
 
   -- and it is accepted, wherever room and count limit allow

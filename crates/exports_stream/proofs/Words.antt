@@ -1,13 +1,15 @@
 -- Words of 32 bits are their own low bits; the state that a row stands for, case by case; and a row that was put is read back as the writer that it was
 -- made of. Assumes nothing.
-use mathlib.Core.Path.{_≡_, refl, sym, ap, ap₂, _∙_}
-use mathlib.Core.Bool.{true, false}
+use mathlib.Core.Path.{_≡_, refl, sym, ap, ap₂, _∙_, subst}
+use mathlib.Core.Bool.{Bool, true, false}
 use mathlib.Core.List.{List, _∷_, _++_}
 use Prim.Native.Nat.{ℕ, zero, suc, _+_, _%_, _^_, _≤_, _<_}
 use native.Mathlib.Omega.{arith}
-use borrow.Author.Tests.{lt-ltb, le-leb, lt-leb, leb-true}
+use borrow.Author.Tests.{lt-ltb, le-ltb, le-leb, lt-leb, leb-true, ltb-true, eq-eqb}
 use lib.Dec.{eqb, leb}
 use lib.ListN.{length, drop, getD}
+use lib.Ieee.{binary32, ofBits, toBits}
+use lib.Ieee.Bits.{ofBits-toBits, ofBits-fits}
 use lib.Seq.{drop-cons}
 use Rattle.models.specs.Bound.{BoundHeld}
 use Rattle.models.specs.declared.ErrorBound.{ErrorBound}
@@ -16,8 +18,8 @@ use Rattle.macaque_v.specs.Made.{WordsSmall}
 use Rattle.macaque_v.specs.declared.MacaqueV.{MacaqueV}
 use Rattle.exports.specs.Words.{boundKind, boundBits, small, boundFront}
 use Rattle.exports.proofs.Small.{low-is}
-use Rattle.exports.proofs.Back.{bound-back, bound-front, flag-small, flag-back}
-use Rattle.exports_stream.specs.Row.{writerLength, writerRow, writtenRow, standsForState, spoiledWriter, readWriter, writerIn}
+use Rattle.exports.proofs.Back.{is-small, bound-back, bound-front, flag-small, flag-back}
+use Rattle.exports_stream.specs.Row.{writerLength, writerRow, sumWord, sumAfter, writtenRow, standsForState, spoiledWriter, readWriter, writerIn}
 
 pub writer-long : (m : MacaqueV) → length (writerRow m) ≡ writerLength
 unfolding writerRow
@@ -29,9 +31,9 @@ written-long row m = refl
 
 -- ---- the state that a row stands for
 
--- the state whose five words of 32 bits are these
-abbrev pub stateWith : ErrorBound → List ℕ → ℕ → ℕ → ℕ → ℕ → ℕ → MacaqueV
-stateWith b row min max last lead trail =
+-- the state whose six words of 32 bits are these
+abbrev pub stateWith : ErrorBound → List ℕ → ℕ → ℕ → ℕ → ℕ → ℕ → ℕ → MacaqueV
+stateWith b row min max last lead trail sum =
     record {
       «error_bound» = b;
       «min_value» = min;
@@ -42,6 +44,7 @@ stateWith b row min max last lead trail =
       «with_first» = eqb (getD row 7 0) 1;
       place = getD row 8 0;
       length = getD row 9 0;
+      sum = ofBits binary32 sum;
     }
 
 module _ (row : List ℕ) where
@@ -63,7 +66,8 @@ module _ (row : List ℕ) where
     unfolding writerIn
     a-state = sym (rw h)
 
-    pub low-words : (b : ErrorBound) → stateWith b row (getD row 2 0 % 2 ^ 32) (getD row 3 0 % 2 ^ 32) (getD row 4 0 % 2 ^ 32) (getD row 5 0 % 2 ^ 32) (getD row 6 0 % 2 ^ 32) ≡ readWriter b row
+    pub low-words : (b : ErrorBound)
+        → stateWith b row (getD row 2 0 % 2 ^ 32) (getD row 3 0 % 2 ^ 32) (getD row 4 0 % 2 ^ 32) (getD row 5 0 % 2 ^ 32) (getD row 6 0 % 2 ^ 32) (getD row 10 0 % 2 ^ 32) ≡ readWriter b row
     unfolding standsForState
     low-words b =
         let t2 = and-parts (small (getD row 2 0)) _ (and-right (leb writerLength (length row)) _ h) in
@@ -71,9 +75,53 @@ module _ (row : List ℕ) where
         let t4 = and-parts (small (getD row 4 0)) _ (t3 .1) in
         let t5 = and-parts (small (getD row 5 0)) _ (t4 .1) in
         let t6 = and-parts (small (getD row 6 0)) _ (t5 .1) in
-        ap₂ (λ (x y : ℕ). stateWith b row x y (getD row 4 0 % 2 ^ 32) (getD row 5 0 % 2 ^ 32) (getD row 6 0 % 2 ^ 32)) (low-is (getD row 2 0) (t2 .0)) (low-is (getD row 3 0) (t3 .0))
-        ∙ ap₂ (λ (x y : ℕ). stateWith b row (getD row 2 0) (getD row 3 0) x y (getD row 6 0 % 2 ^ 32)) (low-is (getD row 4 0) (t4 .0)) (low-is (getD row 5 0) (t5 .0))
-        ∙ ap (λ (x : ℕ). stateWith b row (getD row 2 0) (getD row 3 0) (getD row 4 0) (getD row 5 0) x) (low-is (getD row 6 0) (t6 .0))
+        let t10 = and-right (leb (getD row 7 0) 1) (small (sumWord row)) (t6 .1) in
+        ap₂ (λ (x y : ℕ). stateWith b row x y (getD row 4 0 % 2 ^ 32) (getD row 5 0 % 2 ^ 32) (getD row 6 0 % 2 ^ 32) (getD row 10 0 % 2 ^ 32)) (low-is (getD row 2 0) (t2 .0)) (low-is (getD row 3 0) (t3 .0))
+        ∙ ap₂ (λ (x y : ℕ). stateWith b row (getD row 2 0) (getD row 3 0) x y (getD row 6 0 % 2 ^ 32) (getD row 10 0 % 2 ^ 32)) (low-is (getD row 4 0) (t4 .0)) (low-is (getD row 5 0) (t5 .0))
+        ∙ ap₂ (λ (x y : ℕ). stateWith b row (getD row 2 0) (getD row 3 0) (getD row 4 0) (getD row 5 0) x y) (low-is (getD row 6 0) (t6 .0)) (low-is (getD row 10 0) t10)
+
+    -- its flag is 0 or 1
+    pub flag-of : leb (getD row 7 0) 1 ≡ true
+    unfolding standsForState
+    flag-of =
+        let t2 = and-right (small (getD row 2 0)) _ (and-right (leb writerLength (length row)) _ h) in
+        let t4 = and-right (small (getD row 4 0)) _ (and-right (small (getD row 3 0)) _ t2) in
+        and-left _ _ (and-right (small (getD row 6 0)) _ (and-right (small (getD row 5 0)) _ t4))
+
+    -- and the writer's words are of 32 bits, and its sum is an f32
+    pub words-small : WordsSmall (writerIn row)
+    unfolding standsForState
+    words-small =
+        let t2 = and-parts (small (getD row 2 0)) _ (and-right (leb writerLength (length row)) _ h) in
+        let t3 = and-parts (small (getD row 3 0)) _ (t2 .1) in
+        let t4 = and-parts (small (getD row 4 0)) _ (t3 .1) in
+        let t5 = and-parts (small (getD row 5 0)) _ (t4 .1) in
+        let t6 = and-parts (small (getD row 6 0)) _ (t5 .1) in
+        subst WordsSmall a-state
+        (record {
+          least = ltb-true (getD row 2 0) (2 ^ 32) (t2 .0);
+          greatest = ltb-true (getD row 3 0) (2 ^ 32) (t3 .0);
+          last = ltb-true (getD row 4 0) (2 ^ 32) (t4 .0);
+          leading = ltb-true (getD row 5 0) (2 ^ 32) (t5 .0);
+          trailing = ltb-true (getD row 6 0) (2 ^ 32) (t6 .0);
+          total = ofBits-fits binary32 (sumWord row);
+        })
+
+-- a writer like n with another bound and mode
+abbrev writerWith : ErrorBound → Bool → MacaqueV → MacaqueV
+writerWith b f n =
+    record {
+      «error_bound» = b;
+      «min_value» = n .«min_value»;
+      «max_value» = n .«max_value»;
+      «last_value» = n .«last_value»;
+      «last_leading_zero_bits» = n .«last_leading_zero_bits»;
+      «last_trailing_zero_bits» = n .«last_trailing_zero_bits»;
+      «with_first» = f;
+      place = n .place;
+      length = n .length;
+      sum = n .sum;
+    }
 
 -- ---- a row is read back as the writer that it was made of
 
@@ -86,7 +134,46 @@ row-back m rest f s =
     let last = lt-ltb (m .«last_value») (2 ^ 32) (s .last) in
     let leading = lt-ltb (m .«last_leading_zero_bits») (2 ^ 32) (s .leading) in
     let trailing = lt-ltb (m .«last_trailing_zero_bits») (2 ^ 32) (s .trailing) in
-    rw (few, least, greatest, last, leading, trailing, flag-small (m .«with_first»), flag-back (m .«with_first»), bound-front (boundKind (m .«error_bound»)) (boundBits (m .«error_bound»)) _, bound-back (m .«error_bound») f)
+    rw (few, least, greatest, last, leading, trailing, flag-small (m .«with_first»), flag-back (m .«with_first»), is-small (m .sum) (s .total), ofBits-toBits binary32 (m .sum) (s .total), bound-front (boundKind (m .«error_bound»)) (boundBits (m .«error_bound»)) _, bound-back (m .«error_bound») f)
+
+-- such a row stands for a state
+pub row-stands : (m : MacaqueV) (rest : List ℕ) → WordsSmall m → standsForState (writerRow m ++ rest) ≡ true
+unfolding writerRow standsForState
+row-stands m rest s =
+    let few = le-leb writerLength (length (writerRow m ++ rest)) (omega arith) in
+    let least = lt-ltb (m .«min_value») (2 ^ 32) (s .least) in
+    let greatest = lt-ltb (m .«max_value») (2 ^ 32) (s .greatest) in
+    let last = lt-ltb (m .«last_value») (2 ^ 32) (s .last) in
+    let leading = lt-ltb (m .«last_leading_zero_bits») (2 ^ 32) (s .leading) in
+    let trailing = lt-ltb (m .«last_trailing_zero_bits») (2 ^ 32) (s .trailing) in
+    rw (few, least, greatest, last, leading, trailing, flag-small (m .«with_first»), is-small (m .sum) (s .total)) refl
+
+-- and so is a row that a write left of any row that stands for a state: its words of the bound and of the mode are those of the writer
+pub written-back : (row : List ℕ) (n : MacaqueV) (rest : List ℕ) → standsForState row ≡ true → n .«error_bound» ≡ boundFront row → n .«with_first» ≡ eqb (getD row 7 0) 1
+    → WordsSmall n → sumAfter row n ≡ toBits binary32 (n .sum) → writerIn (writtenRow row n ++ rest) ≡ n
+unfolding writtenRow writerIn standsForState boundFront
+written-back row n rest h bound mode s sum =
+    let few = le-leb writerLength (length (writtenRow row n ++ rest)) (omega arith) in
+    let words = has-words row h in
+    let least = lt-ltb (n .«min_value») (2 ^ 32) (s .least) in
+    let greatest = lt-ltb (n .«max_value») (2 ^ 32) (s .greatest) in
+    let last = lt-ltb (n .«last_value») (2 ^ 32) (s .last) in
+    let leading = lt-ltb (n .«last_leading_zero_bits») (2 ^ 32) (s .leading) in
+    let trailing = lt-ltb (n .«last_trailing_zero_bits») (2 ^ 32) (s .trailing) in
+    rw (few, least, greatest, last, leading, trailing, flag-of row h, sum, is-small (n .sum) (s .total), ofBits-toBits binary32 (n .sum) (s .total))
+    (ap₂ (λ (b : ErrorBound) (f : Bool). writerWith b f n) (sym (bound ∙ rw (le-ltb (length row) 2 (omega (arith, words))) (sym (bound-front (getD row 0 0) (getD row 1 0) (drop 2 (writtenRow row n ++ rest)))))) (sym mode))
+
+pub written-stands : (row : List ℕ) (n : MacaqueV) (rest : List ℕ) → standsForState row ≡ true → WordsSmall n → sumAfter row n ≡ toBits binary32 (n .sum)
+    → standsForState (writtenRow row n ++ rest) ≡ true
+unfolding writtenRow standsForState
+written-stands row n rest h s sum =
+    let few = le-leb writerLength (length (writtenRow row n ++ rest)) (omega arith) in
+    let least = lt-ltb (n .«min_value») (2 ^ 32) (s .least) in
+    let greatest = lt-ltb (n .«max_value») (2 ^ 32) (s .greatest) in
+    let last = lt-ltb (n .«last_value») (2 ^ 32) (s .last) in
+    let leading = lt-ltb (n .«last_leading_zero_bits») (2 ^ 32) (s .leading) in
+    let trailing = lt-ltb (n .«last_trailing_zero_bits») (2 ^ 32) (s .trailing) in
+    rw (few, least, greatest, last, leading, trailing, flag-of row h, sum, is-small (n .sum) (s .total)) refl
 
 -- the words of the state that a row stands for are the row's own
 
@@ -102,4 +189,4 @@ spelled-is row j (suc n) h = ap (λ (l : List ℕ). getD row j 0 ∷ l) (spelled
 pub own-words : (row : List ℕ) → standsForState row ≡ true → writtenRow row (writerIn row) ++ drop writerLength row ≡ row
 unfolding writtenRow
 own-words row h =
-    ap (λ (m : MacaqueV). writtenRow row m ++ drop writerLength row) (sym (a-state row h)) ∙ spelled-is row 0 writerLength (has-words row h)
+    ap (λ (m : MacaqueV). writtenRow row m ++ drop writerLength row) (sym (a-state row h)) ∙ rw (eq-eqb (getD row 9 0) (getD row 9 0) refl) (spelled-is row 0 writerLength (has-words row h))

@@ -1,10 +1,11 @@
 -- What the calls of MacaqueV's C face answer and leave: the fault, and the lent memory afterwards, by what the call behind says. Assumes nothing.
 use mathlib.Core.Path.{_≡_}
-use mathlib.Core.Bool.{cond, not}
+use mathlib.Core.Bool.{true, cond, not}
 use mathlib.Core.List.{List, [], _∷_, _++_}
-use Prim.Native.Nat.{ℕ}
+use Prim.Native.Nat.{ℕ, _<_}
 use lib.Dec.{eqb, leb, ltb}
 use lib.ListN.{length, take, drop}
+use lib.Ieee.{binary32, ofBits, toBits}
 use Rattle.models.specs.Answers.{Said, Cause, _when_, judge, judgedMemory, itself, noFault}
 use Rattle.models.specs.declared.Fault.{Fault}
 use Rattle.models.specs.Bound.{boundAllowed}
@@ -12,12 +13,13 @@ use Rattle.models.specs.declared.ErrorBound.{ErrorBound}
 use Rattle.macaque_v.specs.Calls.{newAnswer, writeAnswer, writeMemory}
 use Rattle.macaque_v.specs.Read.{gridAnswer, gridMemory, sumAnswer, reopenCauses, reopenAnswer, reopenMemory}
 use Rattle.macaque_v.specs.Made.{Made}
+use Rattle.macaque_v.specs.Sums.{OfItsBytes, carried}
 use Rattle.macaque_v.specs.declared.MacaqueV.{MacaqueV}
 use Rattle.macaque_v.specs.declared.Opening.{Opening}
 use Rattle.macaque_v.specs.declared.Opening.the-variants.{First, On}
 use Rattle.exports.specs.Face.{boundOf, faultSaid, rowIn, rowAfter, stepFault, stepRow, plainFault, oneWord}
 use Rattle.exports.specs.Words.{noCount}
-use Rattle.exports_stream.specs.Row.{writerLength, writerRow, writtenRow, writerIn}
+use Rattle.exports_stream.specs.Row.{writerLength, writerRow, sumWord, writtenRow, standsForState, writerIn, bytesInUse, lengthWord}
 
 -- ---- how a stream opens: mode 0 stores the first value in full and looks at no other, mode 1 opens on the value
 
@@ -96,7 +98,7 @@ sumOut bytes count mode opening out = rowAfter 1 oneWord out (sumAnswer bytes (c
 
 -- ---- demand 3, of rows
 
--- row and buffer are what one fresh run over xs leaves: the writer that the row stands for has made the bytes, and its ten words stand at the row's front
+-- row and buffer are what one fresh run over xs leaves: the writer that the row stands for has made the bytes, and its eleven words stand at the row's front
 pub record RowMade (b : ErrorBound) (o : Opening) (xs buf row : List ℕ) : Type 0 where
   pub made : Made b o xs buf (writerIn row)
   pub words : row ≡ writerRow (writerIn row) ++ drop writerLength row
@@ -110,3 +112,54 @@ pub record RowResumes (xs buf : List ℕ) (used k mode opening kind bound : ℕ)
 abbrev pub RowResumesAsOne : List ℕ → List ℕ → ℕ → ℕ → ℕ → ℕ → ℕ → ℕ → List ℕ → List ℕ → Type 0
 RowResumesAsOne xs buf used k mode opening kind bound row ys =
     RowResumes xs buf used k mode opening kind bound row ys (reopenRow buf used (length xs) k mode opening kind bound row) (reopenBuffer buf used (length xs) k mode opening kind bound row)
+
+-- ---- the running sum, of rows
+
+-- the row stands for the writer of its bytes, and its sum's word is as a call leaves it: a NaN is 7FC00000
+pub record RowOfItsBytes (mode opening : ℕ) (buf row : List ℕ) : Type 0 where
+  pub stands : standsForState row ≡ true
+  pub writer : OfItsBytes (openingOf mode opening) buf (writerIn row)
+  pub plain : sumWord row ≡ toBits binary32 ((writerIn row) .sum)
+
+-- the sum call, on the bytes in use and with the row's length as their count, answers the row's word of the sum
+abbrev pub RowSumsAsTheCall : ℕ → ℕ → List ℕ → List ℕ → List ℕ → Type 0
+RowSumsAsTheCall mode opening buf row out =
+    (sumFault (bytesInUse row buf) (lengthWord row) mode opening out ≡ noFault) × (sumOut (bytesInUse row buf) (lengthWord row) mode opening out ≡ sumWord row ∷ drop 1 out)
+
+-- a row by its words: ten, the sum's, and what stands behind them
+pub record TenWords : Type 0 where
+  pub kind : ℕ
+  pub bound : ℕ
+  pub least : ℕ
+  pub greatest : ℕ
+  pub last : ℕ
+  pub leading : ℕ
+  pub trailing : ℕ
+  pub mode : ℕ
+  pub place : ℕ
+  pub count : ℕ
+
+abbrev pub rowOf : TenWords → ℕ → List ℕ → List ℕ
+rowOf w sum rest =
+    w .kind
+    ∷ w .bound
+    ∷ w .least
+    ∷ w .greatest
+    ∷ w .last
+    ∷ w .leading
+    ∷ w .trailing
+    ∷ w .mode
+    ∷ w .place
+    ∷ w .count
+    ∷ sum
+    ∷ rest
+
+-- a write through a row that is handed in with the sum t instead of s: the same fault, the same buffer, and the same words but for the sum's, which is carried
+-- on by the same additions
+pub record RowCarriesTheSum (w : TenWords) (s t : ℕ) (rest xs buf : List ℕ) : Type 0 where
+  pub fault : writeFault (rowOf w t rest) xs buf ≡ writeFault (rowOf w s rest) xs buf
+  pub buffer : writeBuffer (rowOf w t rest) xs buf ≡ writeBuffer (rowOf w s rest) xs buf
+  pub others : take 10 (writeRow (rowOf w t rest) xs buf) ≡ take 10 (writeRow (rowOf w s rest) xs buf)
+  pub behind : drop 11 (writeRow (rowOf w t rest) xs buf) ≡ drop 11 (writeRow (rowOf w s rest) xs buf)
+  pub sum : writeFault (rowOf w s rest) xs buf ≡ noFault → 0 < length xs
+      → sumWord (writeRow (rowOf w t rest) xs buf) ≡ toBits binary32 (carried (writerIn (rowOf w s rest)) (ofBits binary32 t) xs)

@@ -1,12 +1,13 @@
--- A writer's state as a row of ten words: the bound's kind and bits; the least, the greatest and the last kept value; the window's leading and
--- trailing zeros; 1 where the first value is stored in full, else 0; the place; the length. Assumes nothing.
+-- A writer's state as a row of eleven words: the bound's kind and bits; the least, the greatest and the last kept value; the window's leading and
+-- trailing zeros; 1 where the first value is stored in full, else 0; the place; the length; the sum's bits. Assumes nothing.
 use mathlib.Core.Bool.{Bool, false, cond, _&&_}
 use mathlib.Core.List.{List, [], _∷_}
 use Prim.Native.Nat.{ℕ}
 use lib.Dec.{eqb, leb}
 use lib.ListN.{length, take, getD}
+use lib.Ieee.{binary32, ofBits, toBits}
 use Rattle.bits.specs.Bits.{wholeBytes}
-use Rattle.models.specs.Floats.{freshBits}
+use Rattle.models.specs.Floats.{freshBits, zeroF}
 use Rattle.models.specs.declared.ErrorBound.{ErrorBound}
 use Rattle.exports.specs.Face.{wordOf}
 use Rattle.exports.specs.Words.{boundKind, boundBits, small, boundFront}
@@ -14,13 +15,13 @@ use Rattle.stream.specs.Format.{opening}
 use Rattle.macaque_v.specs.declared.MacaqueV.{MacaqueV}
 
 abbrev pub writerLength : ℕ
-writerLength = 10
+writerLength = 11
 
 -- ---- a state's words
 
--- with the words of the bound and of the mode as they are given
-abbrev pub stateWords : ℕ → ℕ → ℕ → MacaqueV → List ℕ
-stateWords kind bits mode m =
+-- with the words of the bound, of the mode and of the sum as they are given
+abbrev pub stateWords : ℕ → ℕ → ℕ → ℕ → MacaqueV → List ℕ
+stateWords kind bits mode sum m =
     kind
     ∷ bits
     ∷ m .«min_value»
@@ -31,19 +32,31 @@ stateWords kind bits mode m =
     ∷ mode
     ∷ m .place
     ∷ m .length
+    ∷ sum
     ∷ []
 
--- a state that is handed out
+-- a state that is handed out: a NaN as its sum is 7FC00000
 unfoldable pub writerRow : MacaqueV → List ℕ
-writerRow m = stateWords (boundKind (m .«error_bound»)) (boundBits (m .«error_bound»)) (wordOf (m .«with_first»)) m
+writerRow m = stateWords (boundKind (m .«error_bound»)) (boundBits (m .«error_bound»)) (wordOf (m .«with_first»)) (toBits binary32 (m .sum)) m
+
+-- how many values a row's stream holds, and the bits of their sum
+abbrev pub lengthWord : List ℕ → ℕ
+lengthWord row = getD row 9 0
+
+abbrev pub sumWord : List ℕ → ℕ
+sumWord row = getD row 10 0
+
+-- the sum's word after a write: "An empty write changes nothing", so where no value came it is the one that stands in the row
+abbrev pub sumAfter : List ℕ → MacaqueV → ℕ
+sumAfter row m = cond (eqb (m .length) (lengthWord row)) (sumWord row) (toBits binary32 (m .sum))
 
 -- the state after a write: the bound and the mode cannot change, so words 0, 1 and 7 are those that stand in the row
 unfoldable pub writtenRow : List ℕ → MacaqueV → List ℕ
-writtenRow row m = stateWords (getD row 0 0) (getD row 1 0) (getD row 7 0) m
+writtenRow row m = stateWords (getD row 0 0) (getD row 1 0) (getD row 7 0) (sumAfter row m) m
 
 -- ---- the state that words stand for
 
--- ten words or more, words of 32 bits where the state has such, and a flag of 0 or 1
+-- eleven words or more, words of 32 bits where the state has such, and a flag of 0 or 1
 unfoldable pub standsForState : List ℕ → Bool
 standsForState row =
     leb writerLength (length row)
@@ -51,7 +64,7 @@ standsForState row =
     && (small (getD row 3 0)
     && (small (getD row 4 0)
     && (small (getD row 5 0)
-    && (small (getD row 6 0) && leb (getD row 7 0) 1)))))
+    && (small (getD row 6 0) && (leb (getD row 7 0) 1 && small (sumWord row)))))))
 
 -- the state that no buffer allows: it has a place and no value
 abbrev pub spoiledWriter : ErrorBound → MacaqueV
@@ -66,6 +79,7 @@ spoiledWriter b =
       «with_first» = false;
       place = 1;
       length = 0;
+      sum = zeroF;
     }
 
 abbrev pub readWriter : ErrorBound → List ℕ → MacaqueV
@@ -79,7 +93,8 @@ readWriter b row =
       «last_trailing_zero_bits» = getD row 6 0;
       «with_first» = eqb (getD row 7 0) 1;
       place = getD row 8 0;
-      length = getD row 9 0;
+      length = lengthWord row;
+      sum = ofBits binary32 (sumWord row);
     }
 
 -- a row that is too short stands for no state, as one with wrong words does
@@ -91,7 +106,3 @@ writerIn row = cond (standsForState row) (readWriter (boundFront row) row) (spoi
 -- the bytes in use, by the word of the place
 abbrev pub bytesInUse : List ℕ → List ℕ → List ℕ
 bytesInUse row buf = take (wholeBytes (getD row 8 0)) buf
-
--- how many values they hold
-abbrev pub lengthWord : List ℕ → ℕ
-lengthWord row = getD row 9 0

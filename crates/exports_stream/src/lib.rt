@@ -1,5 +1,5 @@
 // The C face of MacaqueV, the write with a place table among it (specs/Tabled.antt): it and the plain write run one
-// compiled loop. A writer's state crosses as a row of ten words (specs/Row.antt), and how a stream
+// compiled loop. A writer's state crosses as a row of eleven words (specs/Row.antt), and how a stream
 // opens as a mode and a value (specs/Calls.antt). A call answers a fault, of number 0 where nothing is
 // refused, and a refusal changes nothing that was lent.
 ghost use mathlib.Core.Path.{_≡_};

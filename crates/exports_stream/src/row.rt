@@ -1,21 +1,21 @@
-// A writer's state as a row of ten words (specs/Row.antt): to the row, and back. A row that stands for no
+// A writer's state as a row of eleven words (specs/Row.antt): to the row, and back. A row that stands for no
 // state stands for one that the call behind refuses.
 ghost use mathlib.Core.Path.{_≡_};
 ghost use mathlib.Core.Bool.{true};
 ghost use Prim.Native.Nat.{_≤_};
 ghost use lib.ListN.{length};
-ghost use Rattle.exports_stream.specs.Row.{writerLength, stateWords, writerRow, writtenRow, standsForState, readWriter, writerIn};
+ghost use Rattle.exports_stream.specs.Row.{writerLength, stateWords, writerRow, sumAfter, writtenRow, standsForState, readWriter, writerIn};
 use exports::words;
 use macaque_v::MacaqueV;
 use models::ErrorBound;
 
-pub const WORDS: usize = 10;
+pub const WORDS: usize = 11;
 
 // ---- to the row
 
-// A state's words, with those of the bound and of the mode as they are given.
-fn state_words(kind: u64, bits: u64, mode: u64, m: MacaqueV) -> [u64; WORDS]
-    ensures { λ r. ⌜ r ≡ stateWords kind bits mode m ⌝ }
+// A state's words, with those of the bound, of the mode and of the sum as they are given.
+fn state_words(kind: u64, bits: u64, mode: u64, sum: u64, m: MacaqueV) -> [u64; WORDS]
+    ensures { λ r. ⌜ r ≡ stateWords kind bits mode sum m ⌝ }
 {
     [
         kind,
@@ -28,6 +28,7 @@ fn state_words(kind: u64, bits: u64, mode: u64, m: MacaqueV) -> [u64; WORDS]
         mode,
         m.place as u64,
         m.length as u64,
+        sum,
     ]
 }
 
@@ -37,7 +38,8 @@ pub fn writer_words(m: MacaqueV) -> [u64; WORDS]
 {
     let b = m.error_bound;
     let mode = exports::word_of(m.with_first) as u64;
-    state_words(words::kind_of(b), words::bits_of(b), mode, m)
+    let sum = numbers::bits_of_f32(m.sum) as u64;
+    state_words(words::kind_of(b), words::bits_of(b), mode, sum, m)
 }
 
 // Of the state after a write: the bound and the mode stay as they stand in the row.
@@ -45,7 +47,18 @@ pub fn written_words(row: &[u64], m: MacaqueV) -> [u64; WORDS]
     requires { ⌜ writerLength ≤ length (now row) ⌝ }
     ensures { λ r. ⌜ r ≡ writtenRow (now (row .entry)) m ⌝ }
 {
-    state_words(row[0], row[1], row[7], m)
+    state_words(row[0], row[1], row[7], sum_after(row, m), m)
+}
+
+// The sum's word after a write: where no value came it stays as it stands in the row.
+fn sum_after(row: &[u64], m: MacaqueV) -> u64
+    requires { ⌜ writerLength ≤ length (now row) ⌝ }
+    ensures { λ r. ⌜ r ≡ sumAfter (now (row .entry)) m ⌝ }
+{
+    if (m.length as u64) == row[9] {
+        return row[10];
+    }
+    numbers::bits_of_f32(m.sum) as u64
 }
 
 // ---- from the row
@@ -60,7 +73,8 @@ fn stands_for_state(row: &[u64]) -> bool
     words::is_small(row[2])
         & (words::is_small(row[3])
             & (words::is_small(row[4])
-                & (words::is_small(row[5]) & (words::is_small(row[6]) & (row[7] <= 1)))))
+                & (words::is_small(row[5])
+                    & (words::is_small(row[6]) & ((row[7] <= 1) & words::is_small(row[10]))))))
 }
 
 // The state in a row that stands for one.
@@ -79,6 +93,7 @@ fn read_writer(error_bound: ErrorBound, row: &[u64]) -> MacaqueV
         with_first: row[7] == 1,
         place: row[8] as usize,
         length: row[9] as usize,
+        sum: numbers::value_of_f32(words::low(row[10])),
     }
 }
 
@@ -100,5 +115,6 @@ pub fn writer_of(row: &[u64]) -> MacaqueV
         with_first: false,
         place: 1,
         length: 0,
+        sum: 0.0,
     }
 }

@@ -2,4 +2,5 @@
 pub mod Faces
 pub mod Told
 pub mod Promises
+pub mod Sums
 pub mod Causes

@@ -1,5 +1,5 @@
 // The C face of the place table beside a stream, but for the write with one, which stands beside the plain write in
-// crates/exports_stream. A writer's state crosses as its row of ten words, and how a
+// crates/exports_stream. A writer's state crosses as its row of eleven words, and how a
 // stream opens as a mode and a value (crates/exports_stream). A table crosses as its lent words, four to an
 // entry, and the number of entries in use beside it; a call that changes that number is handed a place for it.
 // A call answers a fault, of number 0 where nothing is refused, and a refusal changes nothing that was lent.

@@ -1,7 +1,9 @@
 -- The theorems about the calls, and the laws that the proofs of `macaque_v` share.
 pub mod Promises
 pub mod Held
+pub mod Sums
 pub mod Extremes
+pub mod Adding
 pub mod Stepping
 pub mod Writing
 pub mod Entering

@@ -11,11 +11,13 @@ use Rattle.models.specs.Limits.{mostValues}
 use Rattle.models.specs.Bound.{boundAllowed}
 use Rattle.models.specs.declared.ErrorBound.{ErrorBound}
 use Rattle.models.specs.declared.ErrorBound.the-variants.{Lossless}
+use Rattle.stream.specs.Format.{gatherFrom}
 use Rattle.stream.proofs.Calls as calls
+use Rattle.stream.proofs.Gathered.{both-gather}
 use Rattle.stream.proofs.Promises.{gathers-over-the-kept-values, gathers-each-value-once}
 use Rattle.stream.proofs.Writing.{kept-lossless}
 use Rattle.coding.specs.Keep.{keepRule}
-use Rattle.macaque_v.specs.State.{minMaxWith, gatherMinMax, modeOf, streamIn, stateOf, writerOf, isFirst, openingValue, opened}
+use Rattle.macaque_v.specs.State.{minMaxWith, gatherMinMax, gatherSum, Known, endsIn, sumIn, modeOf, streamIn, stateOf, writerOf, isFirst, openingValue, opened}
 use Rattle.macaque_v.specs.Write.{coderOf, coderBy}
 use Rattle.macaque_v.specs.Calls.{newAnswer, writeAnswer, writeMemory}
 use Rattle.macaque_v.specs.Read.{valuesIn, gridAnswer, gridMemory, reopenAnswer, reopenMemory}
@@ -103,12 +105,23 @@ unfolding reopenMemory
 reopening-keeps-the-length b o hl buf used n k =
     calls.reopening-keeps-the-length (coderOf b (isFirst o)) (coder-good b (isFirst o)) (openingValue o) buf used n k hl
 
+-- what the writer after xs has gathered: each thing as it is alone, over what it kept of xs
+known-of-the-kept : (b : ErrorBound) (o : Opening) (xs : List ℕ)
+    → (stateOver b o xs) .seen
+    ≡ (gatherFrom gatherMinMax (modeOf (isFirst o)) 0 (gatherMinMax .none) (keptOf b o xs), gatherFrom gatherSum (modeOf (isFirst o)) 0 (gatherSum .none) (keptOf b o xs))
+known-of-the-kept b o xs =
+    gathers-over-the-kept-values (keepRule b) (streamIn (isFirst o)) (opened o) xs
+    ∙ both-gather gatherMinMax gatherSum (modeOf (isFirst o)) 0 (gatherMinMax .none) (gatherSum .none) (keptOf b o xs)
+
 -- "Minimum and maximum start fresh and take in each kept value from the left, the raw first one too, and never an input that was not kept": the writer after
 -- xs has those of what it kept of xs; the opening value is not among them
-pub ends-of-the-kept : (b : ErrorBound) (o : Opening) (xs : List ℕ) → (stateOver b o xs) .seen ≡ foldl minMaxWith (gatherMinMax .none) (keptOf b o xs)
+pub ends-of-the-kept : (b : ErrorBound) (o : Opening) (xs : List ℕ) → endsIn (stateOver b o xs) ≡ foldl minMaxWith (gatherMinMax .none) (keptOf b o xs)
 ends-of-the-kept b o xs =
-    gathers-over-the-kept-values (keepRule b) (streamIn (isFirst o)) (opened o) xs
-    ∙ gathers-each-value-once gatherMinMax (λ e v. refl) (modeOf (isFirst o)) 0 (gatherMinMax .none) (keptOf b o xs)
+    ap (λ (k : Known). k .0) (known-of-the-kept b o xs) ∙ gathers-each-value-once gatherMinMax (λ e v. refl) (modeOf (isFirst o)) 0 (gatherMinMax .none) (keptOf b o xs)
+
+-- and the sum is theirs, as the sum call adds it: from a raw first value, else from 0
+pub sum-of-the-kept : (b : ErrorBound) (o : Opening) (xs : List ℕ) → sumIn (stateOver b o xs) ≡ gatherFrom gatherSum (modeOf (isFirst o)) 0 (gatherSum .none) (keptOf b o xs)
+sum-of-the-kept b o xs = ap (λ (k : Known). k .1) (known-of-the-kept b o xs)
 
 -- lossless keeps the inputs, so it is they that read back
 pub lossless-keeps-the-inputs : (o : Opening) (xs : List ℕ) → keptOf Lossless o xs ≡ xs

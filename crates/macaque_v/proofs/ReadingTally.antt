@@ -2,20 +2,23 @@
 use mathlib.Core.Path.{_≡_, refl, sym, ap, ap₂, _∙_}
 use mathlib.Core.Bool.{Bool, true, false}
 use mathlib.Core.List.{List, [], _∷_, _++_}
-use Prim.Native.Nat.{ℕ, suc, _+_, _<_}
+use Prim.Native.Nat.{ℕ, suc, _+_, _-_, _<_}
 use native.Mathlib.Nat.{add-zero}
 use native.Mathlib.Numerals.{add-one}
 use native.Mathlib.Omega.{arith}
 use lib.ListN.{length, take, getD}
 use lib.Seq.{take-suc, length-take-le}
+use lib.Ieee.{Float, binary32, add, ofBits}
 use Rattle.stream.specs.Format.{Gather, Mode, gathered, rawNext, gatherFrom}
-use Rattle.macaque_v.specs.State.{MinMax, minMaxWith, gatherMinMax, modeOf}
-use Rattle.macaque_v.specs.ReadRun.{gatherSum}
-use Rattle.macaque_v.specs.inner.ReadRun.{ReadableAt, Reads, minMaxIn, freshTally, withSum, withMinMax, tallied, Walked}
+use Rattle.macaque_v.specs.State.{MinMax, minMaxWith, gatherMinMax, gatherSum, gatherKnown, modeOf}
+use Rattle.macaque_v.specs.inner.Total.{addedTo}
+use Rattle.macaque_v.specs.inner.ReadRun.{ReadableAt, Reads, knownIn, tallyOf, freshTally, withSum, tallied, Walked}
 use Rattle.macaque_v.specs.declared.read_run.Aim.{Aim}
 use Rattle.macaque_v.specs.declared.read_run.Aim.the-variants as OfAim
 use Rattle.macaque_v.specs.declared.read_run.Tally.{Tally}
 use Rattle.macaque_v.specs.declared.read_run.Cursor.{Cursor}
+use Rattle.macaque_v.proofs.Adding.{one-more-added}
+use Rattle.macaque_v.proofs.Stepping.{raw-once}
 use Rattle.macaque_v.proofs.ReadingRun.{reads-none, reads-then}
 
 module _ {A : Type 0} (G : Gather A) (mode : Mode) where
@@ -46,17 +49,42 @@ ends-more mode n e vs i h = gather-more gatherMinMax mode n e vs i h ∙ go (raw
     go true b = refl
     go false b = refl
 
+-- ---- a sum as a loop holds it: what the next value is added to
+
+abbrev pub SumHeld : Mode → ℕ → Float → List ℕ → ℕ → Float → Type 0
+SumHeld mode n s vs i total = total ≡ addedTo (rawNext mode (n + i)) (gatherFrom gatherSum mode n s (take i vs))
+
+pub sum-none : (mode : Mode) (n : ℕ) (s : Float) (vs : List ℕ) (raw : Bool) (total : Float) → raw ≡ rawNext mode n → total ≡ addedTo raw s → SumHeld mode n s vs 0 total
+unfolding gatherFrom
+sum-none mode n s vs raw total same h = h ∙ ap (λ (b : Bool). addedTo b s) (same ∙ ap (rawNext mode) (sym (add-zero n)))
+
+pub sum-more : (mode : Mode) (n : ℕ) (s : Float) (vs : List ℕ) (i : ℕ) → i < length vs → (total : Float) → SumHeld mode n s vs i total
+    → SumHeld mode n s vs (i + 1) (add binary32 total (ofBits binary32 (getD vs i 0)))
+sum-more mode n s vs i h total held =
+    let next : suc (n + i) ≡ n + (i + 1) = omega arith in
+    let now : Float = gatherFrom gatherSum mode n s (take (i + 1) vs) in
+    ap (λ (x : Float). add binary32 x (ofBits binary32 (getD vs i 0))) held
+    ∙ one-more-added (rawNext mode (n + i)) (gatherFrom gatherSum mode n s (take i vs)) (getD vs i 0)
+    ∙ sym (gather-more gatherSum mode n s vs i h)
+    ∙ ap (λ (b : Bool). addedTo b now) (sym (raw-once mode (n + i)) ∙ ap (rawNext mode) next)
+
+-- behind a value or more it is the sum
+pub sum-held : (mode : Mode) (n : ℕ) (s : Float) (vs : List ℕ) (i : ℕ) (total : Float) → 0 < i → SumHeld mode n s vs i total → total ≡ gatherFrom gatherSum mode n s (take i vs)
+sum-held mode n s vs i total some held =
+    let behind : n + i ≡ suc (n + i - 1) = omega arith in
+    held ∙ ap (λ (b : Bool). addedTo b (gatherFrom gatherSum mode n s (take i vs))) (ap (rawNext mode) behind ∙ raw-once mode (n + i - 1))
+
 pub tallied-append : (aim : Aim) (mode : Mode) (n : ℕ) (t : Tally) (us vs : List ℕ)
     → tallied aim mode n t (us ++ vs) ≡ tallied aim mode (n + length us) (tallied aim mode n t us) vs
 tallied-append OfAim.Nothing mode n t us vs = refl
 tallied-append OfAim.Sum mode n t us vs = ap (withSum t) (gather-append gatherSum mode n (t .sum) us vs)
-tallied-append OfAim.MinMax mode n t us vs = ap (withMinMax t) (gather-append gatherMinMax mode n (minMaxIn t) us vs)
+tallied-append OfAim.All mode n t us vs = ap tallyOf (gather-append gatherKnown mode n (knownIn t) us vs)
 
 tallied-none : (aim : Aim) (mode : Mode) (n : ℕ) (t : Tally) → t ≡ tallied aim mode n t []
 unfolding gatherFrom
 tallied-none OfAim.Nothing mode n t = refl
 tallied-none OfAim.Sum mode n t = refl
-tallied-none OfAim.MinMax mode n t = refl
+tallied-none OfAim.All mode n t = refl
 
 -- ---- on the way through the values
 

@@ -7,11 +7,12 @@ use native.Mathlib.Omega.{arith}
 use borrow.Author.Tests.{ne-eqb}
 use lib.Dec.{eqb}
 use lib.ListN.{length}
+use lib.Ieee.{Float, binary32, add, ofBits}
 use Rattle.bits.specs.Bits.{field}
 use Rattle.bits.proofs.Fields.{length-field}
-use Rattle.stream.specs.Format.{macaque, Window, gathered, rawNext, State, isRaw, bitsFor, windowFor, windowIn}
+use Rattle.stream.specs.Format.{macaque, Window, gathered, Mode, withFirst, withoutFirst, rawNext, State, isRaw, bitsFor, windowFor, windowIn}
 use Rattle.stream.specs.Write.{keptOne, bitsOne, next}
-use Rattle.macaque_v.specs.State.{Known, MinMax, minMaxWith, gatherMinMax, modeOf, stateOf}
+use Rattle.macaque_v.specs.State.{Known, MinMax, minMaxWith, gatherSum, gatherKnown, endsIn, sumIn, modeOf, stateOf}
 use Rattle.macaque_v.specs.Write.{streamBy, ruleBy}
 use Rattle.macaque_v.specs.inner.Write.{stateBy, StrokeSays}
 use Rattle.macaque_v.specs.declared.MacaqueV.{MacaqueV}
@@ -19,7 +20,9 @@ use Rattle.macaque_v.specs.declared.span.Span.{Span}
 use Rattle.macaque_v.specs.declared.write.Pen.{Pen}
 use Rattle.macaque_v.specs.declared.write.Stroke.{Stroke}
 use Rattle.macaque_v.specs.inner.Span.{MinMaxHeld}
+use Rattle.macaque_v.specs.inner.Total.{addedTo}
 use Rattle.macaque_v.proofs.Extremes.{span-more}
+use Rattle.macaque_v.proofs.Adding.{one-more-added}
 
 -- the next value is stored raw
 pub raw-is : (first : Bool) (n : ℕ) → (first && eqb n 0) ≡ rawNext (modeOf first) n
@@ -55,15 +58,21 @@ raw-none first len n e i h =
     let no : ¬ (i ≡ n) = omega arith in
     ne-eqb i n no ∙ ap (λ (b : Bool). b && eqb i 0) (sym e) ∙ raw-at first len i
 
--- a raw value enters the least and the greatest as any other
-taken-is : (raw : Bool) (e : MinMax) (v : ℕ) → minMaxWith e v ≡ gathered gatherMinMax raw e v
-taken-is true e v = refl
-taken-is false e v = refl
+-- behind a value none is raw
+pub raw-once : (mode : Mode) (n : ℕ) → rawNext mode (suc n) ≡ false
+raw-once withFirst n = refl
+raw-once withoutFirst n = refl
+
+-- a raw value enters the least and the greatest as any other; the sum begins with it
+pub known-more : (raw : Bool) (e : MinMax) (s : Float) (v : ℕ) → gathered gatherKnown raw (e, s) v ≡ (minMaxWith e v, gathered gatherSum raw s v)
+known-more true e s v = refl
+known-more false e s v = refl
 
 -- the pen stands in the state s, n values behind the writer m
 pub record PenAt (m : MacaqueV) (s : State Known) (n : ℕ) (p : Pen) : Type 0 where
   pub state : s ≡ stateBy p (s .count) (s .seen)
-  pub ends : MinMaxHeld ((stateOf m) .seen) n (s .seen) (p .span) (p .last)
+  pub ends : MinMaxHeld (endsIn (stateOf m)) n (endsIn s) (p .span) (p .last)
+  pub sum : p .sum ≡ addedTo (isRaw (streamBy m) s) (sumIn s)
 
 module _ (m : MacaqueV) {s : State Known} {n : ℕ} {p : Pen} (P : PenAt m s n p) (raw : Bool) (same : raw ≡ isRaw (streamBy m) s) (x : ℕ) (r : Stroke) (S : StrokeSays raw (m .«error_bound») p x r) where
   -- the state as the pen has it
@@ -89,14 +98,26 @@ module _ (m : MacaqueV) {s : State Known} {n : ℕ} {p : Pen} (P : PenAt m s n p
   pub digits-are : field (r .width) (r .bits) ≡ bitsOne (streamBy m) s (keptOne (ruleBy m) (isRaw (streamBy m) s) (s .last) x)
   digits-are = digits-here ∙ ap₂ (λ (u : State Known) (z : ℕ). bitsOne (streamBy m) u z) (sym (P .state)) kept-is
 
+  -- what is gathered with it
+  abbrev known : Known
+  known = gathered gatherKnown (isRaw (streamBy m) t) (s .seen) v
+
+  known-is : known ≡ (minMaxWith (endsIn s) v, gathered gatherSum (isRaw (streamBy m) t) (sumIn s) v)
+  known-is = known-more (isRaw (streamBy m) t) (endsIn s) (sumIn s) v
+
+  -- the sum begins with a raw value, and any other is added to it
+  sum-here : r .pen .sum ≡ gathered gatherSum (isRaw (streamBy m) t) (sumIn s) v
+  sum-here = S .sum ∙ ap (λ (x : Float). add binary32 x (ofBits binary32 v)) (P .sum) ∙ one-more-added (isRaw (streamBy m) s) (sumIn s) v
+
   pub pen-next : v < 2 ^ 32 → PenAt m (next (streamBy m) s (keptOne (ruleBy m) (isRaw (streamBy m) s) (s .last) x)) (n + 1) (r .pen)
   pen-next fits =
       let here : PenAt m (next (streamBy m) t v) (n + 1) (r .pen) =
       record {
-        state = ap₂ (λ (w : Window) (k : ℕ). record { last = v; win = w; place = k; count = suc (s .count); seen = gathered gatherMinMax (isRaw (streamBy m) t) (s .seen) v }) (sym window-here) (sym place-here);
+        state = ap₂ (λ (w : Window) (k : ℕ). record { last = v; win = w; place = k; count = suc (s .count); seen = known }) (sym window-here) (sym place-here);
         ends =
-            subst (λ (e : MinMax). MinMaxHeld ((stateOf m) .seen) (n + 1) e (r .pen .span) v) (taken-is (isRaw (streamBy m) t) (s .seen) v)
-            (subst (λ (z : Span). MinMaxHeld ((stateOf m) .seen) (n + 1) (minMaxWith (s .seen) v) z v) (sym (S .span)) (span-more (P .ends) v fits));
+            subst (λ (k : Known). MinMaxHeld (endsIn (stateOf m)) (n + 1) (k .0) (r .pen .span) v) (sym known-is)
+            (subst (λ (z : Span). MinMaxHeld (endsIn (stateOf m)) (n + 1) (minMaxWith (endsIn s) v) z v) (sym (S .span)) (span-more (P .ends) v fits));
+        sum = sum-here ∙ sym (ap (λ (k : Known). k .1) known-is) ∙ sym (ap (λ (b : Bool). addedTo b (known .1)) (raw-once (modeOf (m .«with_first»)) (s .count)));
       } in
       subst (λ (z : ℕ). PenAt m (next (streamBy m) s z) (n + 1) (r .pen)) kept-is
       (subst (λ (u : State Known). PenAt m (next (streamBy m) u v) (n + 1) (r .pen)) (sym (P .state)) here)

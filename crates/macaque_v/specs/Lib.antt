@@ -5,4 +5,5 @@ pub mod Calls
 pub mod Made
 pub mod ReadRun
 pub mod Read
+pub mod Sums
 pub mod inner

@@ -2,7 +2,9 @@
 use mathlib.Core.Path.{_≡_}
 use mathlib.Core.List.{List, _++_}
 use Prim.Native.Nat.{ℕ, _+_, _*_, _^_, _≤_, _<_}
+use lib.Dec.{T}
 use lib.ListN.{length, take}
+use lib.Ieee.{binary32, fits}
 use Rattle.bits.specs.Bits.{Below, wholeBytes}
 use Rattle.models.specs.Answers.{answered, answeredOn}
 use Rattle.models.specs.Limits.{mostValues}
@@ -49,10 +51,11 @@ pub record Resumes (b : ErrorBound) (o : Opening) (n k used : ℕ) (buf vs : Lis
       → valuesIn (take (wholeBytes (after .place)) (writeMemory writer ys (reopenMemory buf used n k o b))) (k + length ys) o
       ≡ answered (take k vs ++ kept (keepRule b) (streamIn (isFirst o)) (stateOf writer) ys)
 
--- a writer whose words are of 32 bits, as a program holds them
+-- a writer whose words are of 32 bits, and whose sum is an f32, as a program holds them
 pub record WordsSmall (m : MacaqueV) : Type 0 where
   pub least : m .«min_value» < 2 ^ 32
   pub greatest : m .«max_value» < 2 ^ 32
   pub last : m .«last_value» < 2 ^ 32
   pub leading : m .«last_leading_zero_bits» < 2 ^ 32
   pub trailing : m .«last_trailing_zero_bits» < 2 ^ 32
+  pub total : T (fits binary32 (m .sum))

@@ -13,9 +13,8 @@ use Rattle.models.specs.declared.ErrorBound.{ErrorBound}
 use Rattle.stream.specs.Format.{opening, openedOn, gatherFrom}
 use Rattle.stream.specs.Calls as theory
 pub use Rattle.stream.specs.Calls.{valuesRead, gridCauses, drawn, drawnIn}
-use Rattle.macaque_v.specs.State.{modeOf, streamIn, isFirst, openingValue}
+use Rattle.macaque_v.specs.State.{gatherSum, modeOf, streamIn, isFirst, openingValue}
 use Rattle.macaque_v.specs.Write.{coderOf}
-use Rattle.macaque_v.specs.ReadRun.{gatherSum}
 use Rattle.macaque_v.specs.declared.MacaqueV.{MacaqueV}
 use Rattle.macaque_v.specs.declared.Opening.{Opening}
 use Rattle.macaque_v.specs.declared.read_run.Cursor.{Cursor}

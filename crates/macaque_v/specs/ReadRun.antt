@@ -1,15 +1,12 @@
--- Reading value after value in lent bytes: where reading is, one value more, what a sum adds, and the end. Assumes nothing.
+-- Reading value after value in lent bytes: where reading is, one value more, and the end. Assumes nothing.
 use mathlib.Core.Bool.{Bool}
 use mathlib.Core.List.{List, []}
 use mathlib.Core.Option.{none}
 use Prim.Native.Nat.{ℕ, _+_}
 use lib.ListN.{drop}
-use lib.Ieee as Ieee
-use lib.Ieee.{Float, binary32, ofBits}
 use Rattle.bits.specs.Bits.{bitsOf}
-use Rattle.models.specs.Floats.{zeroF}
 use Rattle.models.specs.Answers.{Said, Done, answered, refused}
-use Rattle.stream.specs.Format.{Gather, State, windowIn, bare}
+use Rattle.stream.specs.Format.{State, windowIn, bare}
 use Rattle.stream.specs.Read as stream
 use Rattle.stream.specs.Read.{done, stepAt, ended}
 use Rattle.stream.specs.Calls.{faultAt, valuesRead, drawn}
@@ -36,17 +33,6 @@ movedBy at (stream.halt n) = refused (faultAt (record { no = n; value = at .coun
 
 abbrev pub nextFrom : Bool → List ℕ → Cursor → Said Cursor
 nextFrom first bytes at = movedBy at (stepAt (bare (modeOf first)) (stateAt at) (ahead bytes at))
-
--- ---- what is taken in
-
--- "Sum adds in f32 from the left: from the first value in with-first mode, else from 0"
-abbrev pub gatherSum : Gather Float
-gatherSum =
-    record {
-      none = zeroF;
-      byFirst = λ s v. ofBits binary32 v;
-      byNext = λ s v. Ieee.add binary32 s (ofBits binary32 v);
-    }
 
 -- ---- what is left
 

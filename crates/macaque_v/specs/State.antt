@@ -1,10 +1,12 @@
 -- The writer's state, as that of the theory of streams. "Minimum and maximum start fresh and take in each kept value from the left, the raw first one
--- too, and never an input that was not kept." Assumes nothing.
+-- too, and never an input that was not kept." And so does the sum, "added from the left". Assumes nothing.
 use mathlib.Core.Bool.{Bool, true, false}
 use Prim.Native.Nat.{ℕ}
-use Rattle.models.specs.Floats.{minBits, maxBits, freshBits}
+use lib.Ieee as Ieee
+use lib.Ieee.{Float, binary32, ofBits}
+use Rattle.models.specs.Floats.{minBits, maxBits, freshBits, zeroF}
 use Rattle.models.specs.declared.ErrorBound.{ErrorBound}
-use Rattle.stream.specs.Format.{Gather, Mode, withFirst, withoutFirst, Stream, macaqueOf, State, fresh}
+use Rattle.stream.specs.Format.{Gather, both, Mode, withFirst, withoutFirst, Stream, macaqueOf, State, fresh}
 use Rattle.macaque_v.specs.declared.MacaqueV.{MacaqueV}
 use Rattle.macaque_v.specs.declared.Opening.{Opening}
 use Rattle.macaque_v.specs.declared.Opening.the-variants.{First, On}
@@ -21,13 +23,32 @@ minMaxWith e v = record { min = minBits (e .min) v; max = maxBits (e .max) v }
 abbrev pub gatherMinMax : Gather MinMax
 gatherMinMax = record { none = record { min = freshBits; max = freshBits }; byFirst = minMaxWith; byNext = minMaxWith }
 
--- ---- what a state gathers; a further thing stands beside it by `both` of stream/specs/Format
+-- ---- the sum
+
+-- "Sum adds in f32 from the left: from the first value in with-first mode, else from 0": a raw first value sets it, whatever it was, and any later one is
+-- added
+abbrev pub gatherSum : Gather Float
+gatherSum =
+    record {
+      none = zeroF;
+      byFirst = λ s v. ofBits binary32 v;
+      byNext = λ s v. Ieee.add binary32 s (ofBits binary32 v);
+    }
+
+-- ---- what a state gathers, side by side; a further thing stands beside it by `both` of stream/specs/Format
 
 abbrev pub Known : Type 0
-Known = MinMax
+Known = MinMax × Float
 
 abbrev pub gatherKnown : Gather Known
-gatherKnown = gatherMinMax
+gatherKnown = both gatherMinMax gatherSum
+
+-- the least and the greatest kept value in a state, and their sum
+abbrev pub endsIn : State Known → MinMax
+endsIn s = s .seen .0
+
+abbrev pub sumIn : State Known → Float
+sumIn s = s .seen .1
 
 -- ---- the stream of a mode, and the state in it
 
@@ -45,21 +66,22 @@ stateOf m =
       win = record { lead = m .«last_leading_zero_bits»; trail = m .«last_trailing_zero_bits» };
       place = m .place;
       count = m .length;
-      seen = record { min = m .«min_value»; max = m .«max_value» };
+      seen = (record { min = m .«min_value»; max = m .«max_value» }, m .sum);
     }
 
 abbrev pub writerOf : ErrorBound → Bool → State Known → MacaqueV
 writerOf b first s =
     record {
       «error_bound» = b;
-      «min_value» = s .seen .min;
-      «max_value» = s .seen .max;
+      «min_value» = (endsIn s) .min;
+      «max_value» = (endsIn s) .max;
       «last_value» = s .last;
       «last_leading_zero_bits» = s .win .lead;
       «last_trailing_zero_bits» = s .win .trail;
       «with_first» = first;
       place = s .place;
       length = s .count;
+      sum = sumIn s;
     }
 
 -- ---- how a stream opens

@@ -4,6 +4,7 @@ pub mod noting;
 pub mod read;
 pub mod read_run;
 pub mod span;
+pub mod total;
 pub mod write;
 
 use models::ErrorBound;
@@ -30,6 +31,8 @@ pub struct MacaqueV {
     // How many bits are written, and how many values.
     pub place: usize,
     pub length: usize,
+    // The sum of the values kept, from the left.
+    pub sum: f32,
 }
 
 impl MacaqueV {

@@ -201,18 +201,18 @@ fn judge_behind(bytes: &[u8], to: Cursor, whole: bool) -> Verdict
 
 // ---- reopening
 
-// The state after the first k values, with the least and the greatest of them. The values behind them are read too.
+// The state after the first k values, with the least, the greatest and the sum of them. The values behind them are read too.
 fn state_at(bytes: &[u8], count: usize, k: usize, opening: Opening) -> Walk
     requires { ⌜ (k ≤ count) × (count ≤ mostValues) ⌝ }
     ensures { λ r. ⌜ StateSays (now (bytes .entry)) count k opening r ⌝ }
 {
     let first = is_first(opening);
-    match read_run::go_through(bytes, first, start(opening), k, Aim::MinMax) {
+    match read_run::go_through(bytes, first, start(opening), k, Aim::All) {
         Walk::Refused(r) => Walk::Refused(r),
-        Walk::To(at, ends) => {
+        Walk::To(at, tally) => {
             match read_run::go_to_end(bytes, first, at, count - k, Aim::Nothing) {
                 Walk::Refused(r) => Walk::Refused(r),
-                Walk::To(_, _) => Walk::To(at, ends),
+                Walk::To(_, _) => Walk::To(at, tally),
             }
         }
     }
@@ -232,18 +232,19 @@ fn resume(
 {
     match state_at(&buffer[..used], count, k, opening) {
         Walk::Refused(r) => OpenAnswer::Refused(r),
-        Walk::To(at, ends) => {
+        Walk::To(at, tally) => {
             bits::cut(buffer, at.place);
             OpenAnswer::Opened(MacaqueV {
                 error_bound,
-                min_value: ends.min,
-                max_value: ends.max,
+                min_value: tally.min,
+                max_value: tally.max,
                 last_value: at.last,
                 last_leading_zero_bits: at.lead,
                 last_trailing_zero_bits: at.trail,
                 with_first: is_first(opening),
                 place: at.place,
                 length: at.count,
+                sum: tally.sum,
             })
         }
     }

@@ -8,14 +8,15 @@ ghost use Rattle.bits.specs.Bits.{bitsOf};
 ghost use Rattle.models.specs.Calls.{saysVerdict};
 ghost use Rattle.models.specs.Answers.{faultIn};
 ghost use Rattle.models.specs.Refusals.{faultOf};
-ghost use Rattle.stream.specs.Format.{gathered, gatherFrom};
+ghost use Rattle.stream.specs.Format.{gatherFrom};
 ghost use Rattle.stream.specs.Read.{leftover};
 ghost use Rattle.coding.specs.inner.Ahead.{RepeatsAt, stopNumber};
-ghost use Rattle.macaque_v.specs.State.{modeOf};
-ghost use Rattle.macaque_v.specs.ReadRun.{gatherSum, endSaid};
-ghost use Rattle.macaque_v.specs.inner.ReadRun.{ReadableAt, StrideSays, NextSays, AtOnce, onward, ReadsOn, FillSays, WalkSays, WholeSays, tallied, IsStretched, saysBehind};
+ghost use Rattle.macaque_v.specs.State.{gatherSum, gatherKnown, modeOf};
+ghost use Rattle.macaque_v.specs.ReadRun.{endSaid};
+ghost use Rattle.macaque_v.specs.inner.ReadRun.{ReadableAt, StrideSays, NextSays, AtOnce, onward, ReadsOn, FillSays, WalkSays, WholeSays, knownIn, tallyOf, tallied, saysBehind};
 use crate::MacaqueV;
 use crate::span;
+use crate::total;
 use coding::decode;
 use coding::decode::Decoded;
 use coding::decode::Stop;
@@ -271,11 +272,11 @@ pub fn copy(values: &[u32], n: usize, i: usize, out: &mut [u32])
 
 // ---- through a small array
 
-// What is taken in of the values: nothing, their sum, or the least and the greatest.
+// What is taken in of the values: nothing, their sum, or all that a writer's state knows of them.
 pub enum Aim {
     Nothing,
     Sum,
-    MinMax,
+    All,
 }
 
 pub struct Tally {
@@ -387,50 +388,46 @@ fn taken_in(aim: Aim, first: bool, count: usize, tally: Tally, values: &[u32], k
             min: tally.min,
             max: tally.max,
         },
-        Aim::MinMax => stretched(tally, values, k),
+        Aim::All => all_taken_in(first, count, tally, values, k),
     }
-}
-
-// A raw first value begins the sum, and any other is added to it.
-fn plus(raw: bool, sum: f32, value: u32) -> f32
-    ensures { λ r. ⌜ r ≡ gathered gatherSum raw sum value ⌝ }
-{
-    let x = numbers::value_of_f32(value);
-    if raw {
-        return x;
-    }
-    sum + x
 }
 
 fn added(first: bool, count: usize, sum: f32, values: &[u32], k: usize) -> f32
     requires { ⌜ (k ≤ length (now values)) × (count + k ≤ mostValues) ⌝ }
     ensures { λ r. ⌜ r ≡ gatherFrom gatherSum (modeOf first) count sum (take k (now (values .entry))) ⌝ }
 {
-    let mut total = sum;
+    if k == 0 {
+        return sum;
+    }
+    let mut total = total::begun(first & (count == 0), sum);
     let mut i: usize = 0;
     while i < k {
-        total = plus(first & (count + i == 0), total, values[i]);
+        total = total::joined(total, values[i]);
         i += 1;
     }
     total
 }
 
-fn stretched(tally: Tally, values: &[u32], k: usize) -> Tally
-    requires { ⌜ k ≤ length (now values) ⌝ }
-    ensures { λ r. ⌜ IsStretched tally (take k (now (values .entry))) r ⌝ }
+// The sum, the least and the greatest in one loop: none of the three waits for another.
+fn all_taken_in(first: bool, count: usize, tally: Tally, values: &[u32], k: usize) -> Tally
+    requires { ⌜ (k ≤ length (now values)) × (count + k ≤ mostValues) ⌝ }
+    ensures { λ r. ⌜ r ≡ tallyOf (gatherFrom gatherKnown (modeOf first) count (knownIn tally) (take k (now (values .entry)))) ⌝ }
 {
     if k == 0 {
         return tally;
     }
     let mut ends = span::begun(tally.min, tally.max);
+    let mut total = total::begun(first & (count == 0), tally.sum);
     let mut i: usize = 0;
     while i < k {
-        ends = span::joined(ends, values[i]);
+        let value = values[i];
+        ends = span::joined(ends, value);
+        total = total::joined(total, value);
         i += 1;
     }
     let last = values[k - 1];
     Tally {
-        sum: tally.sum,
+        sum: total,
         min: span::least(ends, tally.min, last),
         max: span::greatest(ends, tally.max, last),
     }

@@ -1,5 +1,6 @@
 -- The theorems about the calls with a place table, and the laws that the proofs of `place_table` share.
 pub mod Promises
+pub mod Sums
 pub mod Comparing
 pub mod Ranging
 pub mod Beside

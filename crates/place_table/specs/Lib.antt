@@ -1,4 +1,5 @@
 -- What the contracts of `place_table` cite.
 pub mod Calls
 pub mod Made
+pub mod Sums
 pub mod inner

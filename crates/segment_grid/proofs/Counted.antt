@@ -11,7 +11,7 @@ use Rattle.models.proofs.Judged.{same-answer, not-answered}
 use Rattle.stream.specs.Format.{Stream, State, advance}
 use Rattle.stream.specs.Read.{Reading, done, stopped, Step, got, push, follow, stepAt, readN, leftover, ended, readAll}
 use Rattle.stream.specs.Read as stream
-use Rattle.macaque_v.specs.State.{MinMax, streamIn, isFirst, opened}
+use Rattle.macaque_v.specs.State.{Known, streamIn, isFirst, opened}
 use Rattle.macaque_v.specs.Read.{valuesRead, valuesIn}
 use Rattle.macaque_v.specs.declared.Opening.{Opening}
 
@@ -48,5 +48,5 @@ many-answered n (stopped f) vs h e = absurd (not-answered e)
 
 pub as-many-values : (bytes : List ℕ) (n : ℕ) (o : Opening) (vs : List ℕ) → valuesIn bytes n o ≡ answered vs → length vs ≡ n
 as-many-values bytes n o vs e =
-    let S : Stream MinMax = streamIn (isFirst o) in
+    let S : Stream Known = streamIn (isFirst o) in
     many-answered n (readAll S n (opened o) (bitsOf bytes)) vs (many-ended n (readN S n (opened o) (bitsOf bytes)) (many-read S n (opened o) (bitsOf bytes))) e

@@ -157,7 +157,7 @@ stored-as-allowed b last (x ∷ xs) ends =
 reads-as-kept : (b : ErrorBound) (last : ℕ) (xs : List ℕ) → Below 32 xs → last < 2 ^ 32
     → valuesIn (streamOf (keepRule b) (streamIn false) last xs) (length xs) (On last) ≡ answered (keptOf b (On last) xs)
 reads-as-kept b last xs small low =
-    let S : Stream macaque-v.MinMax = streamIn false in
+    let S : Stream macaque-v.Known = streamIn false in
     ap valuesRead
     (ap (readAll S (length xs) (opened (On last))) (padded-back (written (keepRule b) S (fresh S last) xs))
     ∙ fresh-read S macaque-good last low (keepRule b) (keeps b 32) xs small)

@@ -21,7 +21,7 @@ use Rattle.stream.proofs.Calls.{wrote-on}
 use Rattle.stream.proofs.CodeWords.{values-long}
 use Rattle.stream.proofs.Writing.{place-after, count-after, length-kept}
 use Rattle.coding.specs.Keep.{keepRule}
-use Rattle.macaque_v.specs.State.{gatherMinMax, streamIn, stateOf, writerOf, opened}
+use Rattle.macaque_v.specs.State.{gatherKnown, streamIn, stateOf, writerOf, opened}
 use Rattle.models.specs.Causes.{boundCauses}
 use Rattle.macaque_v.specs.Write.{coderBy}
 use Rattle.macaque_v.specs.inner.Write.{writtenBy}
@@ -63,7 +63,7 @@ module _ (b : ErrorBound) (last : ℕ) (small : last < 2 ^ 32) (xs : List ℕ) (
   residuals-place : (residualsOn b last xs) .place ≤ 45 * mostResiduals
   residuals-place =
       let vs : List ℕ = kept (keepRule b) (streamIn false) (opened (On last)) xs in
-      omega (arith, place-after (streamIn false) (opened (On last)) vs, values-long withoutFirst gatherMinMax (opened (On last)) vs, length-kept (streamIn false) (keepRule b) (opened (On last)) xs)
+      omega (arith, place-after (streamIn false) (opened (On last)) vs, values-long withoutFirst gatherKnown (opened (On last)) vs, length-kept (streamIn false) (keepRule b) (opened (On last)) xs)
 
   residuals-count : (residualsOn b last xs) .count ≡ length xs
   residuals-count =

@@ -10,7 +10,7 @@ use Rattle.models.specs.Bound.{boundAllowed}
 use Rattle.models.specs.Refusals.{refusal-told, unsaid, faultOf}
 use Rattle.models.specs.declared.ErrorBound.{ErrorBound}
 use Rattle.stream.specs.Format.{State}
-use Rattle.macaque_v.specs.State.{Known}
+use Rattle.macaque_v.specs.State.{Known, endsIn}
 use Rattle.parameters.specs.Forms.{formBytes}
 use Rattle.segments.specs.Segment.{mostResiduals, lastOf, residualsOn, residualBytes, formOf, segmentOf}
 use Rattle.segments.specs.declared.Segment.{Segment}
@@ -26,7 +26,7 @@ pub record Stored : Type 0 where
 
 abbrev pub stored : ℕ → ℕ → ℕ → State Known → List ℕ → Stored
 stored model first last s residuals =
-    let values = formBytes (formOf model first last (s .seen .min) (s .seen .max)) in
+    let values = formBytes (formOf model first last ((endsIn s) .min) ((endsIn s) .max)) in
     record { values = values; residuals = residuals; segment = segmentOf model first last s values residuals }
 
 unfoldable pub storedOf : ℕ → ℕ → ℕ → ErrorBound → List ℕ → Stored

@@ -9,7 +9,7 @@ use Rattle.models.specs.declared.ErrorBound.{ErrorBound}
 use Rattle.stream.specs.Format.{State}
 use Rattle.stream.specs.Write.{wrote, streamOf}
 use Rattle.coding.specs.Keep.{keepRule}
-use Rattle.macaque_v.specs.State.{Known, streamIn, opened}
+use Rattle.macaque_v.specs.State.{Known, endsIn, streamIn, opened}
 use Rattle.macaque_v.specs.declared.Opening.the-variants.{On}
 use Rattle.parameters.specs.Forms.{pmcMeanForm, swingForm}
 use Rattle.parameters.specs.declared.Form.{Form}
@@ -57,8 +57,8 @@ residualBytes b last xs = countedBytes (streamOf (keepRule b) (streamIn false) l
 abbrev pub segmentOf : ℕ → ℕ → ℕ → State Known → List ℕ → List ℕ → Segment
 segmentOf model first last s values residuals =
     record {
-      «min_value» = minBits (modelMin model first last) (s .seen .min);
-      «max_value» = maxBits (modelMax model first last) (s .seen .max);
+      «min_value» = minBits (modelMin model first last) ((endsIn s) .min);
+      «max_value» = maxBits (modelMax model first last) ((endsIn s) .max);
       «values_length» = length values;
       «residuals_length» = length residuals;
     }

@@ -135,8 +135,8 @@ pub fn maximum_allowed_deviation((kind, bound): Words, value: u64, out: &mut [u6
 
 /// How many words a writer's state has: the bound's kind and bits; the least, the greatest and the
 /// last kept value; the window's leading and trailing zeros; 1 where the first value is stored in
-/// full; the place in bits; the length.
-pub const STATE_WORDS: usize = 10;
+/// full; the place in bits; the length; the sum's bits.
+pub const STATE_WORDS: usize = 11;
 
 /// The first ten words of `state` become a fresh writer's.
 pub fn macaque_v_new((kind, bound): Words, (mode, opening): Words, state: &mut [u64]) -> Fault {

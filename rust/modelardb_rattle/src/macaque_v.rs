@@ -292,6 +292,48 @@ impl MacaqueV {
         self.row[9] as usize
     }
 
+    /// The sum of the kept values, added from the left in f32: what [`sum`] answers on the stream's bytes, without
+    /// reading them. +0 before any value. A writer that was cut and reopened has the sum of the values that it
+    /// stands behind.
+    ///
+    /// ```
+    /// use modelardb_rattle::{ErrorBound, MacaqueV, Opening, Refusal, macaque_v};
+    ///
+    /// let mut buffer = [0; 64];
+    /// let mut writer = MacaqueV::new(ErrorBound::Absolute(0.5), Opening::First)?;
+    /// writer.compress_values(&[20.0, 20.25, 23.0], &mut buffer)?;
+    /// // The second reading is kept as the first.
+    /// assert_eq!((writer.sum(), writer.mean()), (63.0, Some(21.0)));
+    /// let bytes = &buffer[..writer.bytes_used()];
+    /// assert_eq!(writer.sum(), macaque_v::sum(bytes, writer.length(), Opening::First)?);
+    /// # Ok::<(), Refusal>(())
+    /// ```
+    pub fn sum(&self) -> f32 {
+        f32::from_bits(self.sum_bits())
+    }
+
+    /// The bits of [`MacaqueV::sum`], 7FC00000 for a NaN.
+    pub fn sum_bits(&self) -> u32 {
+        self.bits(10)
+    }
+
+    /// The mean of the kept values, `None` before any: [`MacaqueV::sum`] by the length, divided in f64. The sum itself
+    /// is rounded to f32 after each value, as document 01 has it.
+    ///
+    /// ```
+    /// use modelardb_rattle::{ErrorBound, MacaqueV, Opening, Refusal};
+    ///
+    /// let mut writer = MacaqueV::new(ErrorBound::Lossless, Opening::On(20.0))?;
+    /// assert_eq!(writer.mean(), None);
+    /// writer.compress_values(&[20.5, 21.0], &mut [0; 16])?;
+    /// assert_eq!(writer.mean(), Some(20.75));
+    /// # Ok::<(), Refusal>(())
+    /// ```
+    pub fn mean(&self) -> Option<f64> {
+        let length = self.length();
+        (length > 0).then(|| f64::from(self.sum()) / length as f64)
+    }
+
     /// A word that holds 32 bits.
     fn bits(&self, word: usize) -> u32 {
         self.row[word] as u32
@@ -307,7 +349,7 @@ impl MacaqueV {
 /// writer.compress_values(&[20.5], &mut [0; 8])?;
 /// let shown = format!("{writer:?}");
 /// assert!(shown.starts_with("MacaqueV { error_bound: Absolute(0.5), min_value: 20.5 (41A40000), "));
-/// assert!(shown.ends_with("with_first: true, place: 32, length: 1 }"));
+/// assert!(shown.ends_with("with_first: true, place: 32, length: 1, sum: 20.5 (41A40000) }"));
 /// # Ok::<(), Refusal>(())
 /// ```
 impl Debug for MacaqueV {
@@ -322,6 +364,7 @@ impl Debug for MacaqueV {
             .field("with_first", &self.with_first())
             .field("place", &self.place())
             .field("length", &self.length())
+            .field("sum", &F32(self.sum_bits()))
             .finish()
     }
 }

@@ -1,7 +1,8 @@
 //! The safe writer over the compiled library: what its accessors say, and what a refusal leaves.
 
+use modelardb_rattle::ffi::{self, STATE_WORDS};
 use modelardb_rattle::macaque_v::{grid, grid_bits, sum, sum_bits};
-use modelardb_rattle::{ErrorBound, MacaqueV, Opening, Refusal};
+use modelardb_rattle::{ErrorBound, Fault, MacaqueV, Opening, Refusal};
 
 const FRESH: u32 = 0x7FC0_0000;
 
@@ -24,6 +25,7 @@ fn a_fresh_writer_is_as_the_paper_says() {
     );
     assert!(first.min_value().is_nan() && first.max_value().is_nan());
     assert_eq!(first.last_value_bits(), 0);
+    assert_eq!((first.sum_bits(), first.mean()), (0, None));
     assert_eq!(first.last_leading_zero_bits(), MacaqueV::OPENING_LEADING);
     assert_eq!(first.last_trailing_zero_bits(), MacaqueV::OPENING_TRAILING);
 
@@ -52,6 +54,80 @@ fn a_writer_knows_the_values_behind_it() {
             .iter()
             .all(|&byte| byte == 0xFF)
     );
+}
+
+/// One value at a time, and reopened behind each: the sum is the sum call's on the bytes in use.
+#[test]
+fn a_writer_holds_the_sum_of_the_kept_values() {
+    let greatest = f32::MAX.to_bits();
+    let lists: [&[u32]; 5] = [
+        &[0x8000_0000, 0x8000_0000],
+        &[0x8000_0000, 0x0000_0000, 0x8000_0000],
+        &[greatest, greatest, 0xFF80_0000],
+        &[0x7FC1_2345, 0x3F80_0000],
+        &[0x41A4_0000, 0x41A4_3333, 0x41B0_0000, 0xC1B0_0000],
+    ];
+    for values in lists {
+        for opening in [Opening::First, Opening::On(20.0)] {
+            for bound in [ErrorBound::Lossless, ErrorBound::Absolute(0.5)] {
+                let (mut writer, mut buffer) = (opened(bound, opening), [0; 64]);
+                for (number, &value) in values.iter().enumerate() {
+                    writer
+                        .compress_values_bits(&[value], &mut buffer)
+                        .expect("room");
+                    let (used, count) = (writer.bytes_used(), number + 1);
+                    let answered = sum_bits(&buffer[..used], count, opening);
+                    assert_eq!(Ok(writer.sum_bits()), answered, "{values:08X?}");
+                    for k in 0..=count {
+                        let mut copy = buffer;
+                        let again = MacaqueV::reopen(&mut copy, used, count, k, opening, bound)
+                            .expect("a stream of ours");
+                        let answered = sum_bits(&copy[..again.bytes_used()], k, opening);
+                        assert_eq!(Ok(again.sum_bits()), answered, "{values:08X?} at {k}");
+                    }
+                }
+            }
+        }
+    }
+}
+
+/// Word 10 of a row: not judged where it is an f32, 2 where it is none, and left by a write of no values.
+#[test]
+fn a_sum_that_is_handed_in_is_carried_on() {
+    // In the first mode a first value sets it, and in the second it is added.
+    let written = |mode: u32, sum: u64, values: &[u32]| {
+        let (mut row, mut buffer) = ([0; STATE_WORDS], [0; 64]);
+        let fault = ffi::macaque_v_new((0, 0), (mode, 0), &mut row);
+        assert_eq!(fault, Fault::ACCEPTED);
+        row[10] = sum;
+        let fault = ffi::macaque_v_compress_values(&mut row, values, &mut buffer);
+        (fault.number, row[10])
+    };
+    let (odd, one) = (0xFFC1_2345, 0x3F80_0000);
+    for mode in [0, 1] {
+        assert_eq!(written(mode, 1 << 32, &[]), (2, 1 << 32));
+        assert_eq!(written(mode, odd, &[]), (0, odd));
+    }
+    assert_eq!(written(0, odd, &[one]), (0, one.into()));
+    assert_eq!(written(1, odd, &[one]), (0, FRESH.into()));
+    assert_eq!(written(1, one.into(), &[0x8000_0000]), (0, one.into()));
+}
+
+#[test]
+fn a_mean_is_worked_out_in_f64() {
+    let mut writer = opened(ErrorBound::Lossless, Opening::On(0.0));
+    let mut buffer = [0; 64];
+    writer.compress_values(&[], &mut buffer).expect("room");
+    assert_eq!(writer.mean(), None);
+    writer
+        .compress_values(&[1.0, 1.0, 2.0], &mut buffer)
+        .expect("room");
+    assert_eq!((writer.sum(), writer.mean()), (4.0, Some(4.0 / 3.0)));
+    writer
+        .compress_values_bits(&[0xFFC1_2345], &mut buffer)
+        .expect("room");
+    assert_eq!(writer.sum_bits(), FRESH);
+    assert!(writer.mean().expect("four values").is_nan());
 }
 
 #[test]

@@ -9,6 +9,7 @@ use Rattle.models.specs.declared.ErrorBound.{ErrorBound}
 use Rattle.models.proofs.Judged.{none-holds}
 use Rattle.macaque_v.specs.Calls.{newAnswer}
 use Rattle.exports.specs.Face.{boundOf}
+use Rattle.exports_stream.specs.Row.{writerLength}
 use Rattle.exports_stream.specs.Calls.{newCauses}
 use Rattle.exports_stream.proofs.Faces.{new-refused, new-passed}
 use Rattle.exports_stream.proofs.modelardb_macaque_v_new.Statement.{statement}
@@ -27,7 +28,7 @@ put-opened-requires c κs =
     let k = c .before .before .before .before .before in
     let a = k .before .before .before .args in
     let none = none-holds (newCauses (boundOf (a .kind) (a .bound)) (a .mode) (length (a .state .now))) _ (judged k) (c .before .before .before .enum-told .given .1) in
-    ltb-false (length (a .state .now)) 10 (none .1 .1 .0)
+    ltb-false (length (a .state .now)) writerLength (none .1 .1 .0)
 
 returns : tie.Need-returns
 returns c =

@@ -9,6 +9,7 @@ use Rattle.models.specs.Calls.{saysVerdict}
 use Rattle.models.specs.declared.ErrorBound.{ErrorBound}
 use Rattle.models.proofs.Judged.{none-holds}
 use Rattle.macaque_v.specs.Read.{saysOpen}
+use Rattle.exports_stream.specs.Row.{writerLength}
 use Rattle.exports_stream.specs.Calls.{reopenCausesWith, reopenFaceCauses, reopenSaid, reopenLeft}
 use Rattle.exports_stream.proofs.Faces.{reopen-refused, reopen-passed}
 use Rattle.exports_stream.proofs.modelardb_macaque_v_reopen.Statement.{statement}
@@ -30,7 +31,7 @@ put-opened-requires c κs =
     let k = c .before .before .before .before .before .before .before .before in
     let a = k .before .before .before .before .before .args in
     let none = none-holds (reopenFaceCauses (a .buffer .now) (a .used) (a .count) (a .k) (a .mode) (a .kind) (a .bound) (a .state .now)) _ (judged k) (c .before .before .before .before .before .before .enum-told .given .1) in
-    ltb-false (length (a .state .now)) 10 (none .1 .1 .1 .0)
+    ltb-false (length (a .state .now)) writerLength (none .1 .1 .1 .0)
 
 returns : tie.Need-returns
 returns c =

@@ -11,6 +11,7 @@ use Rattle.models.specs.declared.ErrorBound.{ErrorBound}
 use Rattle.models.proofs.Judged.{none-holds}
 use Rattle.macaque_v.specs.declared.Opening.{Opening}
 use Rattle.place_table.specs.Calls.{saysTableOpen, tableReopenAnswer, tableReopenMemory}
+use Rattle.exports_stream.specs.Row.{writerLength}
 use Rattle.exports_table.specs.Calls.{tableReopenCausesWith, tableReopenFaceCauses, tableReopenSaid, tableReopenLeft}
 use Rattle.exports_table.proofs.Faces.{reopen-refused, reopen-passed}
 use Rattle.exports_table.proofs.modelardb_table_reopen.Statement.{statement}
@@ -65,7 +66,7 @@ put-opened-requires c κs =
     let a = start (judging r) .args in
     let none = none-holds (tableReopenFaceCauses (a .buffer .now) (a .used) (a .count) (a .k) (a .mode) (a .kind) (a .bound) (a .state .now) (a .table .now) (a .entries .now)) _ (judged (judging r))
     (r .before .before .before .enum-told .given .1) in
-    ltb-false (length (a .state .now)) 10 (none .1 .1 .1 .1 .1 .0)
+    ltb-false (length (a .state .now)) writerLength (none .1 .1 .1 .1 .1 .0)
 
 returns : tie.Need-returns
 returns c =

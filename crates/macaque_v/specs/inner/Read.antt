@@ -16,7 +16,7 @@ use Rattle.stream.specs.Calls.{valuesRead}
 use Rattle.macaque_v.specs.State.{Known, streamIn, isFirst, openingValue}
 use Rattle.macaque_v.specs.Write.{coderOf}
 use Rattle.macaque_v.specs.ReadRun.{endSaid}
-use Rattle.macaque_v.specs.inner.ReadRun.{readFrom, minMaxIn}
+use Rattle.macaque_v.specs.inner.ReadRun.{readFrom, knownIn}
 use Rattle.macaque_v.specs.declared.MacaqueV.{MacaqueV}
 use Rattle.macaque_v.specs.declared.Opening.{Opening}
 use Rattle.macaque_v.specs.declared.read_run.Cursor.{Cursor}
@@ -62,7 +62,7 @@ reopening bytes count k o = theory.reopening (streamIn (isFirst o)) (openingValu
 abbrev pub resumed : ErrorBound → Bool → Reopened Known → Said MacaqueV
 resumed b first = theory.resumed (coderOf b first)
 
--- where reading stands, with the least and the greatest value, as a state of the theory
+-- where reading stands, with what was gathered on the way, as a state of the theory
 abbrev pub stateWith : Cursor → Known → State Known
 stateWith at e = record { last = at .last; win = windowIn (at .lead) (at .trail); place = at .place; count = at .count; seen = e }
 
@@ -73,5 +73,5 @@ pub record Unopened (q : Reopened Known) (cause : Refusal) : Type 0 where
   pub numbered : theory.faultAt fault ≡ faultOf cause
 
 abbrev pub StateSays : List ℕ → ℕ → ℕ → Opening → Walk → Type 0
-StateSays bytes count k o (OfWalk.To at t) = (reopening bytes count k o ≡ reopened (stateWith at (minMaxIn t))) × (at .place ≤ 8 * length bytes)
+StateSays bytes count k o (OfWalk.To at t) = (reopening bytes count k o ≡ reopened (stateWith at (knownIn t))) × (at .place ≤ 8 * length bytes)
 StateSays bytes count k o (OfWalk.Refused r) = Unopened (reopening bytes count k o) r

@@ -14,7 +14,7 @@ use Rattle.stream.specs.Format.{Window, Mode, gatherFrom, State, bare}
 use Rattle.stream.specs.Read as stream
 use Rattle.stream.specs.Read.{Reading, done, stopped, readN, ended}
 use Rattle.stream.specs.Calls.{faultAt}
-use Rattle.macaque_v.specs.State.{MinMax, gatherMinMax, modeOf}
+use Rattle.macaque_v.specs.State.{MinMax, gatherSum, Known, gatherKnown, modeOf}
 use Rattle.coding.specs.inner.Ahead.{WindowSound, AtTop, stopNumber}
 use Rattle.macaque_v.specs.declared.read_run.Cursor.{Cursor}
 use Rattle.macaque_v.specs.declared.read_run.Behind.{Behind}
@@ -28,7 +28,7 @@ use Rattle.macaque_v.specs.declared.read_run.Aim.the-variants as OfAim
 use Rattle.macaque_v.specs.declared.read_run.Tally.{Tally}
 use Rattle.macaque_v.specs.declared.read_run.Walk.{Walk}
 use Rattle.macaque_v.specs.declared.read_run.Walk.the-variants as OfWalk
-use Rattle.macaque_v.specs.ReadRun.{stateAt, ahead, nextFrom, gatherSum, endSaid}
+use Rattle.macaque_v.specs.ReadRun.{stateAt, ahead, nextFrom, endSaid}
 
 -- ---- where reading stands
 
@@ -101,18 +101,18 @@ freshTally = record { sum = zeroF; min = freshBits; max = freshBits }
 abbrev pub withSum : Tally → Float → Tally
 withSum t s = record { sum = s; min = t .min; max = t .max }
 
-abbrev pub withMinMax : Tally → MinMax → Tally
-withMinMax t e = record { sum = t .sum; min = e .min; max = e .max }
+-- as a writer's state holds it
+abbrev pub knownIn : Tally → Known
+knownIn t = (minMaxIn t, t .sum)
+
+abbrev pub tallyOf : Known → Tally
+tallyOf k = record { sum = k .1; min = k .0 .min; max = k .0 .max }
 
 -- after the values vs, behind n others
 abbrev pub tallied : Aim → Mode → ℕ → Tally → List ℕ → Tally
 tallied OfAim.Nothing mode n t vs = t
 tallied OfAim.Sum mode n t vs = withSum t (gatherFrom gatherSum mode n (t .sum) vs)
-tallied OfAim.MinMax mode n t vs = withMinMax t (gatherFrom gatherMinMax mode n (minMaxIn t) vs)
-
--- whichever values stand before: a raw one enters the least and the greatest as any other
-abbrev pub IsStretched : Tally → List ℕ → Tally → Type 0
-IsStretched t vs r = (mode : Mode) (n : ℕ) → r ≡ tallied OfAim.MinMax mode n t vs
+tallied OfAim.All mode n t vs = tallyOf (gatherFrom gatherKnown mode n (knownIn t) vs)
 
 pub record Walked (first : Bool) (bytes : List ℕ) (from : Cursor) (n : ℕ) (aim : Aim) (to : Cursor) (t : Tally) : Type 0 where
   pub values : List ℕ

@@ -4,6 +4,7 @@ use mathlib.Core.Bool.{Bool, true, false}
 use mathlib.Core.List.{List}
 use Prim.Native.Nat.{ℕ, zero, suc, _+_, _<_}
 use lib.Dec.{eqb}
+use lib.Ieee.{binary32, add, ofBits}
 use Rattle.bits.specs.Bits.{laidIn}
 use Rattle.models.specs.declared.ErrorBound.{ErrorBound}
 use Rattle.stream.specs.Format.{State, rawNext, windowIn}
@@ -13,8 +14,9 @@ use Rattle.places.specs.Calls.{laidEntries}
 use Rattle.coding.specs.Keep.{keepRule}
 use Rattle.coding.specs.inner.Code.{Coded}
 use Rattle.coding.specs.declared.code.Code.{Code}
-use Rattle.macaque_v.specs.State.{Known, MinMax, modeOf, stateOf}
+use Rattle.macaque_v.specs.State.{Known, endsIn, modeOf, stateOf}
 use Rattle.macaque_v.specs.inner.Span.{spanFrom, spanWith, minMaxSaid}
+use Rattle.macaque_v.specs.inner.Total.{addedTo}
 use Rattle.macaque_v.specs.declared.MacaqueV.{MacaqueV}
 use Rattle.macaque_v.specs.declared.write.Pen.{Pen}
 use Rattle.macaque_v.specs.declared.write.Stroke.{Stroke}
@@ -41,7 +43,7 @@ notedWhere false words m xs = words
 abbrev pub RawAt : MacaqueV → ℕ → ℕ → Type 0
 RawAt m n r = (i : ℕ) → i < n → eqb i r ≡ rawNext (modeOf (m .«with_first»)) (m .length + i)
 
--- ---- the pen: a state, but for the count, with the least and the greatest value as they are held
+-- ---- the pen: a state, but for the count, with the least and the greatest value and the sum as they are held
 
 abbrev pub penOf : MacaqueV → Pen
 penOf m =
@@ -51,16 +53,17 @@ penOf m =
       trail = m .«last_trailing_zero_bits»;
       place = m .place;
       span = spanFrom (m .«min_value») (m .«max_value»);
+      sum = addedTo (rawNext (modeOf (m .«with_first»)) (m .length)) (m .sum);
     }
 
--- the state in which the pen stands, behind n values and with these ends
-abbrev pub stateBy : Pen → ℕ → MinMax → State Known
-stateBy p n e = record { last = p .last; win = windowIn (p .lead) (p .trail); place = p .place; count = n; seen = e }
+-- the state in which the pen stands, behind n values and with these things gathered
+abbrev pub stateBy : Pen → ℕ → Known → State Known
+stateBy p n k = record { last = p .last; win = windowIn (p .lead) (p .trail); place = p .place; count = n; seen = k }
 
 -- the writer m after n values, behind which the pen stands
 abbrev pub leftBy : MacaqueV → Pen → ℕ → MacaqueV
 leftBy m p zero = m
-leftBy m p (suc n) = writerAt m (stateBy p (m .length + suc n) (minMaxSaid (p .span) ((stateOf m) .seen) (p .last)))
+leftBy m p (suc n) = writerAt m (stateBy p (m .length + suc n) (minMaxSaid (p .span) (endsIn (stateOf m)) (p .last), p .sum))
 
 abbrev pub codeIn : Stroke → Code
 codeIn r = record { width = r .width; bits = r .bits; lead = r .pen .lead; trail = r .pen .trail }
@@ -71,3 +74,4 @@ pub record StrokeSays (raw : Bool) (b : ErrorBound) (p : Pen) (x : ℕ) (r : Str
   pub code : Coded raw (windowIn (p .lead) (p .trail)) (p .last) (r .pen .last) (codeIn r)
   pub place : r .pen .place ≡ p .place + r .width
   pub span : r .pen .span ≡ spanWith (p .span) (r .pen .last)
+  pub sum : r .pen .sum ≡ add binary32 (p .sum) (ofBits binary32 (r .pen .last))

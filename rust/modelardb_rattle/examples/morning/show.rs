@@ -1,6 +1,6 @@
 //! The readings beside what is kept of them, and the upload that is cut and resumed.
 
-use crate::upload::{cut, resumed, written};
+use crate::upload::{cut, means, resumed, written};
 use modelardb_rattle::{ErrorBound, Opening, Refusal, macaque_v};
 use std::fmt::Write;
 
@@ -9,8 +9,12 @@ pub fn show(times: &[String], values: &[f32], error_bound: ErrorBound) -> Result
     let whole = written(values, error_bound)?;
     let mut kept = vec![0.0; values.len()];
     macaque_v::grid(&whole.1, kept.len(), Opening::First, &mut kept)?;
-    for ((time, value), kept) in times.iter().zip(values).zip(&kept) {
-        _ = writeln!(text, "{time} {value:6.2}  kept as {kept:.2}");
+    let means = means(values, error_bound)?;
+    for (((time, value), kept), mean) in times.iter().zip(values).zip(&kept).zip(means) {
+        _ = writeln!(
+            text,
+            "{time} {value:6.2}  kept as {kept:.2}, mean {mean:.2}"
+        );
     }
     let half = values.len() / 2;
     let part = cut(values, half, error_bound)?;
@@ -25,7 +29,7 @@ pub fn show(times: &[String], values: &[f32], error_bound: ErrorBound) -> Result
     };
     _ = writeln!(
         text,
-        "{} readings in {} bytes; cut and resumed, bytes and state are {same} as of one run",
+        "{} readings in {} bytes; cut and resumed, bytes and state, the sum among it, are {same} as of one run",
         values.len(),
         whole.1.len()
     );

@@ -108,6 +108,8 @@ pub struct MacaqueV {
     pub window: Window,
     pub place: usize,
     pub length: usize,
+    /// 02, W4: "the f32 sum, added from the left as 01 says".
+    pub sum: f32,
 }
 
 impl MacaqueV {
@@ -123,6 +125,7 @@ impl MacaqueV {
             window: Window::OPENING,
             place: 0,
             length: 0,
+            sum: 0.0,
         })
     }
 
@@ -171,9 +174,13 @@ impl MacaqueV {
     }
 
     /// The state with one more kept value: "Minimum and maximum ... take in each kept value from the
-    /// left, the raw first one too."
+    /// left, the raw first one too." The sum goes on "from the first value in with-first mode", whatever it was
+    /// before that one, and else by adding.
     fn with(self, value: u32, window: Window, bits: usize) -> Self {
+        let number = f32::from_bits(value);
+        let is_raw = self.length == 0 && self.with_first;
         Self {
+            sum: if is_raw { number } else { self.sum + number },
             min_value: minimum_bits(self.min_value, value),
             max_value: maximum_bits(self.max_value, value),
             last_value: value,

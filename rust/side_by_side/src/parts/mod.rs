@@ -48,6 +48,7 @@ pub const ALL: &[Part] = &[
     Part::new("library: damaged", library_stream::damaged),
     Part::new("library: repeats", library_stream::repeats),
     Part::new("library: states", library_stream::states),
+    Part::new("library: sums", library_stream::sums),
     Part::new("library: reader", library_stream::reading),
     Part::new("library: causes", library_stream::causes),
     Part::new(

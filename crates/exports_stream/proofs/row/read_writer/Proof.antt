@@ -6,8 +6,8 @@ use Rattle.exports_stream.proofs.row.read_writer.Tie as tie
 
 returns : tie.Need-returns
 returns c =
-    let s = c .before .before .before .before .before .before .before .before .before .before .before .before .before .before in
-    rw (c .before .before .before .before .before .before .before .before .before .before .before .low .ensures, c .before .before .before .before .before .before .before .before .before .low2 .ensures, c .before .before .before .before .before .before .before .low3 .ensures, c .before .before .before .before .before .low4 .ensures, c .before .before .before .low5 .ensures) (low-words (s .args .row .now) (s .pre .1) (s .args .error-bound))
+    let s = c .before .before .before .before .before .before .before .before .before .before .before .before .before .before .before .before .before in
+    rw (c .before .before .before .before .before .before .before .before .before .before .before .before .before .before .low .ensures, c .before .before .before .before .before .before .before .before .before .before .before .before .low2 .ensures, c .before .before .before .before .before .before .before .before .before .before .low3 .ensures, c .before .before .before .before .before .before .before .before .low4 .ensures, c .before .before .before .before .before .before .low5 .ensures, c .value-of-f32 .ensures, c .before .low6 .ensures) (low-words (s .args .row .now) (s .pre .1) (s .args .error-bound))
 
 pub read-writer-spec : {M : Type 1} → statement M
 read-writer-spec =
@@ -26,4 +26,7 @@ read-writer-spec =
     (λ c. search needs)
     (λ c. search needs)
     (λ c. search needs)
+    (λ c. search needs)
+    (λ c κs. search needs)
+    (λ c κs. search needs)
     returns)

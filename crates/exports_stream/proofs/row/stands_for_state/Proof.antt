@@ -15,8 +15,8 @@ returns c = sym (short-stands-for-none (c .before .before .args .row .now) (omeg
 returns-2 : tie.Need-returns-2
 unfolding standsForState
 returns-2 c =
-    let held = le-leb writerLength (length (c .before .before .before .before .before .before .before .before .before .before .before .before .before .args .row .now)) (omega arith) in
-    rw (held, c .before .before .before .before .before .before .before .before .before .is-small .ensures, c .before .before .before .before .before .before .before .is-small2 .ensures, c .before .before .before .before .before .is-small3 .ensures, c .before .before .before .is-small4 .ensures, c .before .is-small5 .ensures)
+    let held = le-leb writerLength (length (c .before .before .before .before .before .before .before .before .before .before .before .before .before .before .before .args .row .now)) (omega arith) in
+    rw (held, c .before .before .before .before .before .before .before .before .before .before .before .is-small .ensures, c .before .before .before .before .before .before .before .before .before .is-small2 .ensures, c .before .before .before .before .before .before .before .is-small3 .ensures, c .before .before .before .before .before .is-small4 .ensures, c .before .before .before .is-small5 .ensures, c .is-small6 .ensures)
 
 pub stands-for-state-spec : {M : Type 1} → statement M
 stands-for-state-spec =
@@ -34,4 +34,6 @@ stands-for-state-spec =
     (λ c. search needs)
     (λ c κs. search needs)
     (λ c. search needs)
+    (λ c. search needs)
+    (λ c κs. search needs)
     returns-2)

@@ -4,6 +4,7 @@ use mathlib.Core.Path.{_≡_, sym, ap, _∙_}
 use mathlib.Core.Bool.{true}
 use mathlib.Core.List.{List}
 use Prim.Native.Nat.{ℕ}
+use lib.Ieee.{ofBits}
 use Rattle.models.specs.declared.ErrorBound.{ErrorBound}
 use Rattle.exports_stream.specs.Row.{standsForState, readWriter, spoiledWriter}
 use Rattle.exports_stream.proofs.Words.{has-words, a-state, no-state}
@@ -22,6 +23,7 @@ returns c =
     c .read-writer .ensures ∙ ap (λ (b : ErrorBound). readWriter b row) (c .before .before .before .bound-front .ensures) ∙ a-state row (stands (c .before))
 
 returns-2 : tie.Need-returns-2
+unfolding ofBits
 returns-2 c =
     ap spoiledWriter (c .before .before .bound-front .ensures) ∙ no-state (c .before .before .before .before .args .row .now) (sym (c .before .stands-for-state .ensures) ∙ c .if1 .left)
 

@@ -8,7 +8,7 @@ use lib.Seq.{length-take-le}
 use Rattle.models.specs.Answers.{answered, refused}
 use Rattle.stream.specs.Read.{Reopened, bufferAfter}
 use Rattle.macaque_v.specs.State.{Known, writerOf, isFirst}
-use Rattle.macaque_v.specs.inner.ReadRun.{minMaxIn}
+use Rattle.macaque_v.specs.inner.ReadRun.{knownIn}
 use Rattle.macaque_v.specs.inner.Read.{stateWith, resumed, StateSays}
 use Rattle.macaque_v.specs.declared.read_run.Walk.the-variants as OfWalk
 use Rattle.macaque_v.proofs.read.resume.Statement.{statement}
@@ -41,9 +41,9 @@ returns-2 : tie.Need-returns-2
 returns-2 c =
     let a = c .before .before .before .before .before .before .before .before .before .before .before .args in
     let at = c .before .before .before .before .before .before .at .given .0 .0 in
-    let ends = c .before .before .before .before .before .before .at .given .0 .1 .0 in
+    let tally = c .before .before .before .before .before .before .at .given .0 .1 .0 in
     let opens = (told (c .before .before .before .before .before .before)) .0 in (
-      ap (λ (first : Bool). answered (writerOf (a .error-bound) first (stateWith at (minMaxIn ends)))) (c .is-first .ensures) ∙ sym (ap (resumed (a .error-bound) (isFirst (a .opening))) opens),
+      ap (λ (first : Bool). answered (writerOf (a .error-bound) first (stateWith at (knownIn tally)))) (c .is-first .ensures) ∙ sym (ap (resumed (a .error-bound) (isFirst (a .opening))) opens),
       c .before .before .before .cut .ensures ∙ sym (ap (λ (q : Reopened Known). bufferAfter q (a .buffer .now)) opens),
     )
 

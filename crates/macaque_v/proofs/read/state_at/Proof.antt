@@ -5,8 +5,8 @@ use mathlib.Core.Bool.{Bool}
 use Prim.Native.Nat.{_-_, _^_, _<_}
 use native.Mathlib.Omega.{arith}
 use Rattle.stream.specs.Read.{reopened}
-use Rattle.macaque_v.specs.State.{MinMax, isFirst}
-use Rattle.macaque_v.specs.inner.ReadRun.{minMaxIn, Walked, WalkSays, WholeSays}
+use Rattle.macaque_v.specs.State.{isFirst}
+use Rattle.macaque_v.specs.inner.ReadRun.{knownIn, Walked, WalkSays, WholeSays}
 use Rattle.macaque_v.specs.Read.{startOf}
 use Rattle.macaque_v.specs.inner.Read.{stateWith}
 use Rattle.macaque_v.specs.declared.read_run.Cursor.{Cursor}
@@ -18,17 +18,17 @@ use Rattle.macaque_v.proofs.read.state_at.Tie as tie
 
 -- what going through the first k values says, from the start
 told : (c : tie.After-go-through)
-    → WalkSays (isFirst (c .before .before .before .before .args .opening)) (c .before .before .before .before .args .bytes .now) (startOf (c .before .before .before .before .args .opening)) (c .before .before .before .before .args .k) OfAim.MinMax (c .go-through .result)
+    → WalkSays (isFirst (c .before .before .before .before .args .opening)) (c .before .before .before .before .args .bytes .now) (startOf (c .before .before .before .before .args .opening)) (c .before .before .before .before .args .k) OfAim.All (c .go-through .result)
 told c =
     let a = c .before .before .before .before .args in
-    subst₂ (λ (first : Bool) (from : Cursor). WalkSays first (a .bytes .now) from (a .k) OfAim.MinMax (c .go-through .result))
+    subst₂ (λ (first : Bool) (from : Cursor). WalkSays first (a .bytes .now) from (a .k) OfAim.All (c .go-through .result))
     (c .before .before .is-first .ensures) (c .before .start .ensures .0) (c .go-through .ensures)
 
 walked : (c : tie.After-at)
-    → Walked (isFirst (c .before .before .before .before .before .before .args .opening)) (c .before .before .before .before .before .before .args .bytes .now) (startOf (c .before .before .before .before .before .before .args .opening)) (c .before .before .before .before .before .before .args .k) OfAim.MinMax (c .at .given .0 .0) (c .at .given .0 .1 .0)
+    → Walked (isFirst (c .before .before .before .before .before .before .args .opening)) (c .before .before .before .before .before .before .args .bytes .now) (startOf (c .before .before .before .before .before .before .args .opening)) (c .before .before .before .before .before .before .args .k) OfAim.All (c .at .given .0 .0) (c .at .given .0 .1 .0)
 walked c =
     let a = c .before .before .before .before .before .before .args in
-    subst (WalkSays (isFirst (a .opening)) (a .bytes .now) (startOf (a .opening)) (a .k) OfAim.MinMax) (c .at .given .1) (told (c .before .before))
+    subst (WalkSays (isFirst (a .opening)) (a .bytes .now) (startOf (a .opening)) (a .k) OfAim.All) (c .at .given .1) (told (c .before .before))
 
 -- and going on to the end
 checked : (c : tie.After-go-to-end)
@@ -52,7 +52,7 @@ returns c =
     let a = c .before .before .before .before .before .before .before .args in
     let small = subst (λ (at : Cursor). at .last < 2 ^ 32) (c .before .before .before .before .start .ensures .0) (c .before .before .before .before .start .ensures .1) in
     early-unopened (a .bytes .now) (a .opening) (a .count) (a .k) (omega arith) (start-readable (a .bytes .now) (a .opening) small)
-    (subst (WalkSays (isFirst (a .opening)) (a .bytes .now) (startOf (a .opening)) (a .k) OfAim.MinMax) (c .before .r .given .1) (told (c .before .before .before)))
+    (subst (WalkSays (isFirst (a .opening)) (a .bytes .now) (startOf (a .opening)) (a .k) OfAim.All) (c .before .r .given .1) (told (c .before .before .before)))
 
 returns-2 : tie.Need-returns-2
 returns-2 c =
@@ -68,7 +68,7 @@ returns-3 c =
     let W = walked (c .before .before .before .before) in
     let says = subst (WholeSays (isFirst (a .opening)) (a .bytes .now) at (a .count - a .k) OfAim.Nothing) (c .enum-told .given .1) (checked (c .before .before)) in (
       right-reopened (a .bytes .now) (a .opening) (a .count) (a .k) (omega arith) (W .reads) (says .0 .reads) (says .1)
-          ∙ ap (λ (t : Tally). reopened (stateWith at (minMaxIn t))) (sym (W .tally)),
+          ∙ ap (λ (t : Tally). reopened (stateWith at (knownIn t))) (sym (W .tally)),
       W .reads .readable .within,
     )
 

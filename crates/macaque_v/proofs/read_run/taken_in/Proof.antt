@@ -16,7 +16,7 @@ returns-2 c =
 returns-3 : tie.Need-returns-3
 returns-3 c =
     let a = c .before .before .before .before .args in
-    c .stretched .ensures (modeOf (a .first)) (a .count) ∙ sym (ap (λ (aim : Aim). tallied aim (modeOf (a .first)) (a .count) (a .tally) (take (a .k) (a .values .now))) (c .before .enum-told3 .given .1))
+    c .all-taken-in .ensures ∙ sym (ap (λ (aim : Aim). tallied aim (modeOf (a .first)) (a .count) (a .tally) (take (a .k) (a .values .now))) (c .before .enum-told3 .given .1))
 
 pub taken-in-spec : {M : Type 1} → statement M
 taken-in-spec =

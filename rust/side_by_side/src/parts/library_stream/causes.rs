@@ -119,7 +119,19 @@ fn of_write(context: &mut Context) {
             ] {
                 let mut row = vec![STALE_WORD; STATE_WORDS + 2];
                 both::opened(context, (0, 0), fresh, &row);
-                let words = [kind.into(), bits.into(), 0, 0, 0, 255, 0, 1, place, written];
+                let words = [
+                    kind.into(),
+                    bits.into(),
+                    0,
+                    0,
+                    0,
+                    255,
+                    0,
+                    1,
+                    place,
+                    written,
+                    0,
+                ];
                 row[..STATE_WORDS].copy_from_slice(&words);
                 row.truncate(length);
                 for values in [&[][..], &[ONE], &[ONE; 9]] {

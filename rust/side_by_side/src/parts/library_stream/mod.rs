@@ -10,6 +10,7 @@ pub mod reading;
 mod repeats;
 mod resumed;
 pub mod states;
+mod sums;
 
 pub use causes::causes;
 pub use damaged::damaged;
@@ -19,6 +20,7 @@ pub use reading::reading;
 pub use repeats::repeats;
 pub use resumed::resumed;
 pub use states::states;
+pub use sums::sums;
 
 use crate::context::Context;
 use crate::face;

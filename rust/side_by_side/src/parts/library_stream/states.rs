@@ -1,4 +1,4 @@
-//! Handed-in states: any bits in each of the ten words, alone and together, with buffers around the
+//! Handed-in states: any bits in each of the eleven words, alone and together, with buffers around the
 //! place that the state names.
 
 use super::{Stream, both};
@@ -89,6 +89,7 @@ pub fn any_state(context: &mut Context) -> (Vec<u64>, Vec<u8>) {
         inputs.below(2),
         if length > 0 { 1 + inputs.below(160) } else { 0 },
         length,
+        inputs.value().into(),
     ];
     for _ in 0..inputs.below(4) {
         let place = inputs.below(STATE_WORDS as u64) as usize;
