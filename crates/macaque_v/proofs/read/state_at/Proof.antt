@@ -10,11 +10,16 @@ use Rattle.macaque_v.specs.inner.ReadRun.{knownIn, Walked, WalkSays, Who
 use Rattle.macaque_v.specs.Read.{startOf}
 use Rattle.macaque_v.specs.inner.Read.{stateWith}
 use Rattle.macaque_v.specs.declared.read_run.Cursor.{Cursor}
+use Rattle.macaque_v.specs.declared.read_run.Aim.{Aim}
 use Rattle.macaque_v.specs.declared.read_run.Aim.the-variants as OfAim
 use Rattle.macaque_v.specs.declared.read_run.Tally.{Tally}
 use Rattle.macaque_v.proofs.ReadingAll.{starts, start-readable, early-unopened, late-unopened, right-reopened}
 use Rattle.macaque_v.proofs.read.state_at.Statement.{statement}
 use Rattle.macaque_v.proofs.read.state_at.Tie as tie
+
+-- what is taken in of the values behind k
+abbrev aside : Aim
+aside = OfAim.Nothing
 
 -- what going through the first k values says, from the start
 told : (c : tie.After-go-through)
@@ -32,10 +37,10 @@ walked c =
 
 -- and going on to the end
 checked : (c : tie.After-go-to-end)
-    → WholeSays (isFirst (c .before .before .before .before .before .before .before .before .args .opening)) (c .before .before .before .before .before .before .before .before .args .bytes .now) (c .before .before .at .given .0 .0) (c .before .before .before .before .before .before .before .before .args .count - c .before .before .before .before .before .before .before .before .args .k) OfAim.Nothing (c .go-to-end .result)
+    → WholeSays (isFirst (c .before .before .before .before .before .before .before .before .args .opening)) (c .before .before .before .before .before .before .before .before .args .bytes .now) (c .before .before .at .given .0 .0) (c .before .before .before .before .before .before .before .before .args .count - c .before .before .before .before .before .before .before .before .args .k) aside (c .go-to-end .result)
 checked c =
     let a = c .before .before .before .before .before .before .before .before .args in
-    subst (λ (first : Bool). WholeSays first (a .bytes .now) (c .before .before .at .given .0 .0) (a .count - a .k) OfAim.Nothing (c .go-to-end .result)) (c .before .before .before .before .before .before .is-first .ensures) (c .go-to-end .ensures)
+    subst (λ (first : Bool). WholeSays first (a .bytes .now) (c .before .before .at .given .0 .0) (a .count - a .k) aside (c .go-to-end .result)) (c .before .before .before .before .before .before .is-first .ensures) (c .go-to-end .ensures)
 
 go-through-requires : tie.Need-go-through-requires
 go-through-requires c κs =
@@ -59,14 +64,14 @@ returns-2 c =
     let a = c .before .before .before .before .before .before .before .before .before .before .before .args in
     let at = c .before .before .before .before .before .at .given .0 .0 in
     late-unopened (a .bytes .now) (a .opening) (a .count) (a .k) (omega arith) ((walked (c .before .before .before .before .before)) .reads)
-    (subst (WholeSays (isFirst (a .opening)) (a .bytes .now) at (a .count - a .k) OfAim.Nothing) (c .before .r2 .given .1) (checked (c .before .before .before)))
+    (subst (WholeSays (isFirst (a .opening)) (a .bytes .now) at (a .count - a .k) aside) (c .before .r2 .given .1) (checked (c .before .before .before)))
 
 returns-3 : tie.Need-returns-3
 returns-3 c =
     let a = c .before .before .before .before .before .before .before .before .before .before .args in
     let at = c .before .before .before .before .at .given .0 .0 in
     let W = walked (c .before .before .before .before) in
-    let says = subst (WholeSays (isFirst (a .opening)) (a .bytes .now) at (a .count - a .k) OfAim.Nothing) (c .enum-told .given .1) (checked (c .before .before)) in (
+    let says = subst (WholeSays (isFirst (a .opening)) (a .bytes .now) at (a .count - a .k) aside) (c .enum-told .given .1) (checked (c .before .before)) in (
       right-reopened (a .bytes .now) (a .opening) (a .count) (a .k) (omega arith) (W .reads) (says .0 .reads) (says .1)
           ∙ ap (λ (t : Tally). reopened (stateWith at (knownIn t))) (sym (W .tally)),
       W .reads .readable .within,
