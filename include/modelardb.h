@@ -135,9 +135,14 @@ modelardb_fault modelardb_maximum_allowed_deviation(uint32_t kind, uint32_t boun
  * bits is refused with 1, as any that is not allowed: a Lossless row's word 1 too, though its bits are not looked
  * at. `new` and `reopen` set that word to 0.
  *
- * The sum is what `modelardb_macaque_v_sum` answers on the stream's bytes, in f32 from the left: the mean is it by
- * word 9, and no byte has to be read for it. With a first value, the write at length 0 sets it to that value. A NaN
- * is MODELARDB_NAN.
+ * The sum is what `modelardb_macaque_v_sum` answers on the stream's bytes, in f32 from the left, without reading
+ * them: with a first value the write at length 0 sets it to that value, else it begins at +0. The mean is the sum
+ * divided by word 9, in double; where word 9 is 0 there is none (examples/stream.c). Once a NaN is kept the sum is
+ * MODELARDB_NAN to the end of the stream, and beyond the greatest f32 it is an infinity.
+ *
+ * Rows of the version before had ten words. Do not lengthen one: with any eleventh word of 32 bits it is accepted,
+ * and its sum is wrong. Reopen its stream into a new row: used is MODELARDB_BYTES(word 8), count and k are word 9,
+ * the mode is MODELARDB_FIRST where word 7 is 1, else MODELARDB_ON with the opening value that you kept.
  *
  * The stream's bytes are the buffer's first (word 8 + 7) / 8, and the bits behind the place in the last of them
  * are 0. No value takes more than 45 bits, and one that is stored in full takes 32.
@@ -155,9 +160,9 @@ modelardb_fault modelardb_macaque_v_new(uint32_t kind, uint32_t bound, uint32_t 
                                         uint64_t *state, size_t state_length);
 
 /* Writes the values behind the state's place into the buffer; state: words 2 to 6 and 8 to 10 become those of the
- * writer after them, and the others stay. A write of no values changes nothing. A sum that is handed in is not
- * judged: a wrong one is carried on by the same additions, and nothing else depends on it. Refusals: 1; 2; 3
- * (over 65,536 values in all); 4 (the buffer). */
+ * writer after them, and the others stay. A write of no values changes nothing. Of a sum that is handed in only its
+ * 32 bits are judged: a wrong one is carried on by the same additions, and nothing else depends on it. Refusals: 1;
+ * 2; 3 (over 65,536 values in all); 4 (the buffer). */
 modelardb_fault modelardb_macaque_v_compress_values(uint64_t *state, size_t state_length, const uint32_t *values,
                                                     size_t values_length, uint8_t *buffer, size_t buffer_length);
 

@@ -138,7 +138,7 @@ pub fn maximum_allowed_deviation((kind, bound): Words, value: u64, out: &mut [u6
 /// full; the place in bits; the length; the sum's bits.
 pub const STATE_WORDS: usize = 11;
 
-/// The first ten words of `state` become a fresh writer's.
+/// The first eleven words of `state` become a fresh writer's.
 pub fn macaque_v_new((kind, bound): Words, (mode, opening): Words, state: &mut [u64]) -> Fault {
     let (start, length) = (state.as_mut_ptr(), state.len());
     // SAFETY: start and length are those of a slice lent for the call.

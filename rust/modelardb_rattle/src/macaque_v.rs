@@ -232,7 +232,7 @@ impl MacaqueV {
         ErrorBound::in_row(&self.row)
     }
 
-    /// The least value kept, NaN before any.
+    /// The least value kept, NaN before any. Gaps (NaN) are passed over.
     pub fn min_value(&self) -> f32 {
         f32::from_bits(self.min_value_bits())
     }
@@ -242,7 +242,7 @@ impl MacaqueV {
         self.bits(2)
     }
 
-    /// The greatest value kept, NaN before any.
+    /// The greatest value kept, NaN before any. Gaps (NaN) are passed over.
     pub fn max_value(&self) -> f32 {
         f32::from_bits(self.max_value_bits())
     }
@@ -293,8 +293,10 @@ impl MacaqueV {
     }
 
     /// The sum of the kept values, added from the left in f32: what [`sum`] answers on the stream's bytes, without
-    /// reading them. +0 before any value. A writer that was cut and reopened has the sum of the values that it
-    /// stands behind.
+    /// reading them. +0 before any value; a first value that is stored in full begins it, −0 too. A writer that was cut
+    /// and reopened has the sum of the values that it stands behind.
+    ///
+    /// Once a gap (NaN) is kept it is NaN to the end of the stream, and beyond the greatest f32 it is an infinity.
     ///
     /// ```
     /// use modelardb_rattle::{ErrorBound, MacaqueV, Opening, Refusal, macaque_v};
@@ -317,8 +319,9 @@ impl MacaqueV {
         self.bits(10)
     }
 
-    /// The mean of the kept values, `None` before any: [`MacaqueV::sum`] by the length, divided in f64. The sum itself
-    /// is rounded to f32 after each value, as document 01 has it.
+    /// The mean of the kept values, `None` before any: [`MacaqueV::sum`] divided by the length, in f64. The sum itself
+    /// is rounded to f32 after each value, as document 01 has it: of readings of one sign the mean is off by at most
+    /// about length / 2^24 of itself, 0.002 % for 288 readings and 0.4 % for 65,536. Gaps count as in the sum.
     ///
     /// ```
     /// use modelardb_rattle::{ErrorBound, MacaqueV, Opening, Refusal};

@@ -125,7 +125,8 @@ impl TabledWriter {
         Refusal::judge(ffi::table_compress_into(row, values, buffer, words, room))
     }
 
-    /// What is known of the values behind it: how many they are, how many bytes they take.
+    /// What is known of the values behind it: how many they are, how many bytes they take, their sum and their mean
+    /// (`writer().mean()`).
     pub fn writer(&self) -> &MacaqueV {
         &self.writer
     }
