@@ -54,7 +54,7 @@ no-entries : {b : ErrorBound} {o : Opening} {buf : List ℕ} {m : MacaqueV} → 
 unfolding tableIn entries keptFrom
 no-entries M words = record { made = M; lent = omega arith; beside = refl }
 
--- an allowed bound, a mode and a row of ten words are accepted, and nothing of the buffer and of the words is in use, whatever they hold
+-- an allowed bound, a mode and a row of eleven words are accepted, and nothing of the buffer and of the words is in use, whatever they hold
 pub a-new-row-with-a-table : (kind bound mode value : ℕ) (row : List ℕ) → openingValue (openingOf mode value) < 2 ^ 32 → boundAllowed (boundOf kind bound) ≡ true
     → mode ≤ 1 → writerLength ≤ length row
     → (newFault kind bound mode value row ≡ noFault)

@@ -121,11 +121,13 @@ fn a_writers_words_stand_where_the_header_says() {
         "LAST",
         "WITH_FIRST",
         "LENGTH",
+        "SUM",
     ];
     let [one, three, two] = bits.map(u64::from);
     assert_eq!(
         words(&row, "WRITER", &names),
-        [1, u64::from(half), one, three, two, 1, 3]
+        [1, u64::from(half), one, three, two, 1, 3, 0x40C0_0000],
+        "of 1, 3 and 2 the sum is 6"
     );
     let place = words(&row, "WRITER", &["PLACE"])[0] as usize;
     let used = place.div_ceil(8);

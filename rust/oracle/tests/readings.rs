@@ -324,7 +324,7 @@ const WRITER: MacaqueV = MacaqueV {
     },
     place: 1,
     length: 1,
-    sum: 1.0,
+    sum: ONE,
 };
 
 /// The place after one more value, and the two bytes.

@@ -11,7 +11,6 @@ use modelardb_rattle::ffi::{STATE_WORDS, Words};
 use modelardb_rattle::{Fault, Refusal};
 use oracle::paper::macaque_v::{self, MacaqueV, Opening, Window};
 use oracle::paper::models::ErrorBound::{self, Absolute, Lossless, Relative};
-use oracle::paper::numbers::bits_of_f32;
 use oracle::paper::refusal::{BOUND, COUNTS, LIMIT, OUTPUT, STATE};
 use oracle::paper::{Answer, Fault as Refused, Read, judge_count, refuse_if};
 
@@ -180,18 +179,15 @@ fn state_in(row: &[u64]) -> Answer<MacaqueV> {
         },
         place: row[8] as usize,
         length: row[9] as usize,
-        sum: f32::from_bits(bits(10)?),
+        sum: bits(10)?,
     })
 }
 
-/// The words of a state after a write. Those of the bound and of the mode stay as they are handed in, and
-/// where no value came that of the sum: "an empty write changes nothing", a NaN's payload neither.
+/// The words of a state after a write. Those of the bound and of the mode stay as they are handed in.
 fn put_written(row: &mut [u64], after: MacaqueV) {
     let kept = [row[0], row[1], row[7]];
-    let sum = (row[9] == after.length as u64).then_some(row[10]);
     put(row, after);
     [row[0], row[1], row[7]] = kept;
-    row[10] = sum.unwrap_or(row[10]);
 }
 
 /// The state's words to the front of the row.
@@ -208,7 +204,7 @@ fn put(row: &mut [u64], state: MacaqueV) {
         state.with_first.into(),
         state.place as u64,
         state.length as u64,
-        bits_of_f32(state.sum).into(),
+        state.sum.into(),
     ];
     row[..STATE_WORDS].copy_from_slice(&words);
 }

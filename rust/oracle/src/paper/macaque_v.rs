@@ -108,8 +108,9 @@ pub struct MacaqueV {
     pub window: Window,
     pub place: usize,
     pub length: usize,
-    /// 02, W4: "the f32 sum, added from the left as 01 says".
-    pub sum: f32,
+    /// 02, W4: "the f32 sum, added from the left as 01 says". Its bits, so that zeros of either sign differ and
+    /// NaNs do not.
+    pub sum: u32,
 }
 
 impl MacaqueV {
@@ -125,7 +126,7 @@ impl MacaqueV {
             window: Window::OPENING,
             place: 0,
             length: 0,
-            sum: 0.0,
+            sum: 0,
         })
     }
 
@@ -178,9 +179,12 @@ impl MacaqueV {
     /// before that one, and else by adding.
     fn with(self, value: u32, window: Window, bits: usize) -> Self {
         let number = f32::from_bits(value);
-        let is_raw = self.length == 0 && self.with_first;
+        let sum = match self.length {
+            0 if self.with_first => number,
+            _ => f32::from_bits(self.sum) + number,
+        };
         Self {
-            sum: if is_raw { number } else { self.sum + number },
+            sum: bits_of_f32(sum),
             min_value: minimum_bits(self.min_value, value),
             max_value: maximum_bits(self.max_value, value),
             last_value: value,

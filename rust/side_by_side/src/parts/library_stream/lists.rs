@@ -129,8 +129,10 @@ fn beside_the_rust(
     }
     for rust in context.rust {
         let read = (rust.read)(&stream.bytes, drawn.len(), opening);
-        let theirs = (read, (rust.sum)(&stream.bytes, drawn.len(), opening));
-        let ours = (Some(drawn.to_vec()), Some(sum));
+        let their_sum = (rust.sum)(&stream.bytes, drawn.len(), opening);
+        let theirs = (read, their_sum, their_sum);
+        // The sum call's, and the one that the writer's row holds.
+        let ours = (Some(drawn.to_vec()), Some(sum), Some(stream.row[10] as u32));
         let input = || format!("reading {:02X?} {opening:X?}", stream.bytes);
         context.same(rust.name, ours, theirs, input);
     }
@@ -198,6 +200,7 @@ fn by_the_safe_type(context: &mut Context, bound: ErrorBound, opening: Opening, 
         writer.with_first().into(),
         writer.place() as u64,
         writer.length() as u64,
+        writer.sum_bits().into(),
     ];
     context.same("safe type", &stream.row[2..], &said[..], input);
     let rest = (answer, writer.error_bound(), buffer);

@@ -9,6 +9,7 @@ use crate::parts::library_table::both as beside;
 use modelardb_rattle::Fault;
 use modelardb_rattle::ffi::{ENTRY_WORDS, STATE_WORDS, VALUES_PER_ENTRY};
 use oracle::paper::MOST_VALUES;
+use oracle::paper::macaque_v::Opening;
 
 /// Values whose sums round, overflow, cancel or are NaN, and both zeros.
 const HEAVY: [u32; 12] = [
@@ -46,10 +47,17 @@ pub fn sums(context: &mut Context) {
             }
         }
     }
-    let stream = Stream::any(context, MOST_VALUES);
-    for k in [0, 1, 1_023, 1_024, 1_025, MOST_VALUES - 1, MOST_VALUES] {
-        let row = at_value(context, &stream, k);
-        with_another(context, &stream, k, &row, 0xFFC1_2345);
+    // The longest, of readings alone, so that every sum is a number.
+    for opening in [Opening::WithFirst, Opening::On(ONE)] {
+        let values: Vec<u32> = (0..MOST_VALUES).map(|_| context.inputs.reading()).collect();
+        let bound = context.inputs.bound();
+        let stream = Stream::new(context, bound, opening, &values);
+        for k in [0, 1, 1_023, 1_024, 1_025, MOST_VALUES - 1, MOST_VALUES] {
+            let row = at_value(context, &stream, k);
+            for sum in [ONE, 0xC2C8_0000, 0xFFC1_2345] {
+                with_another(context, &stream, k, &row, sum);
+            }
+        }
     }
 }
 

@@ -240,7 +240,7 @@ fn from_row(
     let values_kept = [min, NAN, last].map(u64::from);
     let mut row = [0; STATE_WORDS];
     row[2..5].copy_from_slice(&values_kept);
-    row[5..].copy_from_slice(&[255, 0, 1, place, length]);
+    row[5..].copy_from_slice(&[255, 0, 1, place, length, 0]);
     let mut buffer = vec![0xFF; room];
     let fault = ffi::macaque_v_compress_values(&mut row, values, &mut buffer);
     let bytes = buffer.into_iter().map(u64::from);
