@@ -129,6 +129,14 @@ module _ (kind bound mode value : ℕ) (row : List ℕ) (hl : openingValue (open
 
 -- ---- writing through a row
 
+-- the sum's word where a value came
+pub sum-after-some : (row : List ℕ) → standsForState row ≡ true → (y : ℕ) (ys : List ℕ)
+    → sumAfter row (writerAt (writerIn row) (wroteBy (writerIn row) (y ∷ ys))) ≡ toBits binary32 ((writerAt (writerIn row) (wroteBy (writerIn row) (y ∷ ys))) .sum)
+sum-after-some row h y ys =
+    let m : MacaqueV = writerIn row in
+    let more : ¬ ((wroteBy m (y ∷ ys)) .count ≡ lengthWord row) = λ e. omega (arith, e, written-count m (y ∷ ys), ap (λ (w : MacaqueV). w .length) (a-state row h)) in
+    ap (λ (b : Bool). cond b (sumWord row) (toBits binary32 (sumIn (wroteBy m (y ∷ ys))))) (ne-eqb ((wroteBy m (y ∷ ys)) .count) (lengthWord row) more)
+
 -- the sum's word after a write on a row whose word of it is as a call leaves it: where no value came, it is the same sum
 pub sum-after-is : (row : List ℕ) → standsForState row ≡ true → sumWord row ≡ toBits binary32 ((writerIn row) .sum) → (ys : List ℕ)
     → sumAfter row (writerAt (writerIn row) (wroteBy (writerIn row) ys)) ≡ toBits binary32 ((writerAt (writerIn row) (wroteBy (writerIn row) ys)) .sum)
@@ -138,10 +146,7 @@ sum-after-is row h plain [] = go (eqb ((writerIn row) .length) (lengthWord row))
     go : (b : Bool) → cond b (sumWord row) (toBits binary32 ((writerIn row) .sum)) ≡ toBits binary32 ((writerIn row) .sum)
     go true = plain
     go false = refl
-sum-after-is row h plain (y ∷ ys) =
-    let m : MacaqueV = writerIn row in
-    let more : ¬ ((wroteBy m (y ∷ ys)) .count ≡ lengthWord row) = λ e. omega (arith, e, written-count m (y ∷ ys), ap (λ (w : MacaqueV). w .length) (a-state row h)) in
-    ap (λ (b : Bool). cond b (sumWord row) (toBits binary32 (sumIn (wroteBy m (y ∷ ys))))) (ne-eqb ((wroteBy m (y ∷ ys)) .count) (lengthWord row) more)
+sum-after-is row h plain (y ∷ ys) = sum-after-some row h y ys
 
 -- a number of 0 tells that nothing was refused
 pub accepted-zero : (m : MacaqueV) (ys buf : List ℕ) → (plainFault (stateless (writeAnswer m ys buf))) .number ≡ 0 → writeAnswer m ys buf ≡ answeredOn (writerAt m (wroteBy m ys))

@@ -8,7 +8,7 @@ use native.Mathlib.Omega.{arith}
 use borrow.Author.Tests.{lt-ltb, le-ltb, le-leb, lt-leb, leb-true, ltb-true, eq-eqb}
 use lib.Dec.{eqb, leb}
 use lib.ListN.{length, drop, getD}
-use lib.Ieee.{binary32, ofBits, toBits}
+use lib.Ieee.{Float, binary32, ofBits, toBits}
 use lib.Ieee.Bits.{ofBits-toBits, ofBits-fits}
 use lib.Seq.{drop-cons}
 use Rattle.models.specs.Bound.{BoundHeld}
@@ -88,6 +88,14 @@ module _ (row : List ℕ) where
         let t4 = and-right (small (getD row 4 0)) _ (and-right (small (getD row 3 0)) _ t2) in
         and-left _ _ (and-right (small (getD row 6 0)) _ (and-right (small (getD row 5 0)) _ t4))
 
+    -- its sum has 32 bits
+    pub sum-small : small (sumWord row) ≡ true
+    unfolding standsForState
+    sum-small =
+        let t2 = and-right (small (getD row 2 0)) _ (and-right (leb writerLength (length row)) _ h) in
+        let t4 = and-right (small (getD row 4 0)) _ (and-right (small (getD row 3 0)) _ t2) in
+        and-right (leb (getD row 7 0) 1) _ (and-right (small (getD row 6 0)) _ (and-right (small (getD row 5 0)) _ t4))
+
     -- and the writer's words are of 32 bits, and its sum is an f32
     pub words-small : WordsSmall (writerIn row)
     unfolding standsForState
@@ -107,9 +115,9 @@ module _ (row : List ℕ) where
           total = ofBits-fits binary32 (sumWord row);
         })
 
--- a writer like n with another bound and mode
-abbrev writerWith : ErrorBound → Bool → MacaqueV → MacaqueV
-writerWith b f n =
+-- a writer like n with another bound, mode and sum
+abbrev writerWith : ErrorBound → Bool → Float → MacaqueV → MacaqueV
+writerWith b f s n =
     record {
       «error_bound» = b;
       «min_value» = n .«min_value»;
@@ -120,7 +128,7 @@ writerWith b f n =
       «with_first» = f;
       place = n .place;
       length = n .length;
-      sum = n .sum;
+      sum = s;
     }
 
 -- ---- a row is read back as the writer that it was made of
@@ -150,9 +158,9 @@ row-stands m rest s =
 
 -- and so is a row that a write left of any row that stands for a state: its words of the bound and of the mode are those of the writer
 pub written-back : (row : List ℕ) (n : MacaqueV) (rest : List ℕ) → standsForState row ≡ true → n .«error_bound» ≡ boundFront row → n .«with_first» ≡ eqb (getD row 7 0) 1
-    → WordsSmall n → sumAfter row n ≡ toBits binary32 (n .sum) → writerIn (writtenRow row n ++ rest) ≡ n
+    → WordsSmall n → small (sumAfter row n) ≡ true → ofBits binary32 (sumAfter row n) ≡ n .sum → writerIn (writtenRow row n ++ rest) ≡ n
 unfolding writtenRow writerIn standsForState boundFront
-written-back row n rest h bound mode s sum =
+written-back row n rest h bound mode s few-bits sum =
     let few = le-leb writerLength (length (writtenRow row n ++ rest)) (omega arith) in
     let words = has-words row h in
     let least = lt-ltb (n .«min_value») (2 ^ 32) (s .least) in
@@ -160,20 +168,22 @@ written-back row n rest h bound mode s sum =
     let last = lt-ltb (n .«last_value») (2 ^ 32) (s .last) in
     let leading = lt-ltb (n .«last_leading_zero_bits») (2 ^ 32) (s .leading) in
     let trailing = lt-ltb (n .«last_trailing_zero_bits») (2 ^ 32) (s .trailing) in
-    rw (few, least, greatest, last, leading, trailing, flag-of row h, sum, is-small (n .sum) (s .total), ofBits-toBits binary32 (n .sum) (s .total))
-    (ap₂ (λ (b : ErrorBound) (f : Bool). writerWith b f n) (sym (bound ∙ rw (le-ltb (length row) 2 (omega (arith, words))) (sym (bound-front (getD row 0 0) (getD row 1 0) (drop 2 (writtenRow row n ++ rest)))))) (sym mode))
+    rw (few, least, greatest, last, leading, trailing, flag-of row h, few-bits)
+    (ap₂ (λ (b : ErrorBound) (f : Bool). writerWith b f (ofBits binary32 (sumAfter row n)) n)
+    (sym (bound ∙ rw (le-ltb (length row) 2 (omega (arith, words))) (sym (bound-front (getD row 0 0) (getD row 1 0) (drop 2 (writtenRow row n ++ rest)))))) (sym mode)
+    ∙ ap (λ (x : Float). writerWith (n .«error_bound») (n .«with_first») x n) sum)
 
-pub written-stands : (row : List ℕ) (n : MacaqueV) (rest : List ℕ) → standsForState row ≡ true → WordsSmall n → sumAfter row n ≡ toBits binary32 (n .sum)
+pub written-stands : (row : List ℕ) (n : MacaqueV) (rest : List ℕ) → standsForState row ≡ true → WordsSmall n → small (sumAfter row n) ≡ true
     → standsForState (writtenRow row n ++ rest) ≡ true
 unfolding writtenRow standsForState
-written-stands row n rest h s sum =
+written-stands row n rest h s few-bits =
     let few = le-leb writerLength (length (writtenRow row n ++ rest)) (omega arith) in
     let least = lt-ltb (n .«min_value») (2 ^ 32) (s .least) in
     let greatest = lt-ltb (n .«max_value») (2 ^ 32) (s .greatest) in
     let last = lt-ltb (n .«last_value») (2 ^ 32) (s .last) in
     let leading = lt-ltb (n .«last_leading_zero_bits») (2 ^ 32) (s .leading) in
     let trailing = lt-ltb (n .«last_trailing_zero_bits») (2 ^ 32) (s .trailing) in
-    rw (few, least, greatest, last, leading, trailing, flag-of row h, sum, is-small (n .sum) (s .total)) refl
+    rw (few, least, greatest, last, leading, trailing, flag-of row h, few-bits) refl
 
 -- the words of the state that a row stands for are the row's own
 

@@ -115,11 +115,14 @@ RowResumesAsOne xs buf used k mode opening kind bound row ys =
 
 -- ---- the running sum, of rows
 
--- the row stands for the writer of its bytes, and its sum's word is as a call leaves it: a NaN is 7FC00000
+-- the row stands for the writer of its bytes
 pub record RowOfItsBytes (mode opening : ℕ) (buf row : List ℕ) : Type 0 where
   pub stands : standsForState row ≡ true
   pub writer : OfItsBytes (openingOf mode opening) buf (writerIn row)
-  pub plain : sumWord row ≡ toBits binary32 ((writerIn row) .sum)
+
+-- its word of the sum is as a call leaves it: a NaN is 7FC00000
+abbrev pub PlainSum : List ℕ → Type 0
+PlainSum row = sumWord row ≡ toBits binary32 ((writerIn row) .sum)
 
 -- the sum call, on the bytes in use and with the row's length as their count, answers the row's word of the sum
 abbrev pub RowSumsAsTheCall : ℕ → ℕ → List ℕ → List ℕ → List ℕ → Type 0
@@ -163,3 +166,5 @@ pub record RowCarriesTheSum (w : TenWords) (s t : ℕ) (rest xs buf : List ℕ) 
   pub behind : drop 11 (writeRow (rowOf w t rest) xs buf) ≡ drop 11 (writeRow (rowOf w s rest) xs buf)
   pub sum : writeFault (rowOf w s rest) xs buf ≡ noFault → 0 < length xs
       → sumWord (writeRow (rowOf w t rest) xs buf) ≡ toBits binary32 (carried (writerIn (rowOf w s rest)) (ofBits binary32 t) xs)
+  pub empty : xs ≡ [] → sumWord (writeRow (rowOf w t rest) xs buf) ≡ t
+  pub refused : (writeFault (rowOf w s rest) xs buf ≡ noFault → ⊥) → sumWord (writeRow (rowOf w t rest) xs buf) ≡ t

@@ -4,7 +4,7 @@
 use mathlib.Core.Path.{_≡_, refl, sym, ap, ap₂, _∙_, subst}
 use mathlib.Core.Bool.{Bool, true, false, not}
 use mathlib.Core.List.{List, [], _∷_, _++_, append-nil}
-use Prim.Native.Nat.{ℕ, suc, _+_, _*_, _^_, _≤_, _<_}
+use Prim.Native.Nat.{ℕ, zero, suc, _+_, _*_, _^_, _≤_, _<_}
 use native.Mathlib.Nat.{add-zero}
 use native.Mathlib.Omega.{arith}
 use borrow.Author.Tests.{le-ltb}
@@ -22,7 +22,7 @@ use Rattle.models.specs.declared.ErrorBound.{ErrorBound}
 use Rattle.models.specs.declared.Fault.{Fault}
 use Rattle.models.proofs.Judged.{not-answered, same-answer, answered-only}
 use Rattle.models.proofs.Judged as judging
-use Rattle.stream.specs.Format.{macaque, Mode, gatherFrom, Stream, State, fresh, isRaw, usable}
+use Rattle.stream.specs.Format.{macaque, Mode, gathered, rawNext, gatherFrom, Stream, State, fresh, isRaw, bitsFor, windowFor, usable}
 use Rattle.stream.specs.Write.{keptOne, keptFrom, kept, bitsOne, encode, after, next, written, wrote, wroteIn}
 use Rattle.stream.specs.Read as reading
 use Rattle.stream.specs.Read.{Reading, done, stopped, readN, firstSet, leftover, ended, readAll, bufferAfter}
@@ -38,17 +38,20 @@ use Rattle.stream.proofs.Reopen.{ended-inv, refused-reopen, goes-on}
 use Rattle.stream.proofs.Holds.{padded-back}
 use Rattle.stream.proofs.AnyStream.{any-resumed}
 use Rattle.stream.proofs.Calls as calls
+use Rattle.stream.proofs.Promises as promises
 use Rattle.coding.specs.Keep.{keepRule}
 use Rattle.coding.proofs.Keeping.{keeps}
 use Rattle.macaque_v.specs.State.{gatherMinMax, gatherSum, Known, gatherKnown, MinMax, endsIn, sumIn, modeOf, streamIn, stateOf, writerOf, isFirst, openingValue, opened}
 use Rattle.macaque_v.specs.Write.{streamBy, ruleBy, writerAt, coderOf, coderBy, wroteBy}
 use Rattle.macaque_v.specs.Calls.{newAnswer, lentBytes, writeCauses, writeAnswer, writeMemory}
 use Rattle.macaque_v.specs.Read.{sumOf, summed, sumAnswer, reopenCauses, reopenAnswer, reopenMemory}
-use Rattle.macaque_v.specs.Made.{WordsSmall}
+use Rattle.macaque_v.specs.Made.{stateOver, keptOf, Made, WordsSmall}
 use Rattle.macaque_v.specs.Sums.{OfItsBytes, SumsAsTheCall, withSum, carried, withSums, CarriesTheSum}
 use Rattle.macaque_v.specs.declared.MacaqueV.{MacaqueV}
 use Rattle.macaque_v.specs.declared.Opening.{Opening}
-use Rattle.macaque_v.proofs.Accepting.{coder-good}
+use Rattle.macaque_v.proofs.Accepting.{coder-good, in-theory}
+use Rattle.macaque_v.proofs.Stepping.{raw-once}
+use Rattle.macaque_v.proofs.Writing.{written-count}
 use Rattle.macaque_v.proofs.Held.{ends-small, window-small, sum-fits}
 
 -- ---- a state with something else gathered is written on alike
@@ -66,6 +69,54 @@ module _ {A : Type 0} (S : Stream A) where
   unfolding after gatherFrom
   after-knowing a s [] = refl
   after-knowing a s (v ∷ vs) = after-knowing ((next S (knowing a s) v) .seen) (next S s v) vs
+
+-- ---- and so is one in another mode, behind a value
+
+-- where the mode is the same at length 0, the next value is raw in both or in neither
+raw-alike : (f g : Bool) (n : ℕ) → (n ≡ 0 → f ≡ g) → rawNext (modeOf f) n ≡ rawNext (modeOf g) n
+raw-alike f g zero h = ap (λ (b : Bool). rawNext (modeOf b) 0) (h refl)
+raw-alike f g (suc n) h = raw-once (modeOf f) n ∙ sym (raw-once (modeOf g) n)
+
+-- a kept value more, raw or not
+abbrev nextBy : State Known → ℕ → Bool → State Known
+nextBy s v raw =
+    record {
+      last = v;
+      win = windowFor macaque raw (s .win) (s .last) v;
+      place = s .place + length (bitsFor macaque raw (s .win) (s .last) v);
+      count = suc (s .count);
+      seen = gathered gatherKnown raw (s .seen) v;
+    }
+
+module _ (f g : Bool) where
+  next-alike : (s : State Known) (v : ℕ) → (s .count ≡ 0 → f ≡ g) → next (streamIn f) s v ≡ next (streamIn g) s v
+  next-alike s v h = ap (nextBy s v) (raw-alike f g (s .count) h)
+
+  kept-alike : (rule : ℕ → ℕ → ℕ) (n l : ℕ) (xs : List ℕ) → (n ≡ 0 → f ≡ g) → keptFrom rule (modeOf f) n l xs ≡ keptFrom rule (modeOf g) n l xs
+  unfolding keptFrom
+  kept-alike rule n l [] h = refl
+  kept-alike rule n l (x ∷ xs) h =
+      ap (λ (raw : Bool). keptOne rule raw l x ∷ keptFrom rule (modeOf f) (suc n) (keptOne rule raw l x) xs) (raw-alike f g n h)
+      ∙ ap (λ (ks : List ℕ). keptOne rule (rawNext (modeOf g) n) l x ∷ ks) (kept-alike rule (suc n) (keptOne rule (rawNext (modeOf g) n) l x) xs (λ z. absurd (omega (arith, z))))
+
+  after-alike : (s : State Known) (vs : List ℕ) → (s .count ≡ 0 → f ≡ g) → after (streamIn f) s vs ≡ after (streamIn g) s vs
+  unfolding after
+  after-alike s [] h = refl
+  after-alike s (v ∷ vs) h =
+      ap (λ (t : State Known). after (streamIn f) t vs) (next-alike s v h) ∙ after-alike (next (streamIn g) s v) vs (λ z. absurd (omega (arith, z)))
+
+  encode-alike : (s : State Known) (vs : List ℕ) → (s .count ≡ 0 → f ≡ g) → encode (streamIn f) s vs ≡ encode (streamIn g) s vs
+  unfolding encode
+  encode-alike s [] h = refl
+  encode-alike s (v ∷ vs) h =
+      ap (λ (raw : Bool). bitsFor macaque raw (s .win) (s .last) v ++ encode (streamIn f) (nextBy s v raw) vs) (raw-alike f g (s .count) h)
+      ∙ ap (λ (bs : List Bool). bitsOne (streamIn g) s v ++ bs) (encode-alike (next (streamIn g) s v) vs (λ z. absurd (omega (arith, z))))
+
+  wrote-alike : (rule : ℕ → ℕ → ℕ) (s : State Known) (xs : List ℕ) → (s .count ≡ 0 → f ≡ g) → wrote rule (streamIn f) s xs ≡ wrote rule (streamIn g) s xs
+  wrote-alike rule s xs h = ap (after (streamIn f) s) (kept-alike rule (s .count) (s .last) xs h) ∙ after-alike s (kept rule (streamIn g) s xs) h
+
+  written-alike : (rule : ℕ → ℕ → ℕ) (s : State Known) (xs : List ℕ) → (s .count ≡ 0 → f ≡ g) → written rule (streamIn f) s xs ≡ written rule (streamIn g) s xs
+  written-alike rule s xs h = ap (encode (streamIn f) s) (kept-alike rule (s .count) (s .last) xs h) ∙ encode-alike s (kept rule (streamIn g) s xs) h
 
 -- ---- where reading ends, the sum is that of the values
 
@@ -113,13 +164,31 @@ ends-stay : (mode : Mode) (n : ℕ) (e : MinMax) (vs : List ℕ) → e .min < 2 
 ends-stay mode n e vs low high by =
     subst (λ (z : MinMax). (z .min < 2 ^ 32) × (z .max < 2 ^ 32)) (sym (gather-folds gatherMinMax (λ a v. refl) mode n e vs)) (ends-small e vs low high by)
 
+-- ---- a writer that writes, stops and resumes have made
+
+pub a-made-writer-is-of-its-bytes : {b : ErrorBound} {o : Opening} {xs buf : List ℕ} {m : MacaqueV} → Made b o xs buf m → openingValue o < 2 ^ 32 → Below 32 xs → OfItsBytes o buf m
+a-made-writer-is-of-its-bytes {b} {o} {xs} {buf} {m} M hl bx =
+    let S : Stream Known = streamIn (isFirst o) in
+    let s : State Known = stateOver b o xs in
+    let T = calls.in-theory (coderOf b (isFirst o)) (coder-good b (isFirst o)) (openingValue o) (in-theory M) .1 in
+    let count : s .count ≡ length xs = omega (arith, count-after S (opened o) (keptOf b o xs), length-kept S (keepRule b) (opened o) xs) in
+    subst (OfItsBytes o buf) (sym (M .writer))
+    (record {
+      mode = λ z. refl;
+      values = keptOf b o xs;
+      end = s;
+      rest = _;
+      reads = ap (λ (n : ℕ). readAll S n (opened o) (bitsOf (take (wholeBytes (s .place)) buf))) count ∙ promises.reads-back (keepRule b) S (openingValue o) T macaque-good (keeps b 32) hl bx;
+      state = refl;
+    })
+
 -- ---- a fresh writer
 
 pub a-fresh-writer-is-of-its-bytes : (b : ErrorBound) (o : Opening) (buf : List ℕ) (m : MacaqueV) → newAnswer b o ≡ answered m → OfItsBytes o buf m
 unfolding newAnswer bitsOf readN ended leftover firstSet
 a-fresh-writer-is-of-its-bytes b o buf m h =
     subst (OfItsBytes o buf) (same-answer (answered-only (boundCauses b) (answered (writerOf b (isFirst o) (opened o))) m h .1))
-    (record { mode = refl; values = []; end = opened o; rest = []; reads = none; state = refl })
+    (record { mode = λ z. refl; values = []; end = opened o; rest = []; reads = none; state = refl })
   where
     none : readAll (streamIn (isFirst o)) 0 (opened o) (bitsOf (take 0 buf)) ≡ done [] (opened o) []
     none = refl
@@ -138,7 +207,7 @@ module _ (b : ErrorBound) (o : Opening) (hl : openingValue o < 2 ^ 32) (buf : Li
       let same : laidIn (cutIn buf (t .place)) (t .place) [] ≡ cutIn buf (t .place) = laidIn-nothing (cutIn buf (t .place)) (t .place) (cutIn-below buf (t .place)) in
       let count : k + 0 ≡ t .count = omega (arith, R .counted) in
       record {
-        mode = refl;
+        mode = λ z. refl;
         values = take k vs ++ [];
         end = t;
         rest = _;
@@ -265,34 +334,33 @@ module _ {o : Opening} {buf : List ℕ} {m : MacaqueV} (I : OfItsBytes o buf m) 
   abbrev known : Known
   known = gatherFrom gatherKnown (modeOf (isFirst o)) (I .end .count) (endsIn (stateOf m), sumIn (I .end)) ks
 
-  accepted : theory.writeAnswer (coderOf b (isFirst o)) (stateOf m) ys buf ≡ answeredOn n
-  unfolding writeAnswer
-  accepted = subst (λ (f : Bool). theory.writeAnswer (coderOf b f) (stateOf m) ys buf ≡ answeredOn n) (I .mode) h
+  went-on : (n ≡ writerAt m (wroteBy m ys)) × ((wroteBy m ys) .place ≤ 8 * length buf) × (writeMemory m ys buf ≡ wroteIn (ruleBy m) (streamBy m) (stateOf m) ys buf)
+  unfolding writeAnswer writeMemory
+  went-on = calls.wrote-on (coderBy m) (coder-good b (m .«with_first»)) (stateOf m) ys buf n h
 
-  went-on : (n ≡ writerOf b (isFirst o) (wrote (keepRule b) Q (stateOf m) ys)) × ((wrote (keepRule b) Q (stateOf m) ys) .place ≤ 8 * length buf)
-      × (theory.writeMemory (coderOf b (isFirst o)) (stateOf m) ys buf ≡ wroteIn (keepRule b) Q (stateOf m) ys buf)
-  went-on = calls.wrote-on (coderOf b (isFirst o)) (coder-good b (isFirst o)) (stateOf m) ys buf n accepted
+  count-is : n .length ≡ m .length + length ys
+  count-is = ap (λ (w : MacaqueV). w .length) (went-on .0) ∙ written-count m ys
 
   few : n .length ≤ mostValues
+  unfolding writeAnswer
   few =
-      let a = calls.accepted (coderOf b (isFirst o)) (coder-good b (isFirst o)) (stateOf m) ys (lentBytes (length buf)) (judging.accepted-only _ _ _ n accepted .0) in
-      omega (arith, a .1, ap (λ (w : MacaqueV). w .length) (went-on .0), count-after Q (stateOf m) (kept (keepRule b) Q (stateOf m) ys), length-kept Q (keepRule b) (stateOf m) ys)
+      let a = calls.accepted (coderBy m) (coder-good b (m .«with_first»)) (stateOf m) ys (lentBytes (length buf)) (judging.accepted-only _ _ _ n h .0) in
+      omega (arith, a .1, count-is)
 
   -- the writer's state after it is that one, but for what it has gathered
   state-is : wrote (keepRule b) Q (stateOf m) ys ≡ knowing Q known end′
   state-is = ap (λ (s : State Known). wrote (keepRule b) Q s ys) (I .state) ∙ after-knowing Q (endsIn (stateOf m), sumIn (I .end)) (I .end) ks
 
   bytes-are : writeMemory m ys buf ≡ wroteIn (keepRule b) Q (I .end) ys buf
-  unfolding writeMemory
   bytes-are =
-      ap (λ (f : Bool). theory.writeMemory (coderOf b f) (stateOf m) ys buf) (I .mode) ∙ went-on .2
+      went-on .2 ∙ ap (laidIn buf (m .place)) (written-alike (m .«with_first») (isFirst o) (keepRule b) (stateOf m) ys (I .mode))
       ∙ ap (λ (s : State Known). wroteIn (keepRule b) Q s ys buf) (I .state) ∙ ap (laidIn buf (I .end .place)) (encode-knowing Q (endsIn (stateOf m), sumIn (I .end)) (I .end) ks)
 
   now-is : stateOf n ≡ knowing Q known end′
-  now-is = ap stateOf (went-on .0) ∙ state-is
+  now-is = ap stateOf (went-on .0) ∙ wrote-alike (m .«with_first») (isFirst o) (keepRule b) (stateOf m) ys (I .mode) ∙ state-is
 
   room : end′ .place ≤ 8 * length buf
-  room = omega (arith, went-on .1, ap (λ (s : State Known). s .place) state-is)
+  room = omega (arith, went-on .1, ap (λ (s : State Known). s .place) (wrote-alike (m .«with_first») (isFirst o) (keepRule b) (stateOf m) ys (I .mode) ∙ state-is))
 
   read : (rest : List Bool) × (readAll Q (m .length + length ys) (opened o) (bitsOf (take (wholeBytes (end′ .place)) (wroteIn (keepRule b) Q (I .end) ys buf))) ≡ done (I .values ++ ks) end′ rest)
   read =
@@ -302,16 +370,14 @@ module _ {o : Opening} {buf : List ℕ} {m : MacaqueV} (I : OfItsBytes o buf m) 
 
   pub a-write-stays-of-its-bytes : OfItsBytes o (writeMemory m ys buf) n × (n .length ≤ mostValues)
   a-write-stays-of-its-bytes =
-      let place : n .place ≡ end′ .place = ap (λ (s : State Known). s .place) now-is in
-      let count : n .length ≡ m .length + length ys =
-      ap (λ (w : MacaqueV). w .length) (went-on .0) ∙ count-after Q (stateOf m) (kept (keepRule b) Q (stateOf m) ys) ∙ ap (λ (j : ℕ). m .length + j) (length-kept Q (keepRule b) (stateOf m) ys) in (
+      let place : n .place ≡ end′ .place = ap (λ (s : State Known). s .place) now-is in (
         record {
-          mode = ap (λ (w : MacaqueV). w .«with_first») (went-on .0);
+          mode = λ z. ap (λ (w : MacaqueV). w .«with_first») (went-on .0) ∙ I .mode (omega (arith, z, count-is));
           values = I .values ++ ks;
           end = end′;
           rest = read .0;
           reads =
-              ap₂ (λ (j p : ℕ). readAll Q j (opened o) (bitsOf (take (wholeBytes p) (writeMemory m ys buf)))) count place
+              ap₂ (λ (j p : ℕ). readAll Q j (opened o) (bitsOf (take (wholeBytes p) (writeMemory m ys buf)))) count-is place
               ∙ ap (λ (z : List ℕ). readAll Q (m .length + length ys) (opened o) (bitsOf (take (wholeBytes (end′ .place)) z))) bytes-are
               ∙ read .1;
           state = now-is ∙ ap₂ (λ (e : MinMax) (x : Float). knowing Q (e, x) end′) (ap endsIn (sym now-is)) (same-sum (isFirst o) (I .end) (endsIn (stateOf m)) ks);
@@ -362,6 +428,21 @@ module _ (m : MacaqueV) (s : Float) (xs : List ℕ) where
 
   pub written-with-sum : written (ruleBy m) (streamBy m) (stateOf (withSum s m)) xs ≡ written (ruleBy m) (streamBy m) (stateOf m) xs
   written-with-sum = encode-knowing (streamBy m) (endsIn (stateOf m), s) (stateOf m) ms
+
+  -- before a raw first value it does not matter which sum it is
+  pub a-first-value-sets-the-sum : m .«with_first» ≡ true → m .length ≡ 0 → (t : Float) → 0 < length xs → carried m s xs ≡ carried m t xs
+  unfolding keptFrom gatherFrom
+  a-first-value-sets-the-sum is none t some = go xs some
+    where
+      go : (xs : List ℕ) → 0 < length xs → carried m s xs ≡ carried m t xs
+      go [] z = absurd (omega (arith, z))
+      go (x ∷ xs) z =
+          let mode : Mode = modeOf (m .«with_first») in
+          let raw : rawNext mode (m .length) ≡ true = ap₂ (λ (f : Bool) (n : ℕ). rawNext (modeOf f) n) is none in
+          let v : ℕ = keptOne (ruleBy m) (rawNext mode (m .length)) (m .«last_value») x in
+          let vs : List ℕ = keptFrom (ruleBy m) mode (suc (m .length)) v xs in
+          ap (λ (b : Bool). gatherFrom gatherSum mode (suc (m .length)) (gathered gatherSum b s v) vs) raw
+          ∙ sym (ap (λ (b : Bool). gatherFrom gatherSum mode (suc (m .length)) (gathered gatherSum b t v) vs) raw)
 
   pub the-sum-is-carried : (buf : List ℕ) → CarriesTheSum m s xs buf
   unfolding writeAnswer writeMemory

@@ -21,9 +21,9 @@ use Rattle.macaque_v.specs.declared.Opening.{Opening}
 -- ---- "a state whose last value, window, place, length and sum are those of its bytes"
 
 -- The bytes in use, read with the writer's length as their count, are accepted; and where reading ends, the last value, the window, the place, the length and
--- the sum are the writer's. Its least and its greatest value may be any.
+-- the sum are the writer's. Its least and its greatest value may be any, and behind a value its mode, which is looked at only at length 0.
 pub record OfItsBytes (o : Opening) (buf : List ℕ) (m : MacaqueV) : Type 0 where
-  pub mode : m .«with_first» ≡ isFirst o
+  pub mode : m .length ≡ 0 → m .«with_first» ≡ isFirst o
   pub values : List ℕ
   pub end : State Known
   pub rest : List Bool

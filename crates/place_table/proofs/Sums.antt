@@ -28,12 +28,14 @@ use Rattle.place_table.specs.Calls.{tableWriteCauses, tableWriteAnswer, 
 use Rattle.place_table.specs.Sums.{withSumsBeside, CarriesTheSumBeside}
 use Rattle.place_table.proofs.Promises.{a-write-with-a-table-is-the-plain-one, reopening-with-a-table-is-the-plain-one}
 
--- "Each reopening .. keeps it equal to what the sum call would answer on the used bytes"
+-- "Each reopening .. keeps it equal to what the sum call would answer on the used bytes"; and the writer is one of its bytes
 pub a-reopened-sum : (b : ErrorBound) (o : Opening) → openingValue o < 2 ^ 32 → (buf : List ℕ) (used n k words in-use : ℕ) (r : Beside MacaqueV)
-    → tableReopenAnswer buf used n k o b words in-use ≡ answered r → SumsAsTheCall o (tableReopenMemory buf used n k o b words in-use) (r .writer)
+    → tableReopenAnswer buf used n k o b words in-use ≡ answered r
+    → OfItsBytes o (tableReopenMemory buf used n k o b words in-use) (r .writer) × SumsAsTheCall o (tableReopenMemory buf used n k o b words in-use) (r .writer)
 a-reopened-sum b o hl buf used n k words in-use r h =
     let w = reopening-with-a-table-is-the-plain-one b o buf used n k words in-use hl r h in
-    subst (λ (z : List ℕ). SumsAsTheCall o z (r .writer)) (sym (w .bytes)) (plain.a-reopened-sum b o hl buf used n k (r .writer) (w .plain))
+    subst (λ (z : List ℕ). OfItsBytes o z (r .writer) × SumsAsTheCall o z (r .writer)) (sym (w .bytes))
+    ((plain.a-reopened-writer-is-of-its-bytes b o hl buf used n k (r .writer) (w .plain)) .own, plain.a-reopened-sum b o hl buf used n k (r .writer) (w .plain))
 
 -- "each write on a state whose last value, window, place, length and sum are those of its bytes" does; and the writer stays one of its bytes
 pub a-sum-goes-on : {o : Opening} {buf : List ℕ} {m : MacaqueV} → OfItsBytes o buf m → openingValue o < 2 ^ 32 → Below 8 buf → (ys : List ℕ) → Below 32 ys → (words : List ℕ) (in-use : ℕ)

@@ -68,11 +68,12 @@ returns-2 c =
 
 returns-3 : tie.Need-returns-3
 returns-3 c =
-    let a = c .before .before .before .before .before .before .before .before .before .before .args in
+    let s = c .before .before .before .before .before .before .before .before .before .before in
+    let a = s .args in
     let at = c .before .before .before .before .at .given .0 .0 in
     let W = walked (c .before .before .before .before) in
     let says = subst (WholeSays (isFirst (a .opening)) (a .bytes .now) at (a .count - a .k) aside) (c .enum-told .given .1) (checked (c .before .before)) in (
-      right-reopened (a .bytes .now) (a .opening) (a .count) (a .k) (omega arith) (W .reads) (says .0 .reads) (says .1)
+      right-reopened (a .bytes .now) (a .opening) (a .count) (a .k) (s .pre .0) (W .reads) (says .0 .reads) (says .1)
           ∙ ap (λ (t : Tally). reopened (stateWith at (knownIn t))) (sym (W .tally)),
       W .reads .readable .within,
     )
