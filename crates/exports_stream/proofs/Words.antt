@@ -131,30 +131,40 @@ writerWith b f s n =
       sum = s;
     }
 
+-- the tests of 32 bits that a writer's words pass
+record Passes (m : MacaqueV) : Type 0 where
+  pub least : small (m .«min_value») ≡ true
+  pub greatest : small (m .«max_value») ≡ true
+  pub last : small (m .«last_value») ≡ true
+  pub leading : small (m .«last_leading_zero_bits») ≡ true
+  pub trailing : small (m .«last_trailing_zero_bits») ≡ true
+
+passes : (m : MacaqueV) → WordsSmall m → Passes m
+passes m s =
+    record {
+      least = lt-ltb (m .«min_value») (2 ^ 32) (s .least);
+      greatest = lt-ltb (m .«max_value») (2 ^ 32) (s .greatest);
+      last = lt-ltb (m .«last_value») (2 ^ 32) (s .last);
+      leading = lt-ltb (m .«last_leading_zero_bits») (2 ^ 32) (s .leading);
+      trailing = lt-ltb (m .«last_trailing_zero_bits») (2 ^ 32) (s .trailing);
+    }
+
 -- ---- a row is read back as the writer that it was made of
 
 pub row-back : (m : MacaqueV) (rest : List ℕ) → BoundHeld (m .«error_bound») → WordsSmall m → writerIn (writerRow m ++ rest) ≡ m
 unfolding writerRow writerIn standsForState
 row-back m rest f s =
     let few = le-leb writerLength (length (writerRow m ++ rest)) (omega arith) in
-    let least = lt-ltb (m .«min_value») (2 ^ 32) (s .least) in
-    let greatest = lt-ltb (m .«max_value») (2 ^ 32) (s .greatest) in
-    let last = lt-ltb (m .«last_value») (2 ^ 32) (s .last) in
-    let leading = lt-ltb (m .«last_leading_zero_bits») (2 ^ 32) (s .leading) in
-    let trailing = lt-ltb (m .«last_trailing_zero_bits») (2 ^ 32) (s .trailing) in
-    rw (few, least, greatest, last, leading, trailing, flag-small (m .«with_first»), flag-back (m .«with_first»), is-small (m .sum) (s .total), ofBits-toBits binary32 (m .sum) (s .total), bound-front (boundKind (m .«error_bound»)) (boundBits (m .«error_bound»)) _, bound-back (m .«error_bound») f)
+    let t = passes m s in
+    rw (few, t .least, t .greatest, t .last, t .leading, t .trailing, flag-small (m .«with_first»), flag-back (m .«with_first»), is-small (m .sum) (s .total), ofBits-toBits binary32 (m .sum) (s .total), bound-front (boundKind (m .«error_bound»)) (boundBits (m .«error_bound»)) _, bound-back (m .«error_bound») f)
 
 -- such a row stands for a state
 pub row-stands : (m : MacaqueV) (rest : List ℕ) → WordsSmall m → standsForState (writerRow m ++ rest) ≡ true
 unfolding writerRow standsForState
 row-stands m rest s =
     let few = le-leb writerLength (length (writerRow m ++ rest)) (omega arith) in
-    let least = lt-ltb (m .«min_value») (2 ^ 32) (s .least) in
-    let greatest = lt-ltb (m .«max_value») (2 ^ 32) (s .greatest) in
-    let last = lt-ltb (m .«last_value») (2 ^ 32) (s .last) in
-    let leading = lt-ltb (m .«last_leading_zero_bits») (2 ^ 32) (s .leading) in
-    let trailing = lt-ltb (m .«last_trailing_zero_bits») (2 ^ 32) (s .trailing) in
-    rw (few, least, greatest, last, leading, trailing, flag-small (m .«with_first»), is-small (m .sum) (s .total)) refl
+    let t = passes m s in
+    rw (few, t .least, t .greatest, t .last, t .leading, t .trailing, flag-small (m .«with_first»), is-small (m .sum) (s .total)) refl
 
 -- and so is a row that a write left of any row that stands for a state: its words of the bound and of the mode are those of the writer
 pub written-back : (row : List ℕ) (n : MacaqueV) (rest : List ℕ) → standsForState row ≡ true → n .«error_bound» ≡ boundFront row → n .«with_first» ≡ eqb (getD row 7 0) 1
@@ -163,12 +173,8 @@ unfolding writtenRow writerIn standsForState boundFront
 written-back row n rest h bound mode s few-bits sum =
     let few = le-leb writerLength (length (writtenRow row n ++ rest)) (omega arith) in
     let words = has-words row h in
-    let least = lt-ltb (n .«min_value») (2 ^ 32) (s .least) in
-    let greatest = lt-ltb (n .«max_value») (2 ^ 32) (s .greatest) in
-    let last = lt-ltb (n .«last_value») (2 ^ 32) (s .last) in
-    let leading = lt-ltb (n .«last_leading_zero_bits») (2 ^ 32) (s .leading) in
-    let trailing = lt-ltb (n .«last_trailing_zero_bits») (2 ^ 32) (s .trailing) in
-    rw (few, least, greatest, last, leading, trailing, flag-of row h, few-bits)
+    let t = passes n s in
+    rw (few, t .least, t .greatest, t .last, t .leading, t .trailing, flag-of row h, few-bits)
     (ap₂ (λ (b : ErrorBound) (f : Bool). writerWith b f (ofBits binary32 (sumAfter row n)) n)
     (sym (bound ∙ rw (le-ltb (length row) 2 (omega (arith, words))) (sym (bound-front (getD row 0 0) (getD row 1 0) (drop 2 (writtenRow row n ++ rest)))))) (sym mode)
     ∙ ap (λ (x : Float). writerWith (n .«error_bound») (n .«with_first») x n) sum)
@@ -178,12 +184,8 @@ pub written-stands : (row : List ℕ) (n : MacaqueV) (rest : List ℕ) → stand
 unfolding writtenRow standsForState
 written-stands row n rest h s few-bits =
     let few = le-leb writerLength (length (writtenRow row n ++ rest)) (omega arith) in
-    let least = lt-ltb (n .«min_value») (2 ^ 32) (s .least) in
-    let greatest = lt-ltb (n .«max_value») (2 ^ 32) (s .greatest) in
-    let last = lt-ltb (n .«last_value») (2 ^ 32) (s .last) in
-    let leading = lt-ltb (n .«last_leading_zero_bits») (2 ^ 32) (s .leading) in
-    let trailing = lt-ltb (n .«last_trailing_zero_bits») (2 ^ 32) (s .trailing) in
-    rw (few, least, greatest, last, leading, trailing, flag-of row h, few-bits) refl
+    let t = passes n s in
+    rw (few, t .least, t .greatest, t .last, t .leading, t .trailing, flag-of row h, few-bits) refl
 
 -- the words of the state that a row stands for are the row's own
 
