@@ -1,21 +1,10 @@
--- `models::within` meets its contract: near, or equal-or-NaN. Assumes nothing.
+-- `models::within` meets its contract: widening changes no value. Assumes nothing.
 use borrow.Author.Needs.{needs}
-use mathlib.Core.Path.{sym, _∙_}
-use Rattle.models.specs.Floats.{equalOrNan}
-use Rattle.models.specs.Bound.{withinIn}
-use Rattle.models.proofs.Tests.{or-right, or-false}
 use Rattle.models.proofs.within.Statement.{statement}
 use Rattle.models.proofs.within.Tie as tie
 
 returns : tie.Need-returns
-unfolding withinIn
-returns c =
-    let s = c .before .before .args in
-    sym (or-right (equalOrNan (s .real) (s .approximate)) _ (sym (c .before .is-near .ensures) ∙ c .if1 .taken))
-
-returns-2 : tie.Need-returns-2
-unfolding withinIn
-returns-2 c = c .equal-or-nan-f32 .ensures ∙ sym (or-false _ _ (sym (c .before .before .is-near .ensures) ∙ c .before .if1 .left))
+returns c = rw (c .within-wide .ensures, c .before .before .widen .ensures, c .before .widen2 .ensures)
 
 pub within-spec : {M : Type 1} → statement M
-within-spec = tie.close (tie.spec (λ c κs. search needs) returns (λ c κs. search needs) returns-2)
+within-spec = tie.close (tie.spec (λ c κs. search needs) (λ c κs. search needs) (λ c κs. search needs) returns)
