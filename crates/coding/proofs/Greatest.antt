@@ -1,6 +1,6 @@
 -- "clear the s lowest bits with the greatest s from 0 to 23 that stays within": what is kept is so. Assumes nothing.
 use mathlib.Core.Path.{_≡_, refl, sym, ap, _∙_}
-use mathlib.Core.Bool.{Bool, true, false, not, _&&_, _||_}
+use mathlib.Core.Bool.{Bool, true, false, cond, not, _&&_, _||_}
 use Prim.Native.Nat.{ℕ, zero, suc, _≤_, _<_}
 use native.Mathlib.Omega.{arith}
 use borrow.Author.Tests.{leb-true, leb-false}
@@ -11,7 +11,7 @@ use Rattle.models.specs.Floats.{equalOrNan}
 use Rattle.models.specs.Bound.{withinIn}
 use Rattle.models.specs.declared.ErrorBound.{ErrorBound}
 use Rattle.models.proofs.Laws.{ne-self}
-use Rattle.coding.specs.Keep.{mayReplace, cleared, shortened, Greatest}
+use Rattle.coding.specs.Keep.{mayReplace, cleared, shortened, Greatest, mostCleared, isLossless, keepRule}
 
 -- equal-or-NaN always is within, and a value is that to itself
 self-equal : (x : Float) → equalOrNan x x ≡ true
@@ -50,3 +50,13 @@ clears-the-most b x (suc most) = by-test (mayReplace b x (cleared (suc most) x))
     by-test true e G = (suc most, rw e, record { atMost = omega arith; stays = e; noneAbove = λ t h k. absurd (omega arith) })
     by-test false e G =
         (G .0, rw e (G .1), record { atMost = omega (arith, G .2 .atMost); stays = G .2 .stays; noneAbove = above (G .0) (G .2) e })
+
+-- ---- so what is kept may stand for its input, whatever the last kept value
+pub kept-may-replace : (b : ErrorBound) (l x : ℕ) → mayReplace b x (keepRule b l x) ≡ true
+unfolding keepRule
+kept-may-replace b l x = go (isLossless b) (mayReplace b x l) refl
+  where
+    go : (s t : Bool) → mayReplace b x l ≡ t → mayReplace b x (cond s x (cond t l (shortened b mostCleared x))) ≡ true
+    go true t e = may-replace-itself b x
+    go false true e = e
+    go false false e = let G = clears-the-most b x mostCleared in ap (mayReplace b x) (G .1) ∙ G .2 .stays

@@ -5,5 +5,6 @@ pub mod Tabled
 pub mod Numbers
 pub mod Promises
 pub mod Sums
+pub mod Kept
 pub mod Broken
 pub mod Causes

@@ -194,11 +194,11 @@ module _ (mode value : ℕ) (mode-is : mode ≤ 1) (hl : openingValue (openingOf
   row-is : writeRow row ys buf ≡ writtenRow row n ++ drop (length (writtenRow row n)) row
   row-is = ap (stepRow (writtenRow row) row) accepted
 
-  stands-on : standsForState (writeRow row ys buf) ≡ true
-  stands-on = ap standsForState row-is ∙ written-stands row n (drop (length (writtenRow row n)) row) (R .stands) held (sum-read-back row (R .stands) ys held .0)
+  pub a-written-row-stands : standsForState (writeRow row ys buf) ≡ true
+  a-written-row-stands = ap standsForState row-is ∙ written-stands row n (drop (length (writtenRow row n)) row) (R .stands) held (sum-read-back row (R .stands) ys held .0)
 
-  back : writerIn (writeRow row ys buf) ≡ n
-  back =
+  pub row-after-a-write : writerIn (writeRow row ys buf) ≡ n
+  row-after-a-write =
       let is : readWriter (boundFront row) row ≡ m = a-state row (R .stands) in
       let sum = sum-read-back row (R .stands) ys held in
       ap writerIn row-is
@@ -208,14 +208,14 @@ module _ (mode value : ℕ) (mode-is : mode ≤ 1) (hl : openingValue (openingOf
   pub a-row-stays-of-its-bytes : RowOfItsBytes mode value (writeBuffer row ys buf) (writeRow row ys buf) × (lengthWord (writeRow row ys buf) ≤ mostValues)
   a-row-stays-of-its-bytes =
       let W = a-write-stays-of-its-bytes (R .writer) hl small-bytes ys by n accepted in (
-        record { stands = stands-on; writer = subst (OfItsBytes (openingOf mode value) (writeBuffer row ys buf)) (sym back) (W .0) },
-        subst (λ (j : ℕ). j ≤ mostValues) (sym (ap (λ (w : MacaqueV). w .length) (a-state (writeRow row ys buf) stands-on ∙ back))) (W .1),
+        record { stands = a-written-row-stands; writer = subst (OfItsBytes (openingOf mode value) (writeBuffer row ys buf)) (sym row-after-a-write) (W .0) },
+        subst (λ (j : ℕ). j ≤ mostValues) (sym (ap (λ (w : MacaqueV). w .length) (a-state (writeRow row ys buf) a-written-row-stands ∙ row-after-a-write))) (W .1),
       )
 
   -- and its sum's word is as a call leaves it, where it was, or where a value came
   pub a-sum-stays-plain : PlainSum row ⊎ (0 < length ys) → PlainSum (writeRow row ys buf)
   unfolding writtenRow
-  a-sum-stays-plain h = ap sumWord row-is ∙ by-cases ys h ∙ ap (λ (w : MacaqueV). toBits binary32 (w .sum)) (sym back)
+  a-sum-stays-plain h = ap sumWord row-is ∙ by-cases ys h ∙ ap (λ (w : MacaqueV). toBits binary32 (w .sum)) (sym row-after-a-write)
     where
       by-cases : (ys : List ℕ) → PlainSum row ⊎ (0 < length ys) → sumAfter row (writerAt (writerIn row) (wroteBy (writerIn row) ys)) ≡ toBits binary32 ((writerAt (writerIn row) (wroteBy (writerIn row) ys)) .sum)
       by-cases ys (inl plain) = sum-after-is row (R .stands) plain ys

@@ -2,13 +2,14 @@
 use mathlib.Core.Path.{_≡_}
 use mathlib.Core.Bool.{true, cond, not}
 use mathlib.Core.List.{List, [], _∷_, _++_}
-use Prim.Native.Nat.{ℕ, _<_}
+use Prim.Native.Nat.{ℕ, _≤_, _<_}
 use lib.Dec.{eqb, leb, ltb}
-use lib.ListN.{length, take, drop}
+use lib.ListN.{length, take, drop, getD}
 use lib.Ieee.{binary32, ofBits, toBits}
 use Rattle.models.specs.Answers.{Said, Cause, _when_, judge, judgedMemory, itself, noFault}
 use Rattle.models.specs.declared.Fault.{Fault}
 use Rattle.models.specs.Bound.{boundAllowed}
+use Rattle.models.specs.Calls.{withinAnswer}
 use Rattle.models.specs.declared.ErrorBound.{ErrorBound}
 use Rattle.macaque_v.specs.Calls.{newAnswer, writeAnswer, writeMemory}
 use Rattle.macaque_v.specs.Read.{gridAnswer, gridMemory, sumAnswer, reopenCauses, reopenAnswer, reopenMemory}
@@ -17,7 +18,7 @@ use Rattle.macaque_v.specs.Sums.{OfItsBytes, carried}
 use Rattle.macaque_v.specs.declared.MacaqueV.{MacaqueV}
 use Rattle.macaque_v.specs.declared.Opening.{Opening}
 use Rattle.macaque_v.specs.declared.Opening.the-variants.{First, On}
-use Rattle.exports.specs.Face.{boundOf, faultSaid, rowIn, rowAfter, stepFault, stepRow, plainFault, oneWord}
+use Rattle.exports.specs.Face.{boundOf, faultSaid, rowIn, rowAfter, stepFault, stepRow, plainFault, oneWord, wordOfTruth}
 use Rattle.exports.specs.Words.{noCount}
 use Rattle.exports_stream.specs.Row.{writerLength, writerRow, sumWord, writtenRow, standsForState, writerIn, bytesInUse, lengthWord}
 
@@ -168,3 +169,19 @@ pub record RowCarriesTheSum (w : TenWords) (s t : ℕ) (rest xs buf : List ℕ) 
       → sumWord (writeRow (rowOf w t rest) xs buf) ≡ toBits binary32 (carried (writerIn (rowOf w s rest)) (ofBits binary32 t) xs)
   pub empty : xs ≡ [] → sumWord (writeRow (rowOf w t rest) xs buf) ≡ t
   pub refused : (writeFault (rowOf w s rest) xs buf ≡ noFault → ⊥) → sumWord (writeRow (rowOf w t rest) xs buf) ≡ t
+
+-- ---- what is kept, of rows
+
+-- what the within call of the C face answers, and leaves in `out`, of a bound's two words and two values
+abbrev pub withinFault : ℕ → ℕ → ℕ → ℕ → List ℕ → Fault
+withinFault kind bound real approximate out = faultSaid 1 (length out) (withinAnswer (boundOf kind bound) real approximate)
+
+abbrev pub withinOut : ℕ → ℕ → ℕ → ℕ → List ℕ → List ℕ
+withinOut kind bound real approximate out = rowAfter 1 wordOfTruth out (withinAnswer (boundOf kind bound) real approximate)
+
+-- value by value, vs may stand for xs: the within call, with the two words of the bound that stand in the row, answers 1
+pub record RowKeptWithin (row xs vs : List ℕ) : Type 0 where
+  pub asMany : length vs ≡ length xs
+  pub passes : (i : ℕ) → i < length xs → (out : List ℕ) → 1 ≤ length out
+      → (withinFault (getD row 0 0) (getD row 1 0) (getD xs i 0) (getD vs i 0) out ≡ noFault)
+      × (withinOut (getD row 0 0) (getD row 1 0) (getD xs i 0) (getD vs i 0) out ≡ 1 ∷ drop 1 out)

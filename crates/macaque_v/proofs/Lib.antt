@@ -2,6 +2,7 @@
 pub mod Promises
 pub mod Held
 pub mod Sums
+pub mod Kept
 pub mod Extremes
 pub mod Adding
 pub mod Stepping

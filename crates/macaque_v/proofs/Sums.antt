@@ -44,7 +44,7 @@ use Rattle.coding.proofs.Keeping.{keeps}
 use Rattle.macaque_v.specs.State.{gatherMinMax, gatherSum, Known, gatherKnown, MinMax, endsIn, sumIn, modeOf, streamIn, stateOf, writerOf, isFirst, openingValue, opened}
 use Rattle.macaque_v.specs.Write.{streamBy, ruleBy, writerAt, coderOf, coderBy, wroteBy}
 use Rattle.macaque_v.specs.Calls.{newAnswer, lentBytes, writeCauses, writeAnswer, writeMemory}
-use Rattle.macaque_v.specs.Read.{sumOf, summed, sumAnswer, reopenCauses, reopenAnswer, reopenMemory}
+use Rattle.macaque_v.specs.Read.{valuesIn, sumOf, summed, sumAnswer, reopenCauses, reopenAnswer, reopenMemory}
 use Rattle.macaque_v.specs.Made.{stateOver, keptOf, Made, WordsSmall}
 use Rattle.macaque_v.specs.Sums.{OfItsBytes, SumsAsTheCall, withSum, carried, withSums, CarriesTheSum}
 use Rattle.macaque_v.specs.declared.MacaqueV.{MacaqueV}
@@ -118,6 +118,16 @@ module _ (f g : Bool) where
   written-alike : (rule : ℕ → ℕ → ℕ) (s : State Known) (xs : List ℕ) → (s .count ≡ 0 → f ≡ g) → written rule (streamIn f) s xs ≡ written rule (streamIn g) s xs
   written-alike rule s xs h = ap (encode (streamIn f) s) (kept-alike rule (s .count) (s .last) xs h) ∙ encode-alike s (kept rule (streamIn g) s xs) h
 
+-- ---- the values of a writer's own bytes
+
+pub whole-of-its-bytes : {o : Opening} {buf : List ℕ} {m : MacaqueV} (I : OfItsBytes o buf m) → openingValue o < 2 ^ 32
+    → Whole (streamIn (isFirst o)) (m .length) (opened o) (bitsOf (take (wholeBytes (m .place)) buf)) (I .values) (I .end) (I .rest)
+whole-of-its-bytes {o} {buf} {m} I hl =
+    let S : Stream Known = streamIn (isFirst o) in
+    let bits : List Bool = bitsOf (take (wholeBytes (m .place)) buf) in
+    subst (WholeOf S (m .length) (opened o) bits) (ended-inv (readN S (m .length) (opened o) bits) (I .values) (I .end) (I .rest) (I .reads))
+    (whole S macaque-good (m .length) (opened o) bits (fresh-small S 32 (openingValue o) hl))
+
 -- ---- where reading ends, the sum is that of the values
 
 sum-read : (first : Bool) (l n : ℕ) (bits : List Bool) (vs : List ℕ) (t : State Known) (r : List Bool) → readAll (streamIn first) n (fresh (streamIn first) l) bits ≡ done vs t r
@@ -144,7 +154,7 @@ held-of-its-bytes {o} {buf} {m} I hl low high =
     let bits : List Bool = bitsOf (take (wholeBytes (m .place)) buf) in
     let h : (opened o) .last < 2 ^ 32 = fresh-small S 32 (openingValue o) hl in
     let is = ended-inv (readN S (m .length) (opened o) bits) (I .values) (I .end) (I .rest) (I .reads) in
-    let W : Whole S (m .length) (opened o) bits (I .values) (I .end) (I .rest) = subst (WholeOf S (m .length) (opened o) bits) is (whole S macaque-good (m .length) (opened o) bits h) in
+    let W = whole-of-its-bytes I hl in
     let w = window-small (I .end .win) (subst (RuledIn macaque) is (read-ruled S macaque-good (m .length) (opened o) bits h (fresh-ruled S (openingValue o))) .window) in
     let seen : I .end .seen ≡ gatherFrom gatherKnown (modeOf (isFirst o)) 0 (gatherKnown .none) (I .values) = subst (SeenIn S (opened o)) is (seen-read S (m .length) (opened o) bits) in
     let sum : m .sum ≡ gatherFrom gatherSum (modeOf (isFirst o)) 0 (gatherSum .none) (I .values) =
@@ -385,13 +395,17 @@ module _ {o : Opening} {buf : List ℕ} {m : MacaqueV} (I : OfItsBytes o buf m) 
         few,
       )
 
+  -- the bytes in use are read as the values before and what was kept of ys
+  pub a-write-reads-on : valuesIn (take (wholeBytes (n .place)) (writeMemory m ys buf)) (n .length) o ≡ answered (I .values ++ ks)
+  a-write-reads-on =
+      ap₂ (λ (j p : ℕ). valuesIn (take (wholeBytes p) (writeMemory m ys buf)) j o) count-is (ap (λ (s : State Known). s .place) now-is)
+      ∙ ap (λ (z : List ℕ). valuesIn (take (wholeBytes (end′ .place)) z) (m .length + length ys) o) bytes-are
+      ∙ ap valuesRead (read .1)
+
   -- and its words are as a program holds them, where those of m were
   pub a-written-writer-is-held : WordsSmall m → WordsSmall n
   a-written-writer-is-held s =
-      let bits : List Bool = bitsOf (take (wholeBytes (m .place)) buf) in
-      let ended : readN Q (m .length) (opened o) bits ≡ done (I .values) (I .end) (I .rest) = ended-inv (readN Q (m .length) (opened o) bits) (I .values) (I .end) (I .rest) (I .reads) in
-      let W : Whole Q (m .length) (opened o) bits (I .values) (I .end) (I .rest) =
-      subst (WholeOf Q (m .length) (opened o) bits) ended (whole Q macaque-good (m .length) (opened o) bits (fresh-small Q 32 (openingValue o) hl)) in
+      let W = whole-of-its-bytes I hl in
       let below : Below 32 ks = kept-below Q 32 (keepRule b) (keeps b 32) (I .end) ys (W .small) by in
       let e = ends-stay (modeOf (isFirst o)) (I .end .count) (endsIn (stateOf m)) ks (s .least) (s .greatest) below in
       let ends : endsIn (stateOf n) ≡ gatherFrom gatherMinMax (modeOf (isFirst o)) (I .end .count) (endsIn (stateOf m)) ks =

@@ -6,4 +6,5 @@ pub mod Made
 pub mod ReadRun
 pub mod Read
 pub mod Sums
+pub mod Kept
 pub mod inner

@@ -1,14 +1,14 @@
 -- A segment that was written reads back. `writeAnswer`, `valuesAfter` and `residualsAfter` are what the contract of `segments::write` says that it answers
 -- and leaves in its two outputs. Assumes nothing.
 use mathlib.Core.Path.{_≡_, refl, sym, ap, ap₂, _∙_, subst}
-use mathlib.Core.List.{List, _++_}
+use mathlib.Core.List.{List, _++_, append-assoc}
 use Prim.Native.Nat.{ℕ, zero, suc, _-_, _^_, _<_, _≤_}
 use native.Mathlib.Omega.{arith}
-use borrow.Author.Tests.{ltb-false}
+use borrow.Author.Tests.{ltb-false, not-false}
 use lib.Dec.{ltb}
 use lib.IntN.{ℤ}
 use lib.ListN.{length, take, drop}
-use lib.Seq.{take-at}
+use lib.Seq.{take-at, drop-at, length-take-le}
 use Rattle.bits.specs.Bits.{Below}
 use Rattle.models.specs.Answers.{answered, judgedMemory, verdict, keeping, NoneHolds}
 use Rattle.models.specs.Floats.{plainBits}
@@ -18,6 +18,8 @@ use Rattle.models.proofs.Tests.{neither}
 use Rattle.models.proofs.Judged as judging
 use Rattle.macaque_v.specs.declared.Opening.the-variants.{On}
 use Rattle.macaque_v.specs.Made.{keptOf}
+use Rattle.macaque_v.specs.Kept.{KeptWithin}
+use Rattle.macaque_v.proofs.Kept.{all-pass}
 use Rattle.parameters.specs.Forms.{Ends}
 use Rattle.parameters.proofs.ReadBack.{plain-small, pmc-mean-reads-back, swing-reads-back}
 use Rattle.segments.specs.Segment.{mostResiduals, lastGiven, lastOf, formOf, countedBytes}
@@ -26,6 +28,7 @@ use Rattle.segments.specs.declared.Segment.{Segment}
 use Rattle.segment_grid.specs.Segment.{bothEnds, endsIn, modelValues, HoldsResiduals}
 use Rattle.segment_grid.specs.Calls.{gridCauses, gridAnswer, gridMemory}
 use Rattle.segment_grid.proofs.Promises as reading
+use Rattle.segment_grid.proofs.Owned.{length-model}
 
 module _ (model first last : ℕ) (b : ErrorBound) (xs valuesOut residualsOut : List ℕ) (s : Segment)
     (h : writeAnswer model first last b xs valuesOut residualsOut ≡ answered s) where
@@ -102,3 +105,20 @@ module _ (model first last : ℕ) (b : ErrorBound) (xs valuesOut residualsOut : 
       (subst (HoldsResiduals b (lastOf model first last) xs) (sym residuals-stored) stored-residuals) small small-last
       (endsIn model (s .«min_value») (s .«max_value») (take (s .«values_length») (valuesAfter model first last b xs valuesOut residualsOut)))
       (ap (endsIn model (s .«min_value») (s .«max_value»)) values-stored ∙ parameters-read-back) free
+
+  -- and each of these residuals passes the within test against its input
+  pub residuals-kept-within : Below 32 xs → (ts : List ℤ) (out : List ℕ)
+      → let ends = endsIn model (s .«min_value») (s .«max_value») (take (s .«values_length») (valuesAfter model first last b xs valuesOut residualsOut)) in
+      let bytes = take (s .«residuals_length») (residualsAfter model first last b xs valuesOut residualsOut) in
+      verdict (gridCauses model ts ends bytes (length out)) ≡ answered tt
+      → KeptWithin b xs (take (length xs) (drop (length ts - length xs) (gridMemory model ts ends bytes out)))
+  residuals-kept-within small ts out free =
+      let ms : List ℕ = modelValues model (take (length ts - length xs) ts) parameters in
+      let vs : List ℕ = keptOf b (On (lastOf model first last)) xs in
+      let all : KeptWithin b xs vs = all-pass b (not-false _ (told .0 .0)) _ _ _ xs in
+      let many : length ms ≡ length ts - length xs = length-model model (take (length ts - length xs) ts) parameters ∙ length-take-le (length ts - length xs) ts (omega arith) in
+      subst (KeptWithin b xs)
+      (sym (ap (λ (z : List ℕ). take (length xs) (drop (length ts - length xs) z)) (a-written-segment-reads-back small ts out free .1 ∙ append-assoc ms vs (drop (length ts) out))
+      ∙ ap (take (length xs)) (drop-at ms (vs ++ drop (length ts) out) (length ts - length xs) many)
+      ∙ take-at vs (drop (length ts) out) (length xs) (all .asMany)))
+      all

@@ -1,0 +1,102 @@
+-- What is kept, through rows (document 02, W10): every value that the grid draws behind a write passes the within call of the C face against its input, with the
+-- bound's two words as they stand in the row. Assumes nothing.
+use mathlib.Core.Path.{_≡_, refl, sym, ap, ap₂, _∙_, subst}
+use mathlib.Core.Bool.{Bool, true, false, cond, _&&_, true≢false, false≢true}
+use mathlib.Core.List.{List, [], _∷_, _++_}
+use Prim.Native.Nat.{ℕ, _+_, _*_, _^_, _≤_, _<_}
+use native.Mathlib.Omega.{arith}
+use borrow.Author.Tests.{le-leb, le-ltb, leb-true}
+use lib.Dec.{leb, ltb}
+use lib.Ieee as Ieee
+use lib.ListN.{length, take, drop, getD}
+use Rattle.bits.specs.Bits.{Below, wholeBytes}
+use Rattle.models.specs.Answers.{noFault, answered, answeredOn}
+use Rattle.models.specs.Limits.{mostValues}
+use Rattle.models.specs.Floats.{isFinite}
+use Rattle.models.specs.Bound.{boundAllowed}
+use Rattle.models.specs.Calls.{withinAnswer}
+use Rattle.models.specs.declared.ErrorBound.{ErrorBound}
+use Rattle.models.proofs.Tests.{and-left}
+use Rattle.macaque_v.specs.State.{isFirst, openingValue}
+use Rattle.macaque_v.specs.Write.{writerAt, wroteBy}
+use Rattle.macaque_v.specs.Calls.{writeAnswer}
+use Rattle.macaque_v.specs.Read.{gridAnswer, gridMemory}
+use Rattle.macaque_v.specs.Kept.{KeptWithin}
+use Rattle.macaque_v.specs.declared.MacaqueV.{MacaqueV}
+use Rattle.macaque_v.proofs.Kept as call
+use Rattle.exports.specs.Face.{boundOf, faultSaid, rowAfter, plainFault}
+use Rattle.exports.specs.Words.{small, boundIn, boundFront}
+use Rattle.exports_stream.specs.Row.{writerLength, standsForState, readWriter, writerIn, bytesInUse, lengthWord}
+use Rattle.exports_stream.specs.Calls.{openingOf, countIn, writeFault, writeRow, writeBuffer, gridFault, gridOut, RowMade, RowOfItsBytes, withinFault, withinOut, RowKeptWithin}
+use Rattle.exports_stream.proofs.Words.{a-state}
+use Rattle.exports_stream.proofs.Promises.{a-made-row-stands, place-word, length-word, accepted-zero}
+use Rattle.exports_stream.proofs.Sums.{a-written-row-stands, row-after-a-write}
+
+-- ---- an allowed bound is that of the row's first two words
+
+front-is : (row : List ℕ) → standsForState row ≡ true → boundAllowed (boundFront row) ≡ true → boundFront row ≡ boundOf (getD row 0 0) (getD row 1 0)
+unfolding boundFront boundIn standsForState boundAllowed isFinite
+front-is row h ok =
+    let long : 11 ≤ length row = leb-true writerLength (length row) (and-left _ _ h) in
+    let two : ltb (length row) 2 ≡ false = le-ltb (length row) 2 (omega (arith, long)) in
+    rw two (by-size (small (getD row 0 0) && small (getD row 1 0)) (rw two at ok))
+  where
+    by-size : (t : Bool) → boundAllowed (cond t (boundOf (getD row 0 0) (getD row 1 0)) _) ≡ true → cond t (boundOf (getD row 0 0) (getD row 1 0)) _ ≡ boundOf (getD row 0 0) (getD row 1 0)
+    by-size true e = refl
+    by-size false e = absurd (false≢true e)
+
+-- what the call says of values, said through the C face
+pub through-the-row : (row xs vs : List ℕ) (b : ErrorBound) → b ≡ boundOf (getD row 0 0) (getD row 1 0) → KeptWithin b xs vs → RowKeptWithin row xs vs
+unfolding faultSaid rowAfter
+through-the-row row xs vs b is K =
+    record {
+      asMany = K .asMany;
+      passes = λ i h out room.
+          let said : withinAnswer (boundOf (getD row 0 0) (getD row 1 0)) (getD xs i 0) (getD vs i 0) ≡ answered true =
+          ap (λ (c : ErrorBound). withinAnswer c (getD xs i 0) (getD vs i 0)) (sym is) ∙ K .passes i h in
+          rw (said, le-leb 1 (length out) room) (refl, refl);
+    }
+
+-- ---- a row that writes, stops and resumes have made
+
+module _ {b : ErrorBound} (mode value : ℕ) {xs buf row : List ℕ} (R : RowMade b (openingOf mode value) xs buf row) (mode-is : mode ≤ 1)
+    (hl : openingValue (openingOf mode value) < 2 ^ 32) (bx : Below 32 xs) (ok : boundAllowed b ≡ true) (most : length xs ≤ mostValues) (out : List ℕ) (room : length xs ≤ length out) where
+  -- each value that the grid draws of the bytes in use passes the within call against its input
+  pub a-row-kept-within : (gridFault (bytesInUse row buf) (lengthWord row) mode value out ≡ noFault)
+      × RowKeptWithin row xs (take (length xs) (gridOut (bytesInUse row buf) (lengthWord row) mode value out))
+  unfolding gridFault gridOut
+  a-row-kept-within =
+      let stands = a-made-row-stands R in
+      let front : boundFront row ≡ b = ap (λ (m : MacaqueV). m .«error_bound») (a-state row stands ∙ R .made .writer) in
+      let is : b ≡ boundOf (getD row 0 0) (getD row 1 0) = sym front ∙ front-is row stands (ap boundAllowed front ∙ ok) in
+      let used : bytesInUse row buf ≡ take (wholeBytes ((writerIn row) .place)) buf = ap (λ (p : ℕ). take (wholeBytes p) buf) (sym (place-word R)) in
+      let K = call.kept-within (R .made) bx hl ok most out room in
+      rw (le-leb mode 1 mode-is, used, length-word R) (ap plainFault (K .0), through-the-row row xs _ b is (K .1))
+
+-- ---- an accepted write through any row of its bytes: the values before it stay, and each new one passes
+
+module _ (mode value : ℕ) (mode-is : mode ≤ 1) (hl : openingValue (openingOf mode value) < 2 ^ 32) {buf row : List ℕ} (R : RowOfItsBytes mode value buf row) (small-bytes : Below 8 buf)
+    (ys : List ℕ) (by : Below 32 ys) (zero : (writeFault row ys buf) .number ≡ 0) (out : List ℕ) (room : lengthWord (writeRow row ys buf) ≤ length out) where
+  -- what the grid of the C face draws of the bytes that are in use then
+  abbrev drawnAfter : List ℕ
+  drawnAfter = gridOut (bytesInUse (writeRow row ys buf) (writeBuffer row ys buf)) (lengthWord (writeRow row ys buf)) mode value out
+
+  pub a-row-newly-kept-within : (gridFault (bytesInUse (writeRow row ys buf) (writeBuffer row ys buf)) (lengthWord (writeRow row ys buf)) mode value out ≡ noFault)
+      × (take (lengthWord row) drawnAfter ≡ R .writer .values)
+      × RowKeptWithin row ys (take (length ys) (drop (lengthWord row) drawnAfter))
+  unfolding gridFault gridOut
+  a-row-newly-kept-within =
+      let m : MacaqueV = writerIn row in
+      let n : MacaqueV = writerAt m (wroteBy m ys) in
+      let h : writeAnswer m ys buf ≡ answeredOn n = accepted-zero m ys buf zero in
+      let now : readWriter (boundFront (writeRow row ys buf)) (writeRow row ys buf) ≡ n =
+      a-state (writeRow row ys buf) (a-written-row-stands mode value mode-is hl R small-bytes ys by zero) ∙ row-after-a-write mode value mode-is hl R small-bytes ys by zero in
+      let before : readWriter (boundFront row) row ≡ m = a-state row (R .stands) in
+      let place : getD (writeRow row ys buf) 8 0 ≡ n .place = ap (λ (w : MacaqueV). w .place) now in
+      let count : lengthWord (writeRow row ys buf) ≡ n .length = ap (λ (w : MacaqueV). w .length) now in
+      let first : lengthWord row ≡ m .length = ap (λ (w : MacaqueV). w .length) before in
+      let front : boundFront row ≡ m .«error_bound» = ap (λ (w : MacaqueV). w .«error_bound») before in
+      let is : m .«error_bound» ≡ boundOf (getD row 0 0) (getD row 1 0) =
+      sym front ∙ front-is row (R .stands) (ap boundAllowed front ∙ call.bound-allowed m n ys buf h) in
+      let K = call.newly-kept-within (R .writer) hl small-bytes ys by n h out (subst (λ (j : ℕ). j ≤ length out) count room) in
+      rw (le-leb mode 1 mode-is, place, count, first) (ap plainFault (K .0), K .1, through-the-row row ys _ (m .«error_bound») is (K .2))
