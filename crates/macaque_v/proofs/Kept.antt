@@ -47,21 +47,20 @@ module _ (b : ErrorBound) (ok : boundAllowed b ≡ true) where
   one-passes true l x = rw ok (ap answered (may-replace-itself b x))
   one-passes false l x = rw ok (ap answered (kept-may-replace b l x))
 
+  -- one more in front
+  and-one : (x v : ℕ) (xs vs : List ℕ) → withinAnswer b x v ≡ answered true → KeptWithin b xs vs → KeptWithin b (x ∷ xs) (v ∷ vs)
+  and-one x v xs vs first rest = record { asMany = ap suc (rest .asMany); passes = each }
+    where
+      each : (i : ℕ) → i < length (x ∷ xs) → withinAnswer b (getD (x ∷ xs) i 0) (getD (v ∷ vs) i 0) ≡ answered true
+      each zero h = first
+      each (suc i) h = rest .passes i (omega (arith, h))
+
   pub all-pass : (mode : Mode) (n l : ℕ) (xs : List ℕ) → KeptWithin b xs (keptFrom (keepRule b) mode n l xs)
   unfolding keptFrom
   all-pass mode n l [] = record { asMany = refl; passes = λ i h. absurd (omega (arith, h)) }
-  all-pass mode n l (x ∷ xs) = record { asMany = ap suc (rest .asMany); passes = each }
-    where
-      v : ℕ
-      v = keptOne (keepRule b) (rawNext mode n) l x
-
-      rest : KeptWithin b xs (keptFrom (keepRule b) mode (suc n) (keptOne (keepRule b) (rawNext mode n) l x) xs)
-      rest = all-pass mode (suc n) (keptOne (keepRule b) (rawNext mode n) l x) xs
-
-      each : (i : ℕ) → i < length (x ∷ xs)
-          → withinAnswer b (getD (x ∷ xs) i 0) (getD (keptOne (keepRule b) (rawNext mode n) l x ∷ keptFrom (keepRule b) mode (suc n) (keptOne (keepRule b) (rawNext mode n) l x) xs) i 0) ≡ answered true
-      each zero h = one-passes (rawNext mode n) l x
-      each (suc i) h = rest .passes i (omega (arith, h))
+  all-pass mode n l (x ∷ xs) =
+      let v : ℕ = keptOne (keepRule b) (rawNext mode n) l x in
+      and-one x v xs (keptFrom (keepRule b) mode (suc n) v xs) (one-passes (rawNext mode n) l x) (all-pass mode (suc n) v xs)
 
 -- ---- of a stream that writes, stops and resumes have made: each value that the grid draws passes the test against its input
 
