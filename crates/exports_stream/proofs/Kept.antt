@@ -7,7 +7,7 @@ use Prim.Native.Nat.{ℕ, _+_, _*_, _^_, _≤_, _<_}
 use native.Mathlib.Omega.{arith}
 use borrow.Author.Tests.{le-leb, le-ltb, leb-true}
 use lib.Dec.{leb, ltb}
-use lib.Ieee as Ieee
+use lib.Ieee.{nan}
 use lib.ListN.{length, take, drop, getD}
 use Rattle.bits.specs.Bits.{Below, wholeBytes}
 use Rattle.models.specs.Answers.{noFault, answered, answeredOn}
@@ -16,6 +16,7 @@ use Rattle.models.specs.Floats.{isFinite}
 use Rattle.models.specs.Bound.{boundAllowed}
 use Rattle.models.specs.Calls.{withinAnswer}
 use Rattle.models.specs.declared.ErrorBound.{ErrorBound}
+use Rattle.models.specs.declared.ErrorBound.the-variants.{Lossless, Absolute}
 use Rattle.models.proofs.Tests.{and-left}
 use Rattle.macaque_v.specs.State.{isFirst, openingValue}
 use Rattle.macaque_v.specs.Write.{writerAt, wroteBy}
@@ -34,16 +35,17 @@ use Rattle.exports_stream.proofs.Sums.{a-written-row-stands, row-after-
 
 -- ---- an allowed bound is that of the row's first two words
 
+by-size : (t : Bool) (b : ErrorBound) → boundAllowed (cond t b (Absolute nan)) ≡ true → cond t b (Absolute nan) ≡ b
+unfolding boundAllowed isFinite
+by-size true b e = refl
+by-size false b e = absurd (false≢true e)
+
 front-is : (row : List ℕ) → standsForState row ≡ true → boundAllowed (boundFront row) ≡ true → boundFront row ≡ boundOf (getD row 0 0) (getD row 1 0)
-unfolding boundFront boundIn standsForState boundAllowed isFinite
+unfolding boundFront boundIn standsForState
 front-is row h ok =
-    let long : 11 ≤ length row = leb-true writerLength (length row) (and-left _ _ h) in
-    let two : ltb (length row) 2 ≡ false = le-ltb (length row) 2 (omega (arith, long)) in
-    rw two (by-size (small (getD row 0 0) && small (getD row 1 0)) (rw two at ok))
-  where
-    by-size : (t : Bool) → boundAllowed (cond t (boundOf (getD row 0 0) (getD row 1 0)) _) ≡ true → cond t (boundOf (getD row 0 0) (getD row 1 0)) _ ≡ boundOf (getD row 0 0) (getD row 1 0)
-    by-size true e = refl
-    by-size false e = absurd (false≢true e)
+    let two : ltb (length row) 2 ≡ false = le-ltb (length row) 2 (omega (arith, leb-true writerLength (length row) (and-left _ _ h))) in
+    let is : boundFront row ≡ boundIn (getD row 0 0) (getD row 1 0) = ap (λ (t : Bool). cond t Lossless (boundIn (getD row 0 0) (getD row 1 0))) two in
+    is ∙ by-size (small (getD row 0 0) && small (getD row 1 0)) (boundOf (getD row 0 0) (getD row 1 0)) (sym (ap boundAllowed is) ∙ ok)
 
 -- what the call says of values, said through the C face
 pub through-the-row : (row xs vs : List ℕ) (b : ErrorBound) → b ≡ boundOf (getD row 0 0) (getD row 1 0) → KeptWithin b xs vs → RowKeptWithin row xs vs
