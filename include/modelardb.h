@@ -103,7 +103,10 @@ uint64_t modelardb_widen(uint32_t bits);
 /* The f32 nearest to an f64's value, a tie to the even one. */
 uint32_t modelardb_narrow(uint64_t bits);
 
-/* out[0]: 1 where the approximate value may stand for the real one, else 0. Refusals: 1; 4. */
+/* out[0]: 1 where the approximate value may stand for the real one, else 0: where the two are equal or both NaN, and else
+ * by the bound, in f64, each number widened first: absolute |real - approximate| <= bound, relative
+ * |(real - approximate) / real| * 100 <= bound, each operation rounded, in this order. What a write keeps passes this
+ * test against its input. Refusals: 1; 4. */
 modelardb_fault modelardb_is_value_within_error_bound(uint32_t kind, uint32_t bound, uint32_t real_value,
                                                       uint32_t approximate_value, uint32_t *out,
                                                       size_t out_length);
