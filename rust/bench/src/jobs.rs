@@ -1,8 +1,10 @@
 //! The jobs, each over many lists of values or the streams that the library makes of them, and how long
 //! a side takes for one.
 
-use crate::sides::{self, Ours, Side};
+use crate::sides::{self, Ours, Side, by_paper};
 use oracle::paper::models::ErrorBound;
+use oracle::paper::rules;
+use oracle::rust::Calls;
 use std::hint::black_box;
 use std::ops::Range;
 use std::time::Instant;
@@ -98,6 +100,24 @@ impl<'a> Lists<'a> {
     /// Whether two sides make the same of a job.
     pub fn agree(&self, side: &dyn Side, other: &dyn Side, job: Job) -> bool {
         self.results(side, job) == self.results(other, job)
+    }
+
+    /// Whether a build of the Rust's text makes the same of a job as ours, but for streams of `filled` on which
+    /// document 01's rules part.
+    pub fn agree_with(&self, calls: &Calls, job: Job) -> bool {
+        let ours = self.results(&Ours, job);
+        let theirs = self.results(&calls.direct, job);
+        let may_part = calls.is_filled() && job == Job::Written;
+        let mut pairs = self.rooms.iter().zip(ours.iter().zip(&theirs));
+        pairs.all(|(values, (ours, theirs))| {
+            ours == theirs || may_part && self.have_parted(values, ours, theirs)
+        })
+    }
+
+    /// Whether these are the streams of the values by today's rules and by the first ones.
+    fn have_parted(&self, values: &[f32], ours: &[u8], theirs: &[u8]) -> bool {
+        let write = || by_paper(self.bound, values);
+        write() == ours && rules::as_first(write) == theirs
     }
 
     /// The nanoseconds a value that each side takes. The sides take turns on each part of the lists,

@@ -67,7 +67,7 @@ impl Stream {
     /// A stream of so many values, of any bound and opening.
     pub fn any(context: &mut Context, count: usize) -> Self {
         let values = context.inputs.values(count);
-        let (bound, opening) = (context.inputs.bound(), context.inputs.opening());
+        let (bound, opening) = (context.inputs.bound_for(&values), context.inputs.opening());
         Self::new(context, bound, opening, &values)
     }
 
