@@ -173,7 +173,10 @@ pub fn finish(outcomes: impl Iterator<Item = Outcome>) -> ExitCode {
         total.parted += counts.parted;
         total.unexplained += counts.unexplained;
     }
-    println!("parted {}, by the first rules and by today's", total.parted);
+    println!(
+        "parted {}: by its first rules the paper answers otherwise",
+        total.parted
+    );
     println!(
         "compared {}, unexplained {}",
         total.compared, total.unexplained
