@@ -82,43 +82,58 @@ type Made = fn(ErrorBound, [f32; 2]) -> (u32, u32);
 /// How that is said.
 type Said = fn(ErrorBound, [f32; 2]) -> String;
 
+/// Two readings that are stored otherwise, the test that lets more of them through, and the bound.
+struct Parted {
+    alone: Alone,
+    bound: f32,
+    readings: [f32; 2],
+}
+
+impl Parted {
+    /// What comes first is smaller.
+    fn order(&self) -> (f32, f32, [(f32, bool); 2]) {
+        let sizes = self.readings.map(f32::abs);
+        let greatest = sizes[0].max(sizes[1]).max(self.bound);
+        let size = |value: f32| (value.abs(), value.is_sign_negative());
+        (greatest, self.bound, self.readings.map(size))
+    }
+}
+
 impl Kind {
     /// How many pairs part, and the smallest of each test.
     fn print(&self, name: &str, made: Made, said: Said) {
         let (found, tried) = self.parting(made);
         println!("  {name}: of {tried} part {}", found.len());
         for wanted in [InF32, InF64] {
-            let of = |(alone, ..): &&(Alone, ErrorBound, [f32; 2])| *alone == wanted;
-            if let Some(&(_, bound, readings)) = found.iter().find(of) {
+            if let Some(parted) = found.iter().find(|parted| parted.alone == wanted) {
+                let (bound, readings) = ((self.bounds.0)(parted.bound), parted.readings);
                 let (today, first) = both(|| said(bound, readings));
-                let [one, two] = readings;
-                let bound = shown(bound);
+                let ([one, two], bound) = (readings, shown(bound));
                 println!("    {wanted}: {one}, {two} at {bound}: {today}; in f32 {first}");
             }
         }
     }
 
     /// The readings that part, smallest first, and how many were tried.
-    fn parting(&self, made: Made) -> (Vec<(Alone, ErrorBound, [f32; 2])>, usize) {
+    fn parting(&self, made: Made) -> (Vec<Parted>, usize) {
         let (mut found, mut tried) = (vec![], 0);
         let [ones, twos] = self.digits.clone();
         for pair in ones.flat_map(|one| twos.clone().map(move |two| [one, two])) {
             let readings = pair.map(|digits| number(digits, self.decimals));
             for &bound in self.bounds.1 {
-                let bound = self.bounds.0(bound);
-                let (today, first) = both(|| made(bound, readings));
+                let (today, first) = both(|| made((self.bounds.0)(bound), readings));
                 tried += 1;
                 if today != first {
                     let alone = if today.1 > first.1 { InF64 } else { InF32 };
-                    found.push((alone, bound, readings));
+                    found.push(Parted {
+                        alone,
+                        bound,
+                        readings,
+                    });
                 }
             }
         }
-        let size = |value: f32| (value.abs(), value.is_sign_negative());
-        found.sort_by(|(_, _, a), (_, _, b)| {
-            let key = |pair: &[f32; 2]| (pair[0].abs().max(pair[1].abs()), pair.map(size));
-            key(a).partial_cmp(&key(b)).expect("plain numbers")
-        });
+        found.sort_by(|a, b| a.order().partial_cmp(&b.order()).expect("no NaN"));
         (found, tried)
     }
 }

@@ -1,8 +1,8 @@
 //! Where the within test in f64 and the one in f32 part: the smallest inputs, found by trying all of a kind, and how often
 //! they part on the readings that rust/bench times. docs/DIFFERENCES.md lists what this prints in its group 11.
 //!
-//! The smallest is that of the smallest greatest number, its sign aside; then the one with the smallest bound, and then
-//! the smallest numbers from the left, the positive one of two before the other.
+//! The smallest is that of which the greatest number, the bound or a value with its sign aside, is smallest; then the one
+//! with the smallest bound; then that with the smallest values from the left, the positive one of two before the other.
 
 mod days;
 mod lists;

@@ -104,11 +104,15 @@ fn at_the_bound() -> [Row; 4] {
     let (hundred, more) = (100f32.to_bits(), 114f32.to_bits());
     [
         taken(
-            "PMC-Mean, Relative(55): 10, 21",
-            Relative(55.0),
-            [10.0, 21.0],
+            "PMC-Mean, Relative(14): 25, 32",
+            Relative(14.0),
+            [25.0, 32.0],
         ),
-        taken("PMC-Mean, Relative(30): 5, 8", Relative(30.0), [5.0, 8.0]),
+        taken(
+            "PMC-Mean, Relative(15): 10, 13",
+            Relative(15.0),
+            [10.0, 13.0],
+        ),
         taken(
             "PMC-Mean, Absolute(0.5): 0.4, −0.6",
             Absolute(0.5),

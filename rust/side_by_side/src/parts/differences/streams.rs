@@ -157,17 +157,25 @@ fn written_whole() -> [Row; 2] {
 /// 11: A reading at the bound behind another.
 fn at_the_bound() -> [Row; 4] {
     [
-        behind_another("MacaqueV, Relative(55): 9, 20", Relative(55.0), [9.0, 20.0]),
-        behind_another("MacaqueV, Relative(60): 2, 5", Relative(60.0), [2.0, 5.0]),
+        behind_another(
+            "MacaqueV, Relative(28): 18, 25",
+            Relative(28.0),
+            [18.0, 25.0],
+        ),
+        behind_another(
+            "MacaqueV, Relative(15): 17, 20",
+            Relative(15.0),
+            [17.0, 20.0],
+        ),
         behind_another(
             "MacaqueV, Relative(20): 15.2, 19",
             Relative(20.0),
             [15.2, 19.0],
         ),
         behind_another(
-            "MacaqueV, Absolute(0.5): 0.2, −0.3",
+            "MacaqueV, Absolute(0.5): 0.1, −0.4",
             Absolute(0.5),
-            [0.2, -0.3],
+            [0.1, -0.4],
         ),
     ]
 }
