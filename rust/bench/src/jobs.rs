@@ -183,3 +183,26 @@ fn best<T: FnMut(Range<usize>)>(
     let nanoseconds = |seconds: f64| seconds * 1e9 / values as f64;
     sums.into_iter().map(nanoseconds).collect()
 }
+
+#[cfg(test)]
+mod tests {
+    use super::{Job, Lists};
+    use oracle::builds::AT_HAND;
+    use oracle::paper::models::ErrorBound::Relative;
+
+    /// Here the second value is kept as 24, and by the first rules as 18.
+    #[test]
+    fn filled_may_keep_what_the_first_rules_do() {
+        let rooms = [vec![18.0, 25.0]];
+        let lists = Lists::new(&rooms, Relative(28.0));
+        for calls in AT_HAND.iter().filter(|calls| calls.is_filled()) {
+            let (ours, theirs) = (
+                &lists.streams[0],
+                (calls.direct.write)(lists.bound, &rooms[0]),
+            );
+            assert_ne!(*ours, theirs);
+            assert!(lists.agree_with(calls, Job::Written));
+            assert!(!lists.have_parted(&rooms[0], &theirs, ours));
+        }
+    }
+}
