@@ -48,6 +48,8 @@ fn pairs_that_the_tests_answer_otherwise() {
         (Relative(7.0), 100.0, 107.0, FIRST_ALONE),
         (Relative(15.0), 20.0, 17.0, TODAY_ALONE),
         (Relative(15.0), 20.0, 23.0, TODAY_ALONE),
+        (Relative(20.0), 19.0, 15.2, FIRST_ALONE),
+        (Absolute(0.4), 0.1, -0.3, FIRST_ALONE),
         // 2^24 + 1 is no f32, and is rounded to the bound.
         (Absolute(16_777_216.0), 16_777_216.0, -1.0, FIRST_ALONE),
     ] {
@@ -76,6 +78,28 @@ fn what_both_tests_answer_alike() {
     ] {
         let input = format!("{real} within {bound:?} of {approximate}");
         assert_eq!(both(bound, real, approximate), (answer, answer), "{input}");
+    }
+}
+
+/// About each end of the range and each power of two between them.
+#[test]
+fn under_an_absolute_bound_the_test_in_f64_lets_nothing_more_through() {
+    let patterns = || {
+        (0..=255u32).flat_map(|exponent| {
+            let power = exponent << 23;
+            [power.wrapping_sub(1), power, power + 1].map(|bits| f32::from_bits(bits & 0x7FFF_FFFF))
+        })
+    };
+    for real in patterns() {
+        for approximate in patterns().flat_map(|value| [value, -value]) {
+            let distance = (real - approximate).abs();
+            for bound in [distance.next_down(), distance, distance.next_up()].map(Absolute) {
+                if bound.is_allowed() {
+                    let answers = both(bound, real, approximate);
+                    assert_ne!(answers, TODAY_ALONE, "{real} {bound:?} {approximate}");
+                }
+            }
+        }
     }
 }
 

@@ -3,7 +3,7 @@
 #[path = "../../../bench/src/series.rs"]
 mod series;
 
-use crate::{both, shown};
+use super::{both, shown};
 use oracle::paper::macaque_v::kept;
 use oracle::paper::models::ErrorBound::{self, Absolute, Relative};
 use oracle::paper::pmc_mean::PMCMean;

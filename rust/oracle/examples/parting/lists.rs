@@ -1,7 +1,7 @@
 //! Two readings of which PMC-Mean, or a stream, makes something else by one test than by the other.
 
-use crate::Alone::{self, InF32, InF64};
-use crate::{both, number, shown};
+use super::Alone::{self, InF32, InF64};
+use super::{both, number, shown};
 use oracle::paper::macaque_v::{MacaqueV, Opening, kept};
 use oracle::paper::models::ErrorBound::{self, Absolute, Relative};
 use oracle::paper::pmc_mean::PMCMean;

@@ -6,7 +6,7 @@
 
 mod days;
 mod lists;
-mod pairs;
+pub mod pairs;
 
 use oracle::paper::models::ErrorBound;
 use oracle::paper::rules;

@@ -15,12 +15,12 @@ pub fn within(context: &mut Context) {
             }
         }
     }
-    for _ in 0..context.rounds(25_000_000) {
+    for _ in 0..context.rounds(42_000_000) {
         let (mut bound, real) = (context.inputs.any_bound(), context.inputs.value());
         let mut approximate = context.inputs.value();
-        match context.inputs.below(6) {
+        match context.inputs.below(5) {
             0 => {}
-            1 | 2 => bound = context.inputs.bound_about(real, approximate),
+            1 => bound = context.inputs.bound_about(real, approximate),
             _ => approximate = near_the_edge(context, bound, real),
         }
         within_one(context, bound, real, approximate);
