@@ -15,16 +15,32 @@ pub fn within(context: &mut Context) {
             }
         }
     }
-    for _ in 0..context.rounds(42_000_000) {
-        let (mut bound, real) = (context.inputs.any_bound(), context.inputs.value());
-        let mut approximate = context.inputs.value();
-        match context.inputs.below(5) {
-            0 => {}
-            1 => bound = context.inputs.bound_about(real, approximate),
-            _ => approximate = near_the_edge(context, bound, real),
-        }
+    for _ in 0..context.rounds(50_000_000) {
+        let (bound, real, approximate) = any_pair(context);
         within_one(context, bound, real, approximate);
     }
+}
+
+/// Any bound and values, and such as lie at the bound.
+fn any_pair(context: &mut Context) -> (ErrorBound, u32, u32) {
+    let inputs = &mut context.inputs;
+    let (bound, real, approximate) = (inputs.any_bound(), inputs.value(), inputs.value());
+    match inputs.below(6) {
+        0 => (bound, real, approximate),
+        1 => (inputs.bound_about(real, approximate), real, approximate),
+        2 => at_a_whole_per_cent(context),
+        _ => (bound, real, near_the_edge(context, bound, real)),
+    }
+}
+
+/// Two values that lie exactly at a bound of a whole per cent, where the last bit of a quotient decides.
+fn at_a_whole_per_cent(context: &mut Context) -> (ErrorBound, u32, u32) {
+    let inputs = &mut context.inputs;
+    let percent = 1.0 + inputs.below(100) as f32;
+    let hundredth = (1 + inputs.below(1000)) as f32 / (1u32 << inputs.below(12)) as f32;
+    let of_hundred = inputs.pick(&[100.0 - percent, 100.0 + percent]);
+    let [real, approximate] = [100.0, of_hundred].map(|times| (times * hundredth).to_bits());
+    (Relative(percent), real, approximate)
 }
 
 fn within_one(context: &mut Context, bound: ErrorBound, real: u32, approximate: u32) {
