@@ -52,7 +52,7 @@ pub fn short_lists(most: usize) -> Vec<Vec<u32>> {
 }
 
 /// The paper's stream of a list, and the state that wrote it.
-fn written(bound: ErrorBound, opening: Opening, values: &[u32]) -> (Vec<u8>, MacaqueV) {
+pub fn written(bound: ErrorBound, opening: Opening, values: &[u32]) -> (Vec<u8>, MacaqueV) {
     let mut buffer = vec![0xFF; 6 * values.len()];
     let writer = MacaqueV::new(bound, opening).expect("an allowed bound");
     let writer = writer.compress_values(values, &mut buffer);
