@@ -56,8 +56,8 @@ pub fn within(bound: ErrorBound, real: f32, approximate: f32) -> bool {
 }
 
 /// "Lossless no; Absolute: |real − approx| ≤ bound; Relative: |(real − approx) / real| × 100 ≤ bound", by the
-/// operations of the format in which the values are handed in.
-fn near<T: Format>(bound: ErrorBound, real: T, approximate: T) -> bool {
+/// operations of the precision in which the values are handed in.
+fn near<T: Precision>(bound: ErrorBound, real: T, approximate: T) -> bool {
     let size = |value: T| if value < T::from(0.0) { -value } else { value };
     match bound {
         ErrorBound::Lossless => false,
@@ -68,8 +68,8 @@ fn near<T: Format>(bound: ErrorBound, real: T, approximate: T) -> bool {
     }
 }
 
-/// A format that holds every f32, with the operations of the test.
-trait Format:
+/// A precision that holds every f32, with the operations of the test.
+trait Precision:
     Copy
     + From<f32>
     + PartialOrd
@@ -80,8 +80,8 @@ trait Format:
 {
 }
 
-impl Format for f32 {}
-impl Format for f64 {}
+impl Precision for f32 {}
+impl Precision for f64 {}
 
 /// Deviation, for a bound that is allowed: "Lossless 0; Absolute the widened bound; Relative
 /// |value × (bound / 100)|", in f64.
