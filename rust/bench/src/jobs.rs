@@ -1,8 +1,10 @@
 //! The jobs, each over many lists of values or the streams that the library makes of them, and how long
 //! a side takes for one.
 
-use crate::sides::{self, Ours, Side};
+use crate::sides::{self, Ours, Side, by_paper};
 use oracle::paper::models::ErrorBound;
+use oracle::paper::rules;
+use oracle::rust::Calls;
 use std::hint::black_box;
 use std::ops::Range;
 use std::time::Instant;
@@ -100,6 +102,24 @@ impl<'a> Lists<'a> {
         self.results(side, job) == self.results(other, job)
     }
 
+    /// Whether a build of the Rust's text makes the same of a job as ours, but for streams of `filled` on which
+    /// document 01's rules part.
+    pub fn agree_with(&self, calls: &Calls, job: Job) -> bool {
+        let ours = self.results(&Ours, job);
+        let theirs = self.results(&calls.direct, job);
+        let may_part = calls.is_filled() && job == Job::Written;
+        let mut pairs = self.rooms.iter().zip(ours.iter().zip(&theirs));
+        pairs.all(|(values, (ours, theirs))| {
+            ours == theirs || may_part && self.have_parted(values, ours, theirs)
+        })
+    }
+
+    /// Whether these are the streams of the values by today's rules and by the first ones.
+    fn have_parted(&self, values: &[f32], ours: &[u8], theirs: &[u8]) -> bool {
+        let write = || by_paper(self.bound, values);
+        write() == ours && rules::as_first(write) == theirs
+    }
+
     /// The nanoseconds a value that each side takes. The sides take turns on each part of the lists,
     /// round after round, and the best time of each part counts.
     pub fn times(&self, sides: &[&dyn Side], job: Job, rounds: u32) -> Vec<f64> {
@@ -162,4 +182,27 @@ fn best<T: FnMut(Range<usize>)>(
     }
     let nanoseconds = |seconds: f64| seconds * 1e9 / values as f64;
     sums.into_iter().map(nanoseconds).collect()
+}
+
+#[cfg(test)]
+mod tests {
+    use super::{Job, Lists};
+    use oracle::builds::AT_HAND;
+    use oracle::paper::models::ErrorBound::Relative;
+
+    /// Here the second value is kept as 24, and by the first rules as 18.
+    #[test]
+    fn filled_may_keep_what_the_first_rules_do() {
+        let rooms = [vec![18.0, 25.0]];
+        let lists = Lists::new(&rooms, Relative(28.0));
+        for calls in AT_HAND.iter().filter(|calls| calls.is_filled()) {
+            let (ours, theirs) = (
+                &lists.streams[0],
+                (calls.direct.write)(lists.bound, &rooms[0]),
+            );
+            assert_ne!(*ours, theirs);
+            assert!(lists.agree_with(calls, Job::Written));
+            assert!(!lists.have_parted(&rooms[0], &theirs, ours));
+        }
+    }
 }

@@ -135,12 +135,13 @@ impl Bench {
     }
 
     /// A job by all sides. They must make the same of it, but for the lossy streams of the text as
-    /// published, which keeps other values (docs/DIFFERENCES.md): such a row is not timed.
+    /// published, which keeps other values (docs/DIFFERENCES.md): such a row is not timed. `filled` may keep another
+    /// value too, but only where document 01's first rules do, and is timed.
     fn row(&self, name: &str, bound: &str, job: Job, goal: f64, lists: &Lists) -> bool {
         let mut good = true;
         let mut builds: Vec<&Calls> = vec![];
         for calls in AT_HAND {
-            if lists.agree(&Ours, &calls.direct, job) {
+            if lists.agree_with(calls, job) {
                 builds.push(calls);
             } else if calls.is_filled() || job != Job::Written || lists.bound == Lossless {
                 say!("{name}, {bound}: ours and {} differ", calls.name);
@@ -258,7 +259,7 @@ impl Bench {
 
     fn agree_when_long(&self, name: &str, bound: &str, job: Job, lists: &Lists) -> bool {
         let mut filled = AT_HAND.iter().filter(|calls| calls.is_filled());
-        let good = filled.all(|calls| lists.agree(&Ours, &calls.direct, job));
+        let good = filled.all(|calls| lists.agree_with(calls, job));
         if !good {
             say!("{name}, {bound}, 65,536 values: ours and filled differ");
         }

@@ -2,6 +2,7 @@
 //! points, on one list or stream whose first value is stored in full.
 
 use modelardb_rattle::{self as library, MacaqueV, Opening, PlaceTable, TabledWriter};
+use oracle::paper::macaque_v;
 use oracle::paper::models::ErrorBound;
 use oracle::rust::Direct;
 
@@ -80,6 +81,17 @@ pub fn written(bound: ErrorBound, values: &[f32]) -> (MacaqueV, Vec<u8>) {
     let written = writer.compress_values(values, &mut buffer);
     written.expect("room for every value");
     (writer, buffer)
+}
+
+/// The bytes of a stream of the values by the oracle's own program, which is slow.
+pub fn by_paper(bound: ErrorBound, values: &[f32]) -> Vec<u8> {
+    let bits: Vec<u32> = values.iter().map(|value| value.to_bits()).collect();
+    let mut buffer = room_for(values);
+    let writer = macaque_v::MacaqueV::new(bound, macaque_v::Opening::WithFirst);
+    let written = writer.and_then(|writer| writer.compress_values(&bits, &mut buffer));
+    let place = written.expect("room for every value").place;
+    buffer.truncate(place.div_ceil(8));
+    buffer
 }
 
 /// The writer behind all values of a stream. The bytes stay, as a stream has no bits behind its last value.

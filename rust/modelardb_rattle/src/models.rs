@@ -43,7 +43,9 @@ impl ErrorBound {
     }
 }
 
-/// Whether `approximate_value` may stand for `real_value`.
+/// Whether `approximate_value` may stand for `real_value`: where the two are equal or both NaN, and else as the bound says
+/// in f64, each number widened first. Absolute: |real − approximate| ≤ bound. Relative: |(real − approximate) / real| × 100
+/// ≤ bound, with each operation rounded, in this order.
 ///
 /// # Errors
 ///
@@ -55,6 +57,9 @@ impl ErrorBound {
 /// let one_percent = ErrorBound::Relative(1.0);
 /// assert_eq!(is_value_within_error_bound(one_percent, 200.0, 201.0), Ok(true));
 /// assert_eq!(is_value_within_error_bound(one_percent, 200.0, 203.0), Ok(false));
+/// // At the bound f64's own rounding decides: 1 / 100 × 100 is 1, and 7 / 100 × 100 is a little more than 7.
+/// assert_eq!(is_value_within_error_bound(one_percent, 100.0, 99.0), Ok(true));
+/// assert_eq!(is_value_within_error_bound(ErrorBound::Relative(7.0), 100.0, 93.0), Ok(false));
 /// // A NaN may stand for a NaN, whatever the bound.
 /// assert_eq!(is_value_within_error_bound(ErrorBound::Lossless, f32::NAN, f32::NAN), Ok(true));
 /// ```

@@ -193,3 +193,27 @@ fn reading_leaves_what_is_not_its_own() {
         Ok(FRESH)
     );
 }
+
+/// Every kept value but a raw first one passes the test of its bound as a user works it in f64.
+#[test]
+fn kept_values_are_within_the_bound_in_f64() {
+    for percent in 1..=100u8 {
+        for first in 1..=60u8 {
+            let list: Vec<f32> = (1..=60)
+                .flat_map(|value| [first, value])
+                .map(f32::from)
+                .collect();
+            let mut buffer = vec![0; 6 * list.len()];
+            let mut writer = opened(ErrorBound::Relative(percent.into()), Opening::First);
+            writer.compress_values(&list, &mut buffer).expect("room");
+            let mut kept = vec![0.0; list.len()];
+            let bytes = &buffer[..writer.bytes_used()];
+            grid(bytes, list.len(), Opening::First, &mut kept).expect("a stream");
+            for (&value, &kept) in list.iter().zip(&kept) {
+                let (real, kept) = (f64::from(value), f64::from(kept));
+                let away = ((real - kept) / real).abs() * 100.0;
+                assert!(away <= percent.into(), "{kept} for {real} at {percent} %");
+            }
+        }
+    }
+}

@@ -132,8 +132,10 @@ fn the_calls_on_one_model_take_less_than_16_kib() {
             pmc_mean.fit_value(20.0)?;
             swing.fit_data_point(time, 20.0 + time as f32)?;
         }
-        (pmc_mean.model()?, pmc_mean.bytes_per_value(12)?);
-        (swing.model()?, swing.bytes_per_value(12)?);
+        pmc_mean.model()?;
+        pmc_mean.bytes_per_value(12)?;
+        swing.model()?;
+        swing.bytes_per_value(12)?;
         pmc_mean::sum(MacaqueV::MOST_VALUES, 20.5)?;
         let line = Line {
             start_time: 0,

@@ -5,6 +5,7 @@
 mod broken;
 mod calls;
 mod draw;
+mod parting;
 mod record;
 mod table;
 
@@ -19,8 +20,8 @@ use std::fmt::Write;
 /// The seed of the list.
 const SEED: u64 = 1;
 
-/// How many records of a call are drawn for each of its refusals, besides those at its limits and those of
-/// broken streams.
+/// How many records of a call are drawn for each of its refusals, besides those at its limits, those of broken
+/// streams and those at a bound.
 const DRAWN: usize = 25;
 
 /// The records of a call.
@@ -28,6 +29,7 @@ fn records(call: usize) -> Vec<Record> {
     let mut inputs = Inputs::named(SEED, CALLS[call].0);
     let mut records = draw::at_limits(call);
     records.extend(broken::records(call));
+    records.extend(parting::records(call));
     let count = DRAWN * (2 + CALLS[call].1.len());
     records.extend((0..count).map(|_| draw::drawn(call, &mut inputs)));
     records

@@ -2,6 +2,7 @@
 
 use crate::inputs::Inputs;
 use oracle::builds::AT_HAND;
+use oracle::paper::rules;
 use oracle::rust::Calls;
 use std::fmt::Debug;
 use std::process::ExitCode;
@@ -36,6 +37,8 @@ impl Part {
 struct Counts {
     compared: u64,
     explained: u64,
+    /// Answers of the paper that are others by its first rules.
+    parted: u64,
     unexplained: u64,
 }
 
@@ -69,6 +72,19 @@ impl Context {
     /// So many rounds at scale 1.
     pub fn rounds(&self, at_scale_one: u64) -> u64 {
         at_scale_one * self.scale
+    }
+
+    /// How often the paper's rules parted so far.
+    pub fn parted(&self) -> u64 {
+        self.counts.parted
+    }
+
+    /// The paper's answer by its first rules, which the Rust's text follows; where it is not today's, the
+    /// library's, they have parted.
+    pub fn first<A: PartialEq>(&mut self, today: &A, ask: impl FnOnce() -> A) -> A {
+        let first = rules::as_first(ask);
+        self.counts.parted += u64::from(first != *today);
+        first
     }
 
     /// Compares the paper's answer with another's; `input` writes the whole input if they differ.
@@ -136,10 +152,11 @@ pub fn run(part: &Part, seed: u64, scale: u64) -> Outcome {
     (part.run)(&mut context);
     let Context { counts, lines, .. } = context;
     let line = format!(
-        "{}: compared {}, explained {}, unexplained {}, {:.1} s",
+        "{}: compared {}, explained {}, parted {}, unexplained {}, {:.1} s",
         part.name,
         counts.compared,
         counts.explained,
+        counts.parted,
         counts.unexplained,
         begin.elapsed().as_secs_f64()
     );
@@ -153,8 +170,13 @@ pub fn finish(outcomes: impl Iterator<Item = Outcome>) -> ExitCode {
     for Outcome { counts, lines } in outcomes {
         println!("{lines}");
         total.compared += counts.compared;
+        total.parted += counts.parted;
         total.unexplained += counts.unexplained;
     }
+    println!(
+        "parted {}: by its first rules the paper answers otherwise",
+        total.parted
+    );
     println!(
         "compared {}, unexplained {}",
         total.compared, total.unexplained

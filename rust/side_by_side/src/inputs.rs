@@ -161,6 +161,44 @@ impl Inputs {
         if bound.is_allowed() { bound } else { Lossless }
     }
 
+    /// A bound of about the distance of two values, where the test in f32 and that in f64 may part; not all are
+    /// allowed.
+    pub fn bound_about(&mut self, real: u32, approximate: u32) -> ErrorBound {
+        let [real, approximate] = [real, approximate].map(|bits| f64::from(f32::from_bits(bits)));
+        let away = (real - approximate).abs();
+        let is_absolute = self.flip();
+        let distance = if is_absolute {
+            away
+        } else {
+            away / real.abs() * 100.0
+        };
+        let steps = self.below(5) as u32;
+        let bits = (distance as f32).to_bits().wrapping_add(steps);
+        let bound = f32::from_bits(bits.wrapping_sub(2));
+        if is_absolute {
+            Absolute(bound)
+        } else {
+            Relative(bound)
+        }
+    }
+
+    /// An allowed bound. One in four is about the distance of a value of the list from the next one, or from the
+    /// average of both.
+    pub fn bound_for(&mut self, values: &[u32]) -> ErrorBound {
+        let any = self.below(values.len() as u64 + 1) as usize;
+        let at = self.pick(&[0, any]);
+        let bound = match values.get(at..at + 2) {
+            Some(&[value, next]) if self.below(4) == 0 => {
+                let sum = f64::from(f32::from_bits(value)) + f64::from(f32::from_bits(next));
+                let average = ((sum / 2.0) as f32).to_bits();
+                let other = self.pick(&[next, average]);
+                self.bound_about(value, other)
+            }
+            _ => self.bound(),
+        };
+        if bound.is_allowed() { bound } else { Lossless }
+    }
+
     /// A bound, one in four not allowed or at an edge.
     pub fn any_bound(&mut self) -> ErrorBound {
         match self.below(8) {

@@ -1,4 +1,5 @@
-//! Runs the proved library, document 01's plain program and the Rust on the same inputs.
+//! Runs the proved library, document 01's plain program and the Rust on the same inputs: the program by today's
+//! rules beside the library, and by the first ones beside the Rust, which does not have the requests of document 02.
 //! Usage: `side_by_side [SEED] [SCALE] [NAME]`, where SCALE is a factor, or `all` for the run over every
 //! f32; with a NAME only the parts run whose names begin with it.
 

@@ -10,7 +10,7 @@ const NAN: f32 = f32::NAN;
 const MAX: f32 = f32::MAX;
 const INFINITY: f32 = f32::INFINITY;
 
-const RUNS: [Run; 17] = [
+const RUNS: [Run; 19] = [
     (&[20.0], Absolute(0.5), 12),
     (&[20.5, 20.75, 20.25], Absolute(0.5), 12),
     (&[20.0, 21.0, 22.0], Absolute(0.5), 12),
@@ -24,6 +24,8 @@ const RUNS: [Run; 17] = [
     (&[20.0, 20.2, 20.1], Absolute(0.1), 12),
     (&[100.0, 106.0, 112.0], Relative(5.0), 12),
     (&[100.0, 106.0, 106.0], Relative(10.0), 12),
+    (&[20.0, 26.0], Relative(15.0), 12),
+    (&[100.0, 114.0], Relative(7.0), 12),
     (&[1.0, NAN, 1.0], Lossless, 12),
     (&[NAN, NAN, 20.0], Absolute(0.5), 12),
     (&[INFINITY, INFINITY], Lossless, 12),

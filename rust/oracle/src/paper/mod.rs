@@ -1,6 +1,6 @@
-//! Document 01 as a plain program: slow, bit by bit, in the order of the paper's sentences.
-//! Values are the 32 bits of an f32 in a u32. A refused call answers why and has changed nothing:
-//! states go in by value, and lent memory is written last.
+//! Document 01 as a plain program: slow, bit by bit, in the order of the paper's sentences, and where document
+//! 02 changes one of them by both, as [`rules`] says. Values are the 32 bits of an f32 in a u32. A refused call
+//! answers why and has changed nothing: states go in by value, and lent memory is written last.
 
 pub mod bits;
 pub mod comparing;
@@ -10,6 +10,7 @@ pub mod models;
 pub mod numbers;
 pub mod place_table;
 pub mod pmc_mean;
+pub mod rules;
 pub mod segments;
 pub mod swing;
 pub mod types;

@@ -1,7 +1,9 @@
 //! What the models share (mod.rs): bounds, the tests against them, minimum and maximum.
 
 use super::numbers::{bits_of_f64, wide};
+use super::rules::{self, Rules};
 use super::{Answer, refusal, refuse_if};
+use std::ops::{Div, Mul, Neg, Sub};
 
 /// "A bound is Lossless, Absolute with its f32, or Relative with its f32."
 #[derive(Clone, Copy, Debug, PartialEq)]
@@ -41,19 +43,45 @@ pub fn equal_or_nan(left: f64, right: f64) -> bool {
     left == right || (left.is_nan() && right.is_nan())
 }
 
-/// Within, for a bound that is allowed: "equal-or-NaN always is. Otherwise Lossless no; Absolute:
-/// |real − approx| ≤ bound; Relative: |(real − approx) / real| × 100 ≤ bound. All in f32, each
-/// operation rounded, in this order."
+/// Within, for a bound that is allowed: "equal-or-NaN always is." Otherwise first "all in f32, each operation
+/// rounded, in this order"; today the test "shall widen both values and the bound and work in f64, in the same
+/// order of operations" (02, W10).
 pub fn within(bound: ErrorBound, real: f32, approximate: f32) -> bool {
-    if equal_or_nan(f64::from(real), f64::from(approximate)) {
-        return true;
-    }
+    let wide = (f64::from(real), f64::from(approximate));
+    let is_near = || match rules::in_force() {
+        Rules::First => near(bound, real, approximate),
+        Rules::Today => near(bound, wide.0, wide.1),
+    };
+    equal_or_nan(wide.0, wide.1) || is_near()
+}
+
+/// "Lossless no; Absolute: |real − approx| ≤ bound; Relative: |(real − approx) / real| × 100 ≤ bound", by the
+/// operations of the precision in which the values are handed in.
+fn near<T: Precision>(bound: ErrorBound, real: T, approximate: T) -> bool {
+    let size = |value: T| if value < T::from(0.0) { -value } else { value };
     match bound {
         ErrorBound::Lossless => false,
-        ErrorBound::Absolute(bound) => (real - approximate).abs() <= bound,
-        ErrorBound::Relative(bound) => ((real - approximate) / real).abs() * 100.0 <= bound,
+        ErrorBound::Absolute(bound) => size(real - approximate) <= T::from(bound),
+        ErrorBound::Relative(bound) => {
+            size((real - approximate) / real) * T::from(100.0) <= T::from(bound)
+        }
     }
 }
+
+/// A precision that holds every f32, with the operations of the test.
+trait Precision:
+    Copy
+    + From<f32>
+    + PartialOrd
+    + Sub<Output = Self>
+    + Div<Output = Self>
+    + Mul<Output = Self>
+    + Neg<Output = Self>
+{
+}
+
+impl Precision for f32 {}
+impl Precision for f64 {}
 
 /// Deviation, for a bound that is allowed: "Lossless 0; Absolute the widened bound; Relative
 /// |value × (bound / 100)|", in f64.

@@ -15,25 +15,49 @@ pub fn within(context: &mut Context) {
             }
         }
     }
-    for _ in 0..context.rounds(25_000_000) {
-        let bound = context.inputs.any_bound();
-        let real = context.inputs.value();
-        let approximate = match context.inputs.below(3) {
-            0 => context.inputs.value(),
-            _ => near_the_edge(context, bound, real),
-        };
+    for _ in 0..context.rounds(50_000_000) {
+        let (bound, real, approximate) = any_pair(context);
         within_one(context, bound, real, approximate);
     }
 }
 
+/// Any bound and values, and such as lie at the bound.
+fn any_pair(context: &mut Context) -> (ErrorBound, u32, u32) {
+    let inputs = &mut context.inputs;
+    let (bound, real, approximate) = (inputs.any_bound(), inputs.value(), inputs.value());
+    match inputs.below(6) {
+        0 => (bound, real, approximate),
+        1 => (inputs.bound_about(real, approximate), real, approximate),
+        2 => at_a_whole_per_cent(context),
+        _ => (bound, real, near_the_edge(context, bound, real)),
+    }
+}
+
+/// Two values that lie exactly at a bound of a whole per cent, where the last bit of a quotient decides.
+fn at_a_whole_per_cent(context: &mut Context) -> (ErrorBound, u32, u32) {
+    let inputs = &mut context.inputs;
+    let percent = 1.0 + inputs.below(100) as f32;
+    let hundredth = (1 + inputs.below(1000)) as f32 / (1u32 << inputs.below(12)) as f32;
+    let of_hundred = inputs.pick(&[100.0 - percent, 100.0 + percent]);
+    let [real, approximate] = [100.0, of_hundred].map(|times| (times * hundredth).to_bits());
+    (Relative(percent), real, approximate)
+}
+
 fn within_one(context: &mut Context, bound: ErrorBound, real: u32, approximate: u32) {
-    let paper = is_value_within_error_bound(bound, real, approximate);
+    let ask = || is_value_within_error_bound(bound, real, approximate);
+    let paper = ask();
+    let first = context.first(&paper, ask);
     let input = || format!("within {:X?} {real:08X} {approximate:08X}", bound.row());
     let ours = library::is_value_within_error_bound_bits(of_library(bound), real, approximate);
     context.same("library", paper, ours.map_err(|r| r.number()), input);
     for rust in context.rust.iter().filter(|_| bound.is_allowed()) {
         let theirs = Ok((rust.within)(bound, real, approximate));
-        context.same(rust.name, paper, theirs, input);
+        context.same(rust.name, first, theirs, input);
+    }
+    if matches!(bound, Absolute(_)) {
+        // What the test in f64 lets through, that in f32 does too.
+        let in_f64_alone = (paper, first) == (Ok(true), Ok(false));
+        context.same("the test in f32", false, in_f64_alone, input);
     }
 }
 

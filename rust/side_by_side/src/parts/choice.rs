@@ -6,6 +6,7 @@ use oracle::paper::MOST_METADATA;
 use oracle::paper::models::ErrorBound::{self, Lossless};
 use oracle::paper::numbers::canonical;
 use oracle::paper::refusal;
+use oracle::paper::rules;
 use oracle::paper::types::{Extremes, Model, ModelBuilder, PMC_MEAN_ID, SWING_ID, choose_model};
 use oracle::rust::{Calls, Chosen};
 
@@ -13,7 +14,8 @@ pub fn choice(context: &mut Context) {
     for _ in 0..context.rounds(150_000) {
         let count = 1 + context.inputs.below(40) as usize;
         let (times, values) = (context.inputs.times(count), context.inputs.values(count));
-        let (bound, m) = (context.inputs.bound(), 1 + context.inputs.below(200) as u32);
+        let bound = context.inputs.bound_for(&values);
+        let m = 1 + context.inputs.below(200) as u32;
         over_list(context, (&times, &values), bound, m);
     }
     for _ in 0..context.rounds(1_000_000) {
@@ -28,8 +30,18 @@ pub fn choice(context: &mut Context) {
     }
 }
 
-/// The paper's builder stepped over a list of points, beside the Rust's text.
-pub fn over_list(
+/// The paper's builder stepped over a list of points, beside the Rust's text; where its rules part on the way, once
+/// more by the first ones.
+pub fn over_list(context: &mut Context, lists: (&[i64], &[u32]), bound: ErrorBound, m: u32) {
+    let before = context.parted();
+    stepped_over(context, lists, bound, m);
+    if context.parted() != before {
+        rules::as_first(|| stepped_over(context, lists, bound, m));
+    }
+}
+
+/// By the rules in force.
+fn stepped_over(
     context: &mut Context,
     (times, values): (&[i64], &[u32]),
     bound: ErrorBound,
@@ -59,14 +71,18 @@ pub fn step(
     time: i64,
     value: u32,
 ) -> (bool, ModelBuilder) {
-    let answer = builder.try_to_update_models(time, value);
-    let (fits, next) = answer.expect("an allowed step");
+    let ask = || {
+        let answer = builder.try_to_update_models(time, value);
+        answer.expect("an allowed step")
+    };
+    let said = |(fits, next): (bool, ModelBuilder)| (fits, next.row());
+    let (fits, next) = ask();
+    let first = context.first(&said((fits, next)), || said(ask()));
     for rust in context.rust {
-        let (their_fits, theirs) = (rust.builder_step)(builder, time, value);
+        let theirs = said((rust.builder_step)(builder, time, value));
         // Listed: the published deviation, and which of two zeros is the minimum.
         let is_listed = !rust.is_filled() && (builder.swing.error_bound != Lossless || zero(next));
-        let (ours, theirs) = ((fits, next.row()), (their_fits, theirs.row()));
-        context.same_or(is_listed, rust.name, ours, theirs, || {
+        context.same_or(is_listed, rust.name, &first, &theirs, || {
             format!("builder {:X?} with {value:08X} at {time}", builder.row())
         });
     }

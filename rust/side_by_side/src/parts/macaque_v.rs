@@ -34,7 +34,7 @@ pub fn streams(context: &mut Context) {
         let most = context.inputs.pick(&[8, 64, 1000]);
         let count = context.inputs.below(most + 1) as usize;
         let values = context.inputs.values(count);
-        let (bound, opening) = (context.inputs.bound(), context.inputs.opening());
+        let (bound, opening) = (context.inputs.bound_for(&values), context.inputs.opening());
         written_and_read(context, bound, opening, &values);
     }
 }
@@ -52,7 +52,7 @@ pub fn short_lists(most: usize) -> Vec<Vec<u32>> {
 }
 
 /// The paper's stream of a list, and the state that wrote it.
-fn written(bound: ErrorBound, opening: Opening, values: &[u32]) -> (Vec<u8>, MacaqueV) {
+pub fn written(bound: ErrorBound, opening: Opening, values: &[u32]) -> (Vec<u8>, MacaqueV) {
     let mut buffer = vec![0xFF; 6 * values.len()];
     let writer = MacaqueV::new(bound, opening).expect("an allowed bound");
     let writer = writer.compress_values(values, &mut buffer);
@@ -61,25 +61,30 @@ fn written(bound: ErrorBound, opening: Opening, values: &[u32]) -> (Vec<u8>, Mac
     (buffer, writer)
 }
 
-fn written_and_read(context: &mut Context, bound: ErrorBound, opening: Opening, values: &[u32]) {
+/// The paper's stream of a list as the Rust's text finishes it.
+fn finished(bound: ErrorBound, opening: Opening, values: &[u32]) -> Stream {
     let (bytes, writer) = written(bound, opening, values);
-    let input = || format!("stream {:X?} {opening:X?} {values:08X?}", bound.row());
-    let paper = Stream {
-        bytes: bytes.clone(),
+    Stream {
+        bytes,
         extremes: Extremes {
             min_value: writer.min_value,
             max_value: writer.max_value,
         },
-    };
-    compare_written(context, &paper, bound, opening, values);
-    if bound == Lossless {
-        let read = read(&bytes, values.len(), opening);
-        context.same("the inputs", read, Ok(values.to_vec()), input);
     }
-    compare_reading(context, &bytes, values.len(), opening);
 }
 
-/// The stream of a list beside those of the Rust's text.
+fn written_and_read(context: &mut Context, bound: ErrorBound, opening: Opening, values: &[u32]) {
+    let paper = finished(bound, opening, values);
+    let input = || format!("stream {:X?} {opening:X?} {values:08X?}", bound.row());
+    compare_written(context, &paper, bound, opening, values);
+    if bound == Lossless {
+        let read = read(&paper.bytes, values.len(), opening);
+        context.same("the inputs", read, Ok(values.to_vec()), input);
+    }
+    compare_reading(context, &paper.bytes, values.len(), opening);
+}
+
+/// The stream of a list, by the first rules, beside those of the Rust's text.
 pub fn compare_written(
     context: &mut Context,
     stream: &Stream,
@@ -88,14 +93,15 @@ pub fn compare_written(
     values: &[u32],
 ) {
     let input = || format!("stream {:X?} {opening:X?} {values:08X?}", bound.row());
+    let first = context.first(stream, || finished(bound, opening, values));
     for rust in context.rust {
         let theirs = (rust.write)(bound, &[(opening, values)]);
         if rust.is_filled() {
-            context.same(rust.name, stream, &theirs, input);
+            context.same(rust.name, &first, &theirs, input);
         } else {
             // Listed: rewriting by log2.
             let is_listed = bound != Lossless;
-            context.same_or(is_listed, rust.name, &stream.bytes, &theirs.bytes, input);
+            context.same_or(is_listed, rust.name, &first.bytes, &theirs.bytes, input);
         }
     }
 }
@@ -221,17 +227,26 @@ pub fn resumed(context: &mut Context) {
     }
 }
 
-/// The paper with itself: what stays within after more bits are cleared does so after fewer, so that
-/// counting up to the first failure finds the greatest s too.
+/// The paper with itself, by both rules: what stays within after more bits are cleared does so after fewer, so
+/// that counting up to the first failure finds the greatest s too.
 pub fn greatest(context: &mut Context) {
     for _ in 0..context.rounds(2_000_000) {
-        let (bound, input) = (context.inputs.bound(), context.inputs.value());
+        let input = context.inputs.value();
+        let cleared = |s: u32| input >> s << s;
+        let s = context.inputs.below(24) as u32;
+        let bound = context.inputs.bound_for(&[input, cleared(s)]);
         let is_within =
-            |s: &u32| is_value_within_error_bound(bound, input, input >> s << s) == Ok(true);
-        let count = (0..=23).filter(is_within).count();
-        let unbroken = (0..=23).take_while(is_within).count();
-        context.same("counted up", count, unbroken, || {
-            format!("clearing {input:08X} within {:X?}", bound.row())
-        });
+            |&s: &u32| is_value_within_error_bound(bound, input, cleared(s)) == Ok(true);
+        let counts = || {
+            let count = (0..=23).filter(is_within).count();
+            (count, (0..=23).take_while(is_within).count())
+        };
+        let today = counts();
+        let first = context.first(&today, counts);
+        for (count, unbroken) in [today, first] {
+            context.same("counted up", count, unbroken, || {
+                format!("clearing {input:08X} within {:X?}", bound.row())
+            });
+        }
     }
 }

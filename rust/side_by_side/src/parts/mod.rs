@@ -45,6 +45,7 @@ pub const ALL: &[Part] = &[
     Part::new("library: short lists", library_stream::short_lists),
     Part::new("library: lists", library_stream::lists),
     Part::new("library: resumed", library_stream::resumed),
+    Part::new("library: older streams", library_stream::older),
     Part::new("library: damaged", library_stream::damaged),
     Part::new("library: repeats", library_stream::repeats),
     Part::new("library: states", library_stream::states),

@@ -14,7 +14,8 @@ pub fn pmc_mean(context: &mut Context) {
     for _ in 0..context.rounds(120_000) {
         let count = context.inputs.below(40) as usize;
         let values = context.inputs.values(count);
-        let mut state = PMCMean::new(context.inputs.bound()).expect("an allowed bound");
+        let bound = context.inputs.bound_for(&values);
+        let mut state = PMCMean::new(bound).expect("an allowed bound");
         for value in values {
             state = step(context, state, value);
         }
@@ -33,10 +34,12 @@ pub fn pmc_mean(context: &mut Context) {
 }
 
 fn step(context: &mut Context, state: PMCMean, value: u32) -> PMCMean {
-    let (fits, next) = state.fit_value(value).expect("a state that may be used");
+    let ask = || state.fit_value(value).expect("a state that may be used");
+    let said = |(fits, next): (bool, PMCMean)| -> Step { (fits, next.row()) };
+    let today = ask();
+    let first = context.first(&said(today), || said(ask()));
     for rust in context.rust {
-        let (their_fits, theirs) = (rust.pmc_step)(state, value);
-        let (mut ours, mut theirs): (Step, Step) = ((fits, next.row()), (their_fits, theirs.row()));
+        let (mut ours, mut theirs) = (first, said((rust.pmc_step)(state, value)));
         if !rust.is_filled() {
             // Listed: which of two zeros is the minimum depends on the build there.
             (ours, theirs) = (without_zero_signs(ours), without_zero_signs(theirs));
@@ -45,7 +48,7 @@ fn step(context: &mut Context, state: PMCMean, value: u32) -> PMCMean {
             format!("PMC {:X?} with {value:08X}", state.row())
         });
     }
-    next
+    today.1
 }
 
 fn without_zero_signs((fits, mut row): Step) -> Step {

@@ -20,7 +20,7 @@ pub fn segments(context: &mut Context) {
         let most = context.inputs.pick(&[0, 1, 3, 20, 255]);
         let count = context.inputs.below(most + 1) as usize;
         let residuals = context.inputs.values(count);
-        let bound = context.inputs.bound();
+        let bound = context.inputs.bound_for(&residuals);
         let model = any_model(context);
         let bytes = written(model, bound, &residuals);
         compare_writing(context, model, bound, &residuals, &bytes);
@@ -96,8 +96,8 @@ fn written(model: Model, bound: ErrorBound, residuals: &[u32]) -> SegmentBytes {
     }
 }
 
-/// Listed: a form that does not read back; rewriting by log2 and the signs of zeros in the published
-/// text.
+/// The segment by the first rules beside those of the Rust's text. Listed: a form that does not read back;
+/// rewriting by log2 and the signs of zeros in the published text.
 pub fn compare_writing(
     context: &mut Context,
     model: Model,
@@ -106,6 +106,7 @@ pub fn compare_writing(
     bytes: &SegmentBytes,
 ) {
     let input = || format!("segment of {model:X?} {:X?} {residuals:08X?}", bound.row());
+    let bytes = context.first(bytes, || written(model, bound, residuals));
     for rust in context.rust {
         let theirs = (rust.segment_write)(model, bound, residuals);
         let lossy = !rust.is_filled() && bound != Lossless;

@@ -60,7 +60,8 @@ impl Old<'_> {
 fn of_a_model(context: &mut Context, rust: &Calls) {
     let most = context.inputs.pick(&[0, 1, 3, 20, 255]);
     let count = context.inputs.below(most + 1) as usize;
-    let (residuals, bound) = (context.inputs.values(count), context.inputs.bound());
+    let residuals = context.inputs.values(count);
+    let bound = context.inputs.bound_for(&residuals);
     let model = any_model(context);
     let owned = 2 + context.inputs.below(12) as usize;
     let times = context.inputs.times(owned + count);
@@ -175,8 +176,11 @@ fn any_model(context: &mut Context) -> Model {
 /// 8: The stream of a segment of model 2 is read by the calls on streams.
 fn of_a_stream(context: &mut Context, rust: &Calls) {
     let count = 1 + context.inputs.below(40) as usize;
-    let (values, bound) = (context.inputs.values(count), context.inputs.bound());
-    let times = context.inputs.times(count);
+    let values = context.inputs.values(count);
+    let (bound, times) = (
+        context.inputs.bound_for(&values),
+        context.inputs.times(count),
+    );
     let write = || (rust.write)(bound, &[(Opening::WithFirst, &values)]).bytes;
     let Some(stream) = caught(write) else {
         is_a_negative_shift(context, bound, &values);

@@ -4,7 +4,7 @@ use super::said::{Row, decimal, ends, fits, row};
 use crate::face::safe_bound;
 use crate::inputs::{ONE, TWO};
 use modelardb_rattle::{self as library, ErrorBound as Bound, Refusal};
-use oracle::paper::models::ErrorBound::{self, Absolute, Lossless};
+use oracle::paper::models::ErrorBound::{self, Absolute, Lossless, Relative};
 use oracle::paper::pmc_mean::PMCMean;
 use oracle::paper::swing::Swing;
 use oracle::paper::types::{ModelBuilder, PMC_MEAN_ID, choose_model};
@@ -26,6 +26,7 @@ pub fn rows() -> Vec<Row> {
     rows.extend(under_no_bound());
     rows.extend(choices());
     rows.extend(choices_of_no_model());
+    rows.extend(at_the_bound());
     rows
 }
 
@@ -96,6 +97,58 @@ fn minimum_of_zeros() -> Row {
         there,
         decimal,
     )
+}
+
+/// 11: Readings at the bound.
+fn at_the_bound() -> [Row; 4] {
+    let (hundred, more) = (100f32.to_bits(), 114f32.to_bits());
+    [
+        taken(
+            "PMC-Mean, Relative(14): 25, 32",
+            Relative(14.0),
+            [25.0, 32.0],
+        ),
+        taken(
+            "PMC-Mean, Relative(15): 10, 13",
+            Relative(15.0),
+            [10.0, 13.0],
+        ),
+        taken(
+            "PMC-Mean, Absolute(0.5): 0.4, −0.6",
+            Absolute(0.5),
+            [0.4, -0.6],
+        ),
+        choice(
+            "choice of 100 at 0, 114 at 1, Relative(7), M 2",
+            Relative(7.0),
+            vec![(0, hundred), (1, more)],
+        ),
+    ]
+}
+
+/// How many of two values PMC-Mean takes, and their average.
+fn taken(input: &'static str, bound: ErrorBound, values: [f32; 2]) -> Row {
+    let values = values.map(f32::to_bits);
+    let over = move |step: &dyn Fn(PMCMean, u32) -> (bool, PMCMean)| {
+        let (_, one) = step(pmc_mean_under(bound), values[0]);
+        step(one, values[1]).1
+    };
+    let paper = over(&|state, value| state.fit_value(value).expect(ALLOWED));
+    let mut ours = library::PMCMean::new(safe_bound(bound)).expect(ALLOWED);
+    for value in values {
+        ours.fit_value_bits(value).expect(ALLOWED);
+    }
+    let here = (
+        paper.model().map(|average| (paper.length, average)),
+        ours.model_bits().map(|average| (ours.len(), average)),
+    );
+    let there = move |rust: &Calls| {
+        let state = over(&rust.pmc_step);
+        Some((state.length, (rust.pmc_model)(state)))
+    };
+    row(input, here, there, |(length, average)| {
+        format!("takes {length}, as {}", decimal(average))
+    })
 }
 
 /// 9: A second point at a time that is not allowed.

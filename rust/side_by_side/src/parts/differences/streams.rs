@@ -18,6 +18,7 @@ pub fn rows() -> Vec<Row> {
     let mut rows = kept();
     rows.extend(two_calls());
     rows.extend(written_whole());
+    rows.extend(at_the_bound());
     rows.extend(read());
     rows
 }
@@ -51,6 +52,11 @@ fn by_library(bound: ErrorBound, opening: Opening, calls: &[&[u32]]) -> Result<V
     Ok(buffer)
 }
 
+fn read_by_library(bytes: &[u8], count: usize, opening: Opening) -> Result<Vec<u32>, Refusal> {
+    let mut out = vec![0; count];
+    library::macaque_v::grid_bits(bytes, count, of_library(opening), &mut out).map(|()| out)
+}
+
 /// 2: What is kept of a value after another.
 fn kept() -> Vec<Row> {
     let (million, of) = (1e6f32.to_bits(), f32::to_bits);
@@ -75,6 +81,12 @@ fn kept() -> Vec<Row> {
             Relative(0.07),
             (0, 0x0011_1BF2),
         ),
+        // 11: A reading whose bits are cleared up to the bound.
+        kept_one(
+            "MacaqueV, Relative(37): 52012.7 after 0",
+            Relative(37.0),
+            (0, of(52012.7)),
+        ),
     ]
 }
 
@@ -86,10 +98,8 @@ fn kept_one(input: &'static str, bound: ErrorBound, (last, value): (u32, u32)) -
     };
     let paper = by_paper(bound, opening, &[&[value]]);
     let paper = paper.map_err(Fault::from).and_then(read);
-    let ours = by_library(bound, opening, &[&[value]]).and_then(|bytes| {
-        let mut out = [0];
-        library::macaque_v::grid_bits(&bytes, 1, of_library(opening), &mut out).map(|()| out[0])
-    });
+    let ours = by_library(bound, opening, &[&[value]]);
+    let ours = ours.and_then(|bytes| Ok(read_by_library(&bytes, 1, opening)?[0]));
     let there = move |rust: &Calls| {
         let bytes = (rust.write)(bound, &[(opening, &[value])]).bytes;
         (rust.read)(&bytes, 1, opening).map(|kept| kept[0])
@@ -142,6 +152,66 @@ fn written_whole() -> [Row; 2] {
             vec![ONE; MANY],
         ),
     ]
+}
+
+/// 11: A reading at the bound behind another.
+fn at_the_bound() -> [Row; 4] {
+    [
+        behind_another(
+            "MacaqueV, Relative(28): 18, 25",
+            Relative(28.0),
+            [18.0, 25.0],
+        ),
+        behind_another(
+            "MacaqueV, Relative(15): 17, 20",
+            Relative(15.0),
+            [17.0, 20.0],
+        ),
+        behind_another(
+            "MacaqueV, Relative(20): 15.2, 19",
+            Relative(20.0),
+            [15.2, 19.0],
+        ),
+        behind_another(
+            "MacaqueV, Absolute(0.5): 0.1, −0.4",
+            Absolute(0.5),
+            [0.1, -0.4],
+        ),
+    ]
+}
+
+/// What was written, and what is read from it.
+type Stream = (Vec<u8>, Vec<u32>);
+
+/// Two values, the first in full, as they are written and read. The text reads its own stream and the library's as the
+/// library does.
+fn behind_another(input: &'static str, bound: ErrorBound, list: [f32; 2]) -> Row {
+    let (opening, list) = (Opening::WithFirst, list.map(f32::to_bits));
+    let paper = by_paper(bound, opening, &[&list]).map_err(Fault::from);
+    let paper = paper.and_then(|bytes| {
+        let mut out = vec![0; list.len()];
+        macaque_v::grid(&bytes, list.len(), opening, &mut out).map(|()| (bytes, out))
+    });
+    let read = move |bytes: Vec<u8>| -> Result<Stream, Refusal> {
+        let values = read_by_library(&bytes, list.len(), opening)?;
+        Ok((bytes, values))
+    };
+    let ours = by_library(bound, opening, &[&list]).and_then(read);
+    let here = (paper, ours.clone());
+    let there = move |rust: &Calls| {
+        let streams = [
+            ours.clone(),
+            read((rust.write)(bound, &[(opening, &list)]).bytes),
+        ];
+        let [ours, theirs] = streams.map(Result::ok);
+        let is_alike = |(bytes, values): &Stream| {
+            (rust.read)(bytes, list.len(), opening).as_ref() == Some(values)
+        };
+        theirs.filter(|theirs| is_alike(theirs) && ours.as_ref().is_some_and(is_alike))
+    };
+    row(input, here, there, |(written, read)| {
+        format!("{}, read as {}", bytes(written), values(read))
+    })
 }
 
 /// 9 and 10: Streams as they are read.

@@ -20,10 +20,14 @@ pub fn runs(context: &mut Context) {
     for _ in 0..context.rounds(5_000) {
         let most = context.inputs.pick(&[8, 64, 64, 1000]);
         let count = context.inputs.below(most + 1) as usize;
+        let (times, values) = (
+            context.inputs.any_times(count),
+            context.inputs.values(count),
+        );
         let run = Run {
-            times: context.inputs.any_times(count),
-            values: context.inputs.values(count),
-            bound: context.inputs.bound(),
+            bound: context.inputs.bound_for(&values),
+            times,
+            values,
             m: context.inputs.pick(&metadata::SIZES),
         };
         over(context, &run);

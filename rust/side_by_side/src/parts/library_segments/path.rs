@@ -21,10 +21,11 @@ pub fn paths(context: &mut Context) {
     for _ in 0..context.rounds(8_000) {
         let most = context.inputs.pick(&[3, 12, 60, 300]);
         let count = 1 + context.inputs.below(most) as usize;
+        let (times, values) = (context.inputs.times(count), context.inputs.values(count));
         let run = Run {
-            times: context.inputs.times(count),
-            values: context.inputs.values(count),
-            bound: context.inputs.bound(),
+            bound: context.inputs.bound_for(&values),
+            times,
+            values,
             m: 1 + context.inputs.below(24) as usize,
         };
         along(context, &run);

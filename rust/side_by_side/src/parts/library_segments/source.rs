@@ -33,8 +33,8 @@ impl Source {
     pub fn any(context: &mut Context, count: usize) -> Self {
         let inputs = &mut context.inputs;
         let model = (inputs.below(2) as u32, (inputs.value(), inputs.value()));
-        let bound = inputs.bound();
-        Self::new(model, bound, inputs.values(count))
+        let residuals = inputs.values(count);
+        Self::new(model, inputs.bound_for(&residuals), residuals)
     }
 
     /// Memory for each output: room for any such segment, and places to spare.

@@ -59,7 +59,7 @@ pub fn lists(context: &mut Context) {
         let most = context.inputs.pick(&[8, 64, 1000]);
         let count = context.inputs.below(most + 1) as usize;
         let values = context.inputs.values(count);
-        let (bound, opening) = (context.inputs.bound(), context.inputs.opening());
+        let (bound, opening) = (context.inputs.bound_for(&values), context.inputs.opening());
         every_way(context, bound, opening, &values);
     }
 }
@@ -106,7 +106,8 @@ fn written_and_read(
     stream
 }
 
-/// The library's stream, values and sum beside those of the Rust's text.
+/// The library's stream, by the first rules where those part, and its values and sum beside those of the Rust's
+/// text.
 fn beside_the_rust(
     context: &mut Context,
     bound: ErrorBound,

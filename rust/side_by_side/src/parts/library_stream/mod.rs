@@ -6,6 +6,7 @@ mod causes;
 mod damaged;
 mod lists;
 mod marked;
+mod older;
 pub mod reading;
 mod repeats;
 mod resumed;
@@ -16,6 +17,7 @@ pub use causes::causes;
 pub use damaged::damaged;
 pub use lists::{lists, short_lists};
 pub use marked::marked;
+pub use older::older;
 pub use reading::reading;
 pub use repeats::repeats;
 pub use resumed::resumed;
@@ -67,7 +69,7 @@ impl Stream {
     /// A stream of so many values, of any bound and opening.
     pub fn any(context: &mut Context, count: usize) -> Self {
         let values = context.inputs.values(count);
-        let (bound, opening) = (context.inputs.bound(), context.inputs.opening());
+        let (bound, opening) = (context.inputs.bound_for(&values), context.inputs.opening());
         Self::new(context, bound, opening, &values)
     }
 

@@ -53,10 +53,9 @@ fn in_a_row(context: &mut Context, opening: Opening, before: &[u32], run: usize,
         (None, Opening::WithFirst) => 0,
     };
     let values = [before, &vec![last; run], behind].concat();
-    let bound = if run % 2 == 0 {
-        Lossless
-    } else {
-        Absolute(0.5)
+    let bound = match run % 2 {
+        0 => Lossless,
+        _ => Absolute(0.5),
     };
     let stream = Stream::new(context, bound, opening, &values);
     used_as_it_is(context, &stream.bytes, stream.at(0));
