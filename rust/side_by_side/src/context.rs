@@ -174,7 +174,7 @@ pub fn finish(outcomes: impl Iterator<Item = Outcome>) -> ExitCode {
         total.unexplained += counts.unexplained;
     }
     println!(
-        "parted {}: by its first rules the paper answers otherwise",
+        "parted {}: answers that document 01 gave otherwise before the requests of 02",
         total.parted
     );
     println!(

@@ -69,9 +69,27 @@ impl Average {
         let why = if fits {
             format!("average {average}, from {least} to {greatest}: fits")
         } else {
-            format!("average {average} is too far from {far}: does not fit, stops")
+            let away = away(error_bound, far, average);
+            format!("average {average} is {away}: does not fit, stops")
         };
         Ok((fits, why))
+    }
+}
+
+/// How far the average is from a reading that it may not stand for, as the test has it.
+fn away(error_bound: ErrorBound, reading: f32, average: f32) -> String {
+    let real = f64::from(reading);
+    let distance = (real - f64::from(average)).abs();
+    match error_bound {
+        ErrorBound::Lossless => format!("not {reading}"),
+        ErrorBound::Absolute(bound) => {
+            let bound = f64::from(bound);
+            format!("{distance} from {reading}, more than {bound}")
+        }
+        ErrorBound::Relative(bound) => {
+            let percent = (distance / real).abs() * 100.0;
+            format!("{percent}% from {reading}, more than {bound}%")
+        }
     }
 }
 
