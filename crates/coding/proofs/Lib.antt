@@ -2,6 +2,7 @@
 pub mod Keeping
 pub mod Greatest
 pub mod Nearer
+pub mod Narrower
 pub mod Clearing
 pub mod Coding
 pub mod Words
