@@ -4,9 +4,9 @@ use mathlib.Core.Path.{_≡_, refl, sym, ap, _∙_, subst}
 use mathlib.Core.Logic.{_⊎_, inl, inr}
 use mathlib.Core.Bool.{Bool, true, false, not, cond, _&&_, _||_, Bool·beq, true≢false}
 use Prim.Native.Nat.{ℕ, zero, suc, _+_, _-_, _*_, _/_, _%_, _^_, _≤_, _<_, compare, Ordering, Ordering·lt, Ordering·eq, Ordering·gt}
-use native.Mathlib.Nat.{le-trans, le-of-eq, le-of-lt, le-of-suc-le-suc, lt-of-lt-of-le, lt-of-le-of-lt, lt-of-mul-lt-mul-right, not-le-of-lt, mul-comm, mul-assoc, mul-right-comm, mul-le-mul-right, mul-lt-mul-of-pos-right, mul-pos, mul-one, one-mul, zero-mul, add-mul, div-mul-le-self, div-add-mod', div-div-eq-div-mul, le-div-iff-mul-le}
+use native.Mathlib.Nat.{le-trans, le-of-eq, le-of-lt, le-of-suc-le-suc, lt-of-lt-of-le, lt-of-le-of-lt, lt-of-mul-lt-mul-right, not-le-of-lt, mul-comm, mul-assoc, mul-right-comm, mul-le-mul-right, mul-lt-mul-of-pos-right, mul-pos, one-mul, zero-mul, add-mul, div-mul-le-self, div-add-mod', div-div-eq-div-mul, le-div-iff-mul-le}
 use native.Mathlib.Omega.{arith}
-use lib.IntN.{ℤ, pos, negsuc}
+use lib.IntN.{ℤ}
 use lib.Dec.{T, isLe, isEq, ltb, nleb→lt, eqb→eq, lit<, lit≤}
 use lib.Pow.{pow-add, pow-pos, pow-mono}
 use lib.Ieee as Ieee
@@ -18,8 +18,8 @@ use lib.Ieee.Exact.{HasValue, round-exact}
 use lib.Ieee.Nearest.{closest}
 use lib.Ieee.Order.{drop, kept, round-mono, transfer, le-of-values}
 use lib.Ieee.Scale.{grid, round-val}
-use Rattle.numbers.proofs.InFormat.{in-format}
-use Rattle.numbers.proofs.Shifts.{lt-or-le, pow-le-back}
+use Rattle.numbers.proofs.InFormat.{in-format, placed, under-overflow}
+use Rattle.numbers.proofs.Shifts.{lt-or-le}
 use Rattle.models.specs.Floats.{absF, equalOrNan}
 use Rattle.models.specs.Bound.{nearIn, withinIn}
 use Rattle.models.specs.declared.ErrorBound.the-variants.{Absolute}
@@ -187,23 +187,6 @@ module _ (n c : ℕ) (C : 0 < c) (m : ℕ) (k : ℤ) (j : ℕ) (at : m * up k * 
           ]
 
 -- ---- a bound that f32 holds, in units of f32's smallest value
-placed : (l m : ℕ) (e : ℤ) → down e ≤ 2 ^ l → (j : ℕ) × (m * up e * 2 ^ l ≡ m * 2 ^ j * down e)
-placed l m (pos k) h = (k + l, mul-assoc m (2 ^ k) (2 ^ l) ∙ ap (λ (x : ℕ). m * x) (sym (pow-add 2 k l)) ∙ sym (mul-one (m * 2 ^ (k + l))))
-placed l m (negsuc k) h =
-    let j = l - suc k in (
-      j,
-      ap (λ (x : ℕ). x * 2 ^ l) (mul-one m)
-          ∙ ap (λ (x : ℕ). m * 2 ^ x) (sym (back l (suc k) (pow-le-back (suc k) l h)))
-          ∙ ap (λ (x : ℕ). m * x) (pow-add 2 j (suc k))
-          ∙ sym (mul-assoc m (2 ^ j) (2 ^ suc k)),
-    )
-
-under-overflow : (m : ℕ) (e : ℤ) (l j k : ℕ) → m * up e * 2 ^ l ≡ m * 2 ^ j * down e → m * up e < 2 ^ k * down e → m * 2 ^ j < 2 ^ (l + k)
-under-overflow m e l j k at h =
-    lt-of-mul-lt-mul-right (down e)
-    (subst (λ (x : ℕ). x < 2 ^ (l + k) * down e) at
-    (subst (λ (x : ℕ). m * up e * 2 ^ l < x) (mul-right-comm (2 ^ k) (down e) (2 ^ l) ∙ ap (λ (x : ℕ). x * down e) (mul-comm (2 ^ k) (2 ^ l) ∙ sym (pow-add 2 l k))) (mul-lt-mul-of-pos-right h (pow-pos l))))
-
 in-units : (s : Bool) (m : ℕ) (k : ℤ) → T (fits binary32 (fin s m k)) → (j : ℕ) × (m * up k * 2 ^ 149 ≡ m * 2 ^ j * down k) × (m < 2 ^ 24) × (m * 2 ^ j < 2 ^ 277)
 in-units s zero k t =
     (0, ap (λ (x : ℕ). x * 2 ^ 149) (zero-mul (up k)) ∙ zero-mul (2 ^ 149) ∙ sym (ap (λ (x : ℕ). x * down k) (zero-mul 1) ∙ zero-mul (down k)), pow-pos 24, pow-pos 277)

@@ -1,12 +1,12 @@
 -- What is kept, through rows (document 02, W10): every value that the grid draws behind a write passes the within call of the C face against its input, with the
 -- bound's two words as they stand in the row. Assumes nothing.
-use mathlib.Core.Path.{_≡_, refl, sym, ap, ap₂, _∙_, subst}
-use mathlib.Core.Bool.{Bool, true, false, cond, _&&_, true≢false, false≢true}
-use mathlib.Core.List.{List, [], _∷_, _++_}
-use Prim.Native.Nat.{ℕ, _+_, _*_, _^_, _≤_, _<_}
+use mathlib.Core.Path.{_≡_, refl, sym, ap, _∙_, subst}
+use mathlib.Core.Bool.{Bool, true, false, cond, _&&_, false≢true}
+use mathlib.Core.List.{List}
+use Prim.Native.Nat.{ℕ, _^_, _≤_, _<_}
 use native.Mathlib.Omega.{arith}
 use borrow.Author.Tests.{le-leb, le-ltb, leb-true}
-use lib.Dec.{leb, ltb}
+use lib.Dec.{ltb}
 use lib.Ieee.{nan}
 use lib.ListN.{length, take, drop, getD}
 use Rattle.bits.specs.Bits.{Below, wholeBytes}
@@ -18,17 +18,16 @@ use Rattle.models.specs.Calls.{withinAnswer}
 use Rattle.models.specs.declared.ErrorBound.{ErrorBound}
 use Rattle.models.specs.declared.ErrorBound.the-variants.{Lossless, Absolute}
 use Rattle.models.proofs.Tests.{and-left}
-use Rattle.macaque_v.specs.State.{isFirst, openingValue}
+use Rattle.macaque_v.specs.State.{openingValue}
 use Rattle.macaque_v.specs.Write.{writerAt, wroteBy}
 use Rattle.macaque_v.specs.Calls.{writeAnswer}
-use Rattle.macaque_v.specs.Read.{gridAnswer, gridMemory}
 use Rattle.macaque_v.specs.Kept.{KeptWithin}
 use Rattle.macaque_v.specs.declared.MacaqueV.{MacaqueV}
 use Rattle.macaque_v.proofs.Kept as call
 use Rattle.exports.specs.Face.{boundOf, faultSaid, rowAfter, plainFault}
 use Rattle.exports.specs.Words.{small, boundIn, boundFront}
 use Rattle.exports_stream.specs.Row.{writerLength, standsForState, readWriter, writerIn, bytesInUse, lengthWord}
-use Rattle.exports_stream.specs.Calls.{openingOf, countIn, writeFault, writeRow, writeBuffer, gridFault, gridOut, RowMade, RowOfItsBytes, withinFault, withinOut, RowKeptWithin}
+use Rattle.exports_stream.specs.Calls.{openingOf, writeFault, writeRow, writeBuffer, gridFault, gridOut, RowMade, RowOfItsBytes, RowKeptWithin}
 use Rattle.exports_stream.proofs.Words.{a-state}
 use Rattle.exports_stream.proofs.Promises.{a-made-row-stands, place-word, length-word, accepted-zero}
 use Rattle.exports_stream.proofs.Sums.{a-written-row-stands, row-after-a-write}

@@ -1,14 +1,14 @@
 -- The promises on what is kept (document 02, W10), of the calls: every value that a write keeps passes the within test against its input, also behind a stream
 -- that was written by another rule; and what of such a stream is kept. Assumes nothing.
-use mathlib.Core.Path.{_≡_, refl, sym, ap, ap₂, _∙_, subst}
-use mathlib.Core.Bool.{Bool, true, false, not}
+use mathlib.Core.Path.{_≡_, refl, sym, ap, _∙_, subst}
+use mathlib.Core.Bool.{Bool, true, false}
 use mathlib.Core.List.{List, [], _∷_, _++_, append-assoc}
-use Prim.Native.Nat.{ℕ, zero, suc, _+_, _*_, _^_, _≤_, _<_}
+use Prim.Native.Nat.{ℕ, zero, suc, _+_, _^_, _≤_, _<_}
 use native.Mathlib.Omega.{arith}
 use borrow.Author.Tests.{le-ltb, not-false}
-use lib.ListN.{length, take, drop, getD, length-append}
+use lib.ListN.{length, take, drop, getD}
 use lib.Seq.{take-at, drop-at}
-use Rattle.bits.specs.Bits.{Below, bitsOf, wholeBytes}
+use Rattle.bits.specs.Bits.{Below, wholeBytes}
 use Rattle.models.specs.Answers.{answered, refused, answeredOn, judge, keeping, NoneHolds}
 use Rattle.models.specs.Limits.{mostValues}
 use Rattle.models.specs.Bound.{boundAllowed}
@@ -26,16 +26,15 @@ use Rattle.stream.proofs.Calls as calls
 use Rattle.stream.proofs.Formats.{macaque-good}
 use Rattle.coding.specs.Keep.{keepRule}
 use Rattle.coding.proofs.Greatest.{may-replace-itself, kept-may-replace}
-use Rattle.macaque_v.specs.State.{Known, streamIn, stateOf, writerOf, isFirst, openingValue, opened}
-use Rattle.macaque_v.specs.Calls.{lentBytes, writeAnswer, writeMemory}
-use Rattle.macaque_v.specs.Read.{valuesIn, gridCauses, drawn, drawnIn, gridAnswer, gridMemory, reopenAnswer, reopenMemory}
-use Rattle.macaque_v.specs.Write.{coderBy}
+use Rattle.macaque_v.specs.State.{Known, streamIn, stateOf, writerOf, isFirst, openingValue}
+use Rattle.macaque_v.specs.Calls.{writeAnswer, writeMemory}
+use Rattle.macaque_v.specs.Read.{valuesIn, gridCauses, drawn, drawnIn, gridAnswer, gridMemory, reopenAnswer}
 use Rattle.macaque_v.specs.Made.{keptOf, Made, Resumes}
 use Rattle.macaque_v.specs.Sums.{OfItsBytes}
 use Rattle.macaque_v.specs.Kept.{KeptWithin, keptBy, stateBy, WrittenBy, OlderResumes}
 use Rattle.macaque_v.specs.declared.MacaqueV.{MacaqueV}
 use Rattle.macaque_v.specs.declared.Opening.{Opening}
-use Rattle.macaque_v.proofs.Accepting.{coder-good, no-bound-refuses}
+use Rattle.macaque_v.proofs.Accepting.{no-bound-refuses}
 use Rattle.macaque_v.proofs.Promises.{grid-reads-back, any-stream-resumes}
 use Rattle.macaque_v.proofs.Sums.{a-write-stays-of-its-bytes, a-write-reads-on, whole-of-its-bytes}
 

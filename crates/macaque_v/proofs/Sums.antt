@@ -10,16 +10,14 @@ use native.Mathlib.Omega.{arith}
 use borrow.Author.Tests.{le-ltb}
 use lib.Dec.{T, leb}
 use lib.ListN.{length, take, length-append}
-use lib.Seq.{length-take-le}
 use lib.Ieee.{Float, binary32, toBits, fits}
 use Rattle.bits.specs.Bits.{Below, bitsOf, wholeBytes, padded, laidIn, cutIn}
 use Rattle.bits.proofs.Below.{below-nil, below-take}
 use Rattle.bits.proofs.InBytes.{laidIn-nothing, laidIn-used, cutIn-below, take-bits}
 use Rattle.models.specs.Answers.{answered, answeredOn, Cause, _when_, judge, judgedOn, judgedMemory, NoneHolds}
 use Rattle.models.specs.Limits.{mostValues}
-use Rattle.models.specs.Causes.{boundCauses, countCauses}
+use Rattle.models.specs.Causes.{boundCauses}
 use Rattle.models.specs.declared.ErrorBound.{ErrorBound}
-use Rattle.models.specs.declared.Fault.{Fault}
 use Rattle.models.proofs.Judged.{not-answered, same-answer, answered-only}
 use Rattle.models.proofs.Judged as judging
 use Rattle.stream.specs.Format.{macaque, Mode, gathered, rawNext, gatherFrom, Stream, State, fresh, isRaw, bitsFor, windowFor, usable}
@@ -27,7 +25,7 @@ use Rattle.stream.specs.Write.{keptOne, keptFrom, kept, bitsOne, encode, after,
 use Rattle.stream.specs.Read as reading
 use Rattle.stream.specs.Read.{Reading, done, stopped, readN, firstSet, leftover, ended, readAll, bufferAfter}
 use Rattle.stream.specs.Calls as theory
-use Rattle.stream.specs.Calls.{faultAt, valuesRead, reopening, resumed}
+use Rattle.stream.specs.Calls.{valuesRead, reopening, resumed}
 use Rattle.stream.specs.Made.{Resumed}
 use Rattle.stream.proofs.Formats.{macaque-good}
 use Rattle.stream.proofs.Rule.{RuledIn, fresh-ruled, read-ruled, some-bits}

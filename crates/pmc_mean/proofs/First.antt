@@ -3,22 +3,20 @@
 use mathlib.Core.Path.{_≡_, refl, sym, ap, _∙_, subst}
 use mathlib.Core.Bool.{Bool, true, false, _||_, cond, Bool·beq}
 use mathlib.Core.Logic.{_⊎_, inl, inr}
-use Prim.Native.Nat.{ℕ, zero, suc, _+_, _-_, _*_, _^_, _≤_, _<_}
-use native.Mathlib.Nat.{mul-assoc, mul-comm, mul-right-comm, mul-pos, mul-one, one-mul, zero-mul, eq-of-mul-eq-mul-right, lt-of-mul-lt-mul-right, mul-lt-mul-of-pos-right}
+use Prim.Native.Nat.{ℕ, zero, suc, _+_, _-_, _*_, _^_, _<_}
+use native.Mathlib.Nat.{mul-right-comm, mul-pos, mul-one, one-mul, zero-mul, eq-of-mul-eq-mul-right}
 use native.Mathlib.Omega.{arith}
 use borrow.Author.Tests.{ltb-false, eq-eqb}
-use lib.IntN.{ℤ, pos, negsuc}
+use lib.IntN.{ℤ, pos}
 use lib.Dec.{T, eqb, ltb}
-use lib.Pow.{pow-add, pow-pos}
+use lib.Pow.{pow-pos}
 use lib.Ieee as Ieee
 use lib.Ieee.{Float, Format, binary32, binary64, nan, inf, fin, prec, emax, low, up, down, fits, round, ofBits}
 use lib.Ieee.Exact.{HasValue, round-exact}
-use lib.Ieee.Digits.{back}
 use lib.Ieee.Fits.{down-pos, up-pos, fits-widens}
 use lib.Ieee.Bits.{ofBits-fits}
 use Rattle.numbers.specs.Narrowed.{narrowed}
-use Rattle.numbers.proofs.InFormat.{in-format}
-use Rattle.numbers.proofs.Shifts.{pow-le-back}
+use Rattle.numbers.proofs.InFormat.{in-format, placed, under-overflow}
 use Rattle.models.specs.Floats.{zeroF, equalOrNan, minF, maxF}
 use Rattle.models.specs.Bound.{withinIn}
 use Rattle.models.specs.declared.ErrorBound.{ErrorBound}
@@ -41,25 +39,7 @@ rescaled (fin t m e) s a c num den p h v = (
       ∙ mul-right-comm a den (down e)),
 )
 
--- in units of the smallest value it is m, shifted
-placed : (l m : ℕ) (e : ℤ) → down e ≤ 2 ^ l → (j : ℕ) × (m * up e * 2 ^ l ≡ m * 2 ^ j * down e)
-placed l m (pos k) h = (k + l, mul-assoc m (2 ^ k) (2 ^ l) ∙ ap (λ (x : ℕ). m * x) (sym (pow-add 2 k l)) ∙ sym (mul-one (m * 2 ^ (k + l))))
-placed l m (negsuc k) h =
-    let j = l - suc k in (
-      j,
-      ap (λ (x : ℕ). x * 2 ^ l) (mul-one m)
-          ∙ ap (λ (x : ℕ). m * 2 ^ x) (sym (back l (suc k) (pow-le-back (suc k) l h)))
-          ∙ ap (λ (x : ℕ). m * x) (pow-add 2 j (suc k))
-          ∙ sym (mul-assoc m (2 ^ j) (2 ^ suc k)),
-    )
-
 module _ (m : ℕ) (e : ℤ) (l j : ℕ) (shifted : m * up e * 2 ^ l ≡ m * 2 ^ j * down e) where
-  below : (k : ℕ) → m * up e < 2 ^ k * down e → m * 2 ^ j < 2 ^ (l + k)
-  below k h =
-      lt-of-mul-lt-mul-right (down e)
-      (subst (λ (x : ℕ). x < 2 ^ (l + k) * down e) shifted
-      (subst (λ (x : ℕ). m * up e * 2 ^ l < x) (mul-right-comm (2 ^ k) (down e) (2 ^ l) ∙ ap (λ (x : ℕ). x * down e) (mul-comm (2 ^ k) (2 ^ l) ∙ sym (pow-add 2 l k))) (mul-lt-mul-of-pos-right h (pow-pos l))))
-
   same : (num den : ℕ) → num * down e ≡ m * up e * den → num * 2 ^ l ≡ m * 2 ^ j * den
   same num den h =
       eq-of-mul-eq-mul-right (down e) (down-pos e) (num * 2 ^ l) (m * 2 ^ j * den)
@@ -82,7 +62,7 @@ exact f s t (suc m) e num den ok dp h =
     let b = in-format f s m e ok in
     let p = placed (low f) (suc m) e (b .1) in
     rescaled (round f t num den) t (suc m * up e) (down e) num den dp h
-    (round-exact f t num den (suc m) (p .0) dp (b .0) (below (suc m) e (low f) (p .0) (p .1) (suc (emax f)) (b .2)) (same (suc m) e (low f) (p .0) (p .1) num den h))
+    (round-exact f t num den (suc m) (p .0) dp (b .0) (under-overflow (suc m) e (low f) (p .0) (suc (emax f)) (p .1) (b .2)) (same (suc m) e (low f) (p .0) (p .1) num den h))
 
 -- ---- 0 + v, divided by 1, rounded to f32, where v is the finite number of s, m and e
 

@@ -1,7 +1,6 @@
 -- `coding::keep::lossy` meets its contract, test by test. Assumes nothing.
 use borrow.Author.Needs.{needs}
 use mathlib.Core.Path.{_≡_, sym, ap, _∙_}
-use mathlib.Core.Bool.{Bool}
 use lib.Ieee.{Float, binary32, ofBits}
 use Rattle.models.specs.Bound.{within}
 use Rattle.coding.specs.Keep.{mayReplace}
