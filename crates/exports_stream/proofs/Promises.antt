@@ -220,6 +220,33 @@ unfolding reopenBuffer
 reopening-row-keeps-the-length buf used count k mode value kind bound row hl =
     as-long buf _ (reopenFaceCauses buf used count k mode kind bound row) (λ free. call.reopening-keeps-the-length (boundOf kind bound) (openingOf mode value) hl buf used (countIn mode count) k)
 
+-- where the call behind answers a writer and the row has eleven words: nothing is refused, the row begins with the writer's words, and the buffer is what that call leaves
+module _ (kind bound mode value : ℕ) (row : List ℕ) (mode-is : mode ≤ 1) (words : writerLength ≤ length row) (buf : List ℕ) (used n k : ℕ) (now : MacaqueV)
+    (opens : reopenAnswer buf used n k (openingOf mode value) (boundOf kind bound) ≡ answered now) where
+  abbrev said : Said MacaqueV
+  said = reopenAnswer buf used n k (openingOf mode value) (boundOf kind bound)
+
+  abbrev causes : List Cause
+  causes = reopenCauses (boundOf kind bound) (length buf) used n k
+
+  none : NoneHolds causes
+  none = reopened-free buf used n k (openingOf mode value) (boundOf kind bound) now opens
+
+  held : ltb (length row) writerLength ≡ false
+  held = le-ltb (length row) writerLength words
+
+  pub reopened-fault : reopenFault buf used n k mode value kind bound row ≡ noFault
+  unfolding reopenFault
+  reopened-fault = rw (le-leb mode 1 mode-is) (one-more itself (plainFault said) causes 4 (ltb (length row) writerLength) none held ∙ ap plainFault opens)
+
+  pub reopened-row : reopenRow buf used n k mode value kind bound row ≡ writerRow now ++ drop (length (writerRow now)) row
+  unfolding reopenRow
+  reopened-row = rw (le-leb mode 1 mode-is) (one-more (keeping row) (rowIn writerRow row said) causes 4 (ltb (length row) writerLength) none held ∙ ap (rowIn writerRow row) opens)
+
+  pub reopened-buffer : reopenBuffer buf used n k mode value kind bound row ≡ reopenMemory buf used n k (openingOf mode value) (boundOf kind bound)
+  unfolding reopenBuffer
+  reopened-buffer = rw (le-leb mode 1 mode-is) (one-more (keeping buf) (reopenMemory buf used n k (openingOf mode value) (boundOf kind bound)) causes 4 (ltb (length row) writerLength) none held)
+
 module _ (kind bound mode value : ℕ) (row : List ℕ) {xs buf : List ℕ} {m : MacaqueV} (M : Made (boundOf kind bound) (openingOf mode value) xs buf m)
     (hl : openingValue (openingOf mode value) < 2 ^ 32) (bx : Below 32 xs) (ok : boundAllowed (boundOf kind bound) ≡ true)
     (most : length xs ≤ mostValues) (mode-is : mode ≤ 1) (words : writerLength ≤ length row) where
@@ -227,43 +254,22 @@ module _ (kind bound mode value : ℕ) (row : List ℕ) {xs buf : List ℕ} {m :
     abbrev used : ℕ
     used = wholeBytes (m .place)
 
-    abbrev said : Said MacaqueV
-    said = reopenAnswer buf used (length xs) k (openingOf mode value) (boundOf kind bound)
-
     abbrev now : MacaqueV
     now = writerOf (boundOf kind bound) (isFirst (openingOf mode value)) (stateOver (boundOf kind bound) (openingOf mode value) (take k xs))
 
-    abbrev causes : List Cause
-    causes = reopenCauses (boundOf kind bound) (length buf) used (length xs) k
-
-    opens : said ≡ answered now
+    opens : reopenAnswer buf used (length xs) k (openingOf mode value) (boundOf kind bound) ≡ answered now
     opens = reopening-goes-back M bx hl ok most k le .0
-
-    none : NoneHolds causes
-    none = reopened-free buf used (length xs) k (openingOf mode value) (boundOf kind bound) now opens
-
-    held : ltb (length row) writerLength ≡ false
-    held = le-ltb (length row) writerLength words
-
-    fault-is : reopenFault buf used (length xs) k mode value kind bound row ≡ noFault
-    unfolding reopenFault
-    fault-is = rw (le-leb mode 1 mode-is) (one-more itself (plainFault said) causes 4 (ltb (length row) writerLength) none held ∙ ap plainFault opens)
-
-    row-is : reopenRow buf used (length xs) k mode value kind bound row ≡ writerRow now ++ drop (length (writerRow now)) row
-    unfolding reopenRow
-    row-is = rw (le-leb mode 1 mode-is) (one-more (keeping row) (rowIn writerRow row said) causes 4 (ltb (length row) writerLength) none held ∙ ap (rowIn writerRow row) opens)
-
-    buffer-is : reopenBuffer buf used (length xs) k mode value kind bound row ≡ reopenMemory buf used (length xs) k (openingOf mode value) (boundOf kind bound)
-    unfolding reopenBuffer
-    buffer-is = rw (le-leb mode 1 mode-is) (one-more (keeping buf) (reopenMemory buf used (length xs) k (openingOf mode value) (boundOf kind bound)) causes 4 (ltb (length row) writerLength) none held)
 
     -- reopened at any k, the row stands for the writer after the first k inputs, and the cut bytes are those of one fresh run over these
     pub a-row-resumes : (reopenFault buf used (length xs) k mode value kind bound row ≡ noFault)
         × RowMade (boundOf kind bound) (openingOf mode value) (take k xs) (reopenBuffer buf used (length xs) k mode value kind bound row)
         (reopenRow buf used (length xs) k mode value kind bound row)
     a-row-resumes =
-        let made = reopening-goes-back M bx hl ok most k le .1 in
-        (fault-is, rw buffer-is (row-made made hl (below-take 32 k xs bx) (bound-of-held kind bound) _ row-is))
+        let made = reopening-goes-back M bx hl ok most k le .1 in (
+          reopened-fault kind bound mode value row mode-is words buf used (length xs) k now opens,
+          rw (reopened-buffer kind bound mode value row mode-is words buf used (length xs) k now opens)
+              (row-made made hl (below-take 32 k xs bx) (bound-of-held kind bound) _ (reopened-row kind bound mode value row mode-is words buf used (length xs) k now opens)),
+        )
 
     -- as one theorem: any further list that room and count limit allow is accepted through the reopened row, and leaves the bytes and the row of one
     -- fresh run over the first k inputs and the list

@@ -6,6 +6,7 @@ use Prim.Native.Nat.{ℕ, _≤_, _<_}
 use lib.Dec.{eqb, leb, ltb}
 use lib.ListN.{length, take, drop, getD}
 use lib.Ieee.{binary32, ofBits, toBits}
+use Rattle.bits.specs.Bits.{Below}
 use Rattle.models.specs.Answers.{Said, Cause, _when_, judge, judgedMemory, itself, noFault}
 use Rattle.models.specs.declared.Fault.{Fault}
 use Rattle.models.specs.Bound.{boundAllowed}
@@ -185,3 +186,24 @@ pub record RowKeptWithin (row xs vs : List ℕ) : Type 0 where
   pub passes : (i : ℕ) → i < length xs → (out : List ℕ) → 1 ≤ length out
       → (withinFault (getD row 0 0) (getD row 1 0) (getD xs i 0) (getD vs i 0) out ≡ noFault)
       × (withinOut (getD row 0 0) (getD row 1 0) (getD xs i 0) (getD vs i 0) out ≡ 1 ∷ drop 1 out)
+
+-- the grid of the C face, on the bytes in use of a row and with its length as their count
+abbrev pub rowGridFault : ℕ → ℕ → List ℕ → List ℕ → List ℕ → Fault
+rowGridFault mode opening buf row out = gridFault (bytesInUse row buf) (lengthWord row) mode opening out
+
+abbrev pub rowGrid : ℕ → ℕ → List ℕ → List ℕ → List ℕ → List ℕ
+rowGrid mode opening buf row out = gridOut (bytesInUse row buf) (lengthWord row) mode opening out
+
+-- an accepted write of ys through a row, on a buffer: the values that stood there are drawn as us, and behind them one for each of ys, which passes
+pub record RowWritesOn (mode opening : ℕ) (buf row us ys out : List ℕ) : Type 0 where
+  pub draws : rowGridFault mode opening (writeBuffer row ys buf) (writeRow row ys buf) out ≡ noFault
+  pub before : take (lengthWord row) (rowGrid mode opening (writeBuffer row ys buf) (writeRow row ys buf) out) ≡ us
+  pub newly : RowKeptWithin row ys (take (length ys) (drop (lengthWord row) (rowGrid mode opening (writeBuffer row ys buf) (writeRow row ys buf) out)))
+
+-- "On any accepted stream, even one this writer would not write, reopening at k and writing reads back as the first k values and then the newly kept ones": the first `used` bytes of buf read
+-- as vs, and are reopened at k into a row, which then is `after`, and the buffer `cut`
+pub record RowResumesAny (mode opening : ℕ) (vs : List ℕ) (k : ℕ) (fault : Fault) (after cut : List ℕ) : Type 0 where
+  pub opens : fault ≡ noFault
+  pub counted : lengthWord after ≡ k
+  pub goesOn : (ys : List ℕ) → Below 32 ys → (writeFault after ys cut) .number ≡ 0 → (out : List ℕ) → lengthWord (writeRow after ys cut) ≤ length out
+      → RowWritesOn mode opening cut after (take k vs) ys out

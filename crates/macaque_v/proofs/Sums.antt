@@ -9,9 +9,9 @@ use native.Mathlib.Nat.{add-zero}
 use native.Mathlib.Omega.{arith}
 use borrow.Author.Tests.{le-ltb}
 use lib.Dec.{T, leb}
-use lib.ListN.{length, take, length-append}
+use lib.ListN.{length, take, replicate, length-append}
 use lib.Ieee.{Float, binary32, toBits, fits}
-use Rattle.bits.specs.Bits.{Below, bitsOf, wholeBytes, padded, laidIn, cutIn}
+use Rattle.bits.specs.Bits.{Below, bitsOf, wholeBytes, padding, padded, laidIn, cutIn}
 use Rattle.bits.proofs.Below.{below-nil, below-take}
 use Rattle.bits.proofs.InBytes.{laidIn-nothing, laidIn-used, cutIn-below, take-bits}
 use Rattle.models.specs.Answers.{answered, answeredOn, Cause, _when_, judge, judgedOn, judgedMemory, NoneHolds}
@@ -126,6 +126,10 @@ whole-of-its-bytes {o} {buf} {m} I hl =
     subst (WholeOf S (m .length) (opened o) bits) (ended-inv (readN S (m .length) (opened o) bits) (I .values) (I .end) (I .rest) (I .reads))
     (whole S macaque-good (m .length) (opened o) bits (fresh-small S 32 (openingValue o) hl))
 
+-- they are told by its bytes
+pub its-values : {o : Opening} {buf : List ℕ} {m : MacaqueV} (I : OfItsBytes o buf m) (vs : List ℕ) → valuesIn (take (wholeBytes (m .place)) buf) (m .length) o ≡ answered vs → I .values ≡ vs
+its-values I vs h = same-answer (sym (ap valuesRead (I .reads)) ∙ h)
+
 -- ---- where reading ends, the sum is that of the values
 
 sum-read : (first : Bool) (l n : ℕ) (bits : List Bool) (vs : List ℕ) (t : State Known) (r : List Bool) → readAll (streamIn first) n (fresh (streamIn first) l) bits ≡ done vs t r
@@ -207,30 +211,29 @@ module _ (b : ErrorBound) (o : Opening) (hl : openingValue o < 2 ^ 32) (buf : Li
   abbrev S : Stream Known
   S = streamIn (isFirst o)
 
-  -- the state that reopening found, and the bytes that it cut
-  of-the-cut : used ≤ length buf → (vs : List ℕ) (R : Resumed (keepRule b) S (openingValue o) n k used buf vs) → OfItsBytes o (cutIn buf (R .state .place)) (writerOf b (isFirst o) (R .state))
+  -- the bytes that reopening cut read as the first k values, and end in the state that it found
+  cut-reads : used ≤ length buf → (vs : List ℕ) (R : Resumed (keepRule b) S (openingValue o) n k used buf vs)
+      → readAll S (R .state .count) (opened o) (bitsOf (take (wholeBytes (R .state .place)) (cutIn buf (R .state .place)))) ≡ done (take k vs ++ []) (R .state) (replicate (padding (R .state .place)) false)
   unfolding keptFrom after encode
-  of-the-cut fits vs R =
+  cut-reads fits vs R =
       let t : State Known = R .state in
       let same : laidIn (cutIn buf (t .place)) (t .place) [] ≡ cutIn buf (t .place) = laidIn-nothing (cutIn buf (t .place)) (t .place) (cutIn-below buf (t .place)) in
       let count : k + 0 ≡ t .count = omega (arith, R .counted) in
-      record {
-        mode = λ z. refl;
-        values = take k vs ++ [];
-        end = t;
-        rest = _;
-        reads =
-            ap₂ (λ (j : ℕ) (z : List ℕ). readAll S j (opened o) (bitsOf (take (wholeBytes (t .place)) z))) (sym count) (sym same)
-            ∙ R .reads [] (below-nil 32) (omega (arith, R .placed));
-        state = refl;
-      }
+      ap₂ (λ (j : ℕ) (z : List ℕ). readAll S j (opened o) (bitsOf (take (wholeBytes (t .place)) z))) (sym count) (sym same) ∙ R .reads [] (below-nil 32) (omega (arith, R .placed))
 
-  -- a writer that reopening answers: of its bytes, not too long, with words as a program holds them, and with the bound that was handed in
+  of-the-cut : used ≤ length buf → (vs : List ℕ) (R : Resumed (keepRule b) S (openingValue o) n k used buf vs) → OfItsBytes o (cutIn buf (R .state .place)) (writerOf b (isFirst o) (R .state))
+  of-the-cut fits vs R = record { mode = λ z. refl; values = take k vs ++ []; end = R .state; rest = _; reads = cut-reads fits vs R; state = refl }
+
+  -- a writer that reopening answers: of its bytes, which read as the first k values; not too long, with words as a program holds them, and with the bound that was
+  -- handed in
   pub record Reopened (m : MacaqueV) : Type 0 where
     pub own : OfItsBytes o (reopenMemory buf used n k o b) m
     pub few : m .length ≤ mostValues
     pub held : WordsSmall m
     pub bound : m .«error_bound» ≡ b
+    pub counted : m .length ≡ k
+    pub firsts : (vs : List ℕ) → valuesIn (take used buf) n o ≡ answered vs → valuesIn (take (wholeBytes (m .place)) (reopenMemory buf used n k o b)) (m .length) o ≡ answered (take k vs)
+    pub bytes : Below 8 (reopenMemory buf used n k o b)
 
   pub a-reopened-writer-is-of-its-bytes : (m : MacaqueV) → reopenAnswer buf used n k o b ≡ answered m → Reopened m
   unfolding reopenAnswer reopenMemory
@@ -267,6 +270,13 @@ module _ (b : ErrorBound) (o : Opening) (hl : openingValue o < 2 ^ 32) (buf : Li
             held =
                 held-of-its-bytes own hl (subst (λ (w : MacaqueV). w .«min_value» < 2 ^ 32) is (small .0)) (subst (λ (w : MacaqueV). w .«max_value» < 2 ^ 32) is (small .1));
             bound = ap (λ (w : MacaqueV). w .«error_bound») (sym is);
+            counted = ap (λ (w : MacaqueV). w .length) (sym is) ∙ R .counted;
+            firsts = λ us h.
+                ap₂ (λ (w : MacaqueV) (z : List ℕ). valuesIn (take (wholeBytes (w .place)) z) (w .length) o) (sym is) left
+                ∙ ap valuesRead (cut-reads fits vs R)
+                ∙ ap answered (append-nil (take k vs))
+                ∙ ap (λ (z : List ℕ). answered (take k z)) (same-answer (sym (ap valuesRead e) ∙ h));
+            bytes = subst (Below 8) (sym left) (cutIn-below buf (R .state .place));
           }
 
   -- "Each reopening .. keeps it equal to what the sum call would answer on the used bytes", whichever stream is accepted
