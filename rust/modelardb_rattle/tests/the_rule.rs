@@ -1,5 +1,7 @@
 //! docs/THE-RULE.md shows what the program `rule` prints, table and worked example, and README the example.
 
+use modelardb_rattle::{ErrorBound, PMCMean, is_value_within_error_bound};
+
 #[path = "../examples/shared/readings.rs"]
 mod readings;
 #[path = "../examples/rule/steps.rs"]
@@ -57,4 +59,34 @@ fn the_worked_example_is_what_the_library_says() {
 fn the_readme_shows_the_worked_example() {
     let said = worked_example();
     assert!(README.contains(&said), "README lacks:\n{said}");
+}
+
+/// What the page says of readings of one decimal: of the neighbours how many are not within the bound of each other, and
+/// of the pairs two tenths apart how many PMC-Mean does not take together.
+#[test]
+fn readings_of_one_decimal_mostly_miss_a_bound_of_a_tenth() {
+    let readings: Vec<f32> = (200..=250u8)
+        .map(|tenths| f32::from(tenths) / 10.0)
+        .collect();
+    let missed = |bound: f32| {
+        let bound = ErrorBound::Absolute(bound);
+        let is_apart =
+            |pair: &&[f32]| is_value_within_error_bound(bound, pair[0], pair[1]) == Ok(false);
+        let is_refused = |three: &&[f32]| {
+            let mut model = PMCMean::new(bound).expect("an allowed bound");
+            [three[0], three[2]].map(|value| model.fit_value(value)) != [Ok(true); 2]
+        };
+        let neighbours = readings.windows(2);
+        let pairs = readings.windows(3);
+        (
+            neighbours.filter(is_apart).count(),
+            pairs.filter(is_refused).count(),
+        )
+    };
+    assert_eq!(
+        (readings.windows(2).len(), readings.windows(3).len()),
+        (50, 49)
+    );
+    assert_eq!(missed(0.1), (40, 49));
+    assert_eq!(missed(0.1001), (0, 0));
 }
