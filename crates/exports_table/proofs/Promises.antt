@@ -27,6 +27,7 @@ use Rattle.places.specs.Table.{entries, entriesFor, entriesIn}
 use Rattle.places.specs.Calls.{entriesLent, tableIn, Beside, OwnTable}
 use Rattle.macaque_v.specs.State.{Known, streamIn, isFirst, openingValue, opened}
 use Rattle.macaque_v.specs.Made.{stateOver, keptOf, Made}
+use Rattle.macaque_v.specs.Size.{mostOf}
 use Rattle.macaque_v.specs.Calls.{writeAnswer}
 use Rattle.macaque_v.specs.Read.{valuesIn, gridAnswer, gridMemory}
 use Rattle.macaque_v.specs.declared.MacaqueV.{MacaqueV}
@@ -164,6 +165,11 @@ module _ {b : ErrorBound} {o : Opening} {xs buf row words : List ℕ} {in-use : 
       → (stateOver b o (xs ++ ys)) .place ≤ 8 * length buf → entriesFor (length xs + length ys) ≤ entriesLent (length words)
       → tableWriteFault row ys buf words in-use ≡ noFault
   a-row-with-its-table-is-accepted bx ok ys most room lent = ap stepFault (call.a-write-is-accepted (R .beside) bx hl ok ys most room lent)
+
+  -- so where the bytes hold the most bits that n values can take, and the table their entries, what is left of n is accepted
+  pub a-row-with-its-table-has-room : Below 32 xs → boundAllowed b ≡ true → (n : ℕ) → n ≤ mostValues → wholeBytes (mostOf n o) ≤ length buf → entriesFor n ≤ entriesLent (length words)
+      → (ys : List ℕ) → length xs + length ys ≤ n → tableWriteFault row ys buf words in-use ≡ noFault
+  a-row-with-its-table-has-room bx ok n most room lent ys few = ap stepFault (call.a-write-has-room (R .beside) bx hl ok n most room lent ys few)
 
 -- ---- reopening through a row
 

@@ -7,7 +7,8 @@ use mathlib.Core.Logic.{_⊎_}
 use mathlib.Core.List.{List, [], _∷_, _++_}
 use mathlib.Core.Option.{some}
 use Prim.Native.Nat.{ℕ, _+_, _-_, _*_, _^_, _≤_, _<_}
-use lib.ListN.{length, take, drop, getElem?}
+use native.Mathlib.Omega.{arith}
+use lib.ListN.{length, take, drop, getElem?, length-append}
 use Rattle.bits.specs.Bits.{Below, bitsOf, wholeBytes}
 use Rattle.models.specs.Answers.{fault, answered, refused, answeredOn, refusedOn, keeping, NoneHolds}
 use Rattle.models.proofs.Judged.{accepted}
@@ -32,9 +33,11 @@ use Rattle.macaque_v.specs.Write.{coderOf, coderBy}
 use Rattle.macaque_v.specs.Calls.{newAnswer, writeAnswer, writeMemory}
 use Rattle.macaque_v.specs.Read.{valuesIn, reopenAnswer, reopenMemory}
 use Rattle.macaque_v.specs.Made.{stateOver, keptOf}
+use Rattle.macaque_v.specs.Size.{mostOf}
 use Rattle.macaque_v.specs.declared.MacaqueV.{MacaqueV}
 use Rattle.macaque_v.specs.declared.Opening.{Opening}
 use Rattle.macaque_v.proofs.Accepting as writer
+use Rattle.macaque_v.proofs.Room.{a-stream-has-room}
 use Rattle.place_table.specs.Calls.{tableWriteAnswer, tableWriteMemory, tableWriteTable, tableReopenAnswer, tableReopenMemory, checkAnswer, rangeCauses, rangeAnswer, rangeMemory}
 use Rattle.place_table.specs.Made.{tableOver, MadeBeside, writerOver, over, WritesBeside, ReopensBeside, TableResumesAsOne, TableResumes}
 
@@ -111,6 +114,12 @@ module _ {b : ErrorBound} {o : Opening} {xs buf : List ℕ} {m : MacaqueV} {word
       ap (λ (w : MacaqueV). tableWriteAnswer w ys buf words entries) (M .made .writer)
       ∙ calls.a-write-with-a-table-is-accepted (coderOf b (isFirst o)) (writer.coder-good b (isFirst o)) (openingValue o) (in-theory M) bx hl (writer.no-bound-refuses b ok) ys
       most room lent
+
+  -- so where the bytes hold the most bits that n values can take, and the table their entries, what is left of n is accepted
+  pub a-write-has-room : Below 32 xs → openingValue o < 2 ^ 32 → boundAllowed b ≡ true → (n : ℕ) → n ≤ mostValues → wholeBytes (mostOf n o) ≤ length buf
+      → entriesFor n ≤ entriesLent (length words) → (ys : List ℕ) → length xs + length ys ≤ n → tableWriteAnswer m ys buf words entries ≡ answeredOn (over b o (xs ++ ys))
+  a-write-has-room bx hl ok n most room lent ys few =
+      a-write-is-accepted bx hl ok ys (omega arith) (a-stream-has-room b o n (length buf) room (xs ++ ys) (omega (arith, few, length-append xs ys))) (omega arith)
 
   -- ---- "reopening at k drops those for k and above": it answers the writer after the first k inputs and how many entries stay, and leaves the buffer as the
   -- plain call does; the entries below k stay, and are the table of these inputs

@@ -4,7 +4,7 @@ use mathlib.Core.Path.{_≡_, refl, ap, _∙_}
 use mathlib.Core.Logic.{_⊎_, inl, inr}
 use mathlib.Core.Bool.{Bool, true, false, cond}
 use mathlib.Core.List.{List, [], _∷_, _++_}
-use Prim.Native.Nat.{ℕ, _+_, _*_, _≤_}
+use Prim.Native.Nat.{ℕ, zero, suc, _+_, _-_, _*_, _≤_}
 use native.Mathlib.Omega.{arith}
 use borrow.Author.Tests.{eqb-false}
 use lib.Count.{leadingZeros, trailingZeros}
@@ -18,16 +18,24 @@ use Rattle.stream.specs.Read.{countOf}
 use Rattle.stream.specs.Calls.{gorillaStream, gorillaCoder, valuesIn, gridAnswer, gridMemory, newAnswer, writeAnswer, writeMemory, reopenAnswer, reopenMemory}
 use Rattle.stream.specs.Made.{MadeBy, stateOver, ResumesAsOne, Resumes}
 use Rattle.stream.specs.Needs.{longest, GoodCoder}
+use Rattle.stream.specs.Size.{mostBits}
 use Rattle.stream.proofs.Formats.{Framed, gorilla-good}
 use Rattle.stream.proofs.Writing.{kept-lossless, lossless-keeps}
 use Rattle.stream.proofs.Rule.{usable-says}
 use Rattle.stream.proofs.Calls as calls
+use Rattle.stream.proofs.Size as size
 
 -- ---- its numbers
 
 -- a code has at most 77 bits: 2 of its word, 5, 6, and 64
 pub at-most-77 : longest gorilla ≡ 77
 at-most-77 = refl
+
+-- so n values take at most 64 bits for n = 1, and 64 + 76 × (n − 1) + 1 above that
+pub its-most-bits : (n : ℕ) → 2 ≤ n → mostBits gorilla true n ≡ 64 + 76 * (n - 1) + 1
+its-most-bits zero p = absurd (omega arith)
+its-most-bits (suc zero) p = absurd (omega arith)
+its-most-bits (suc (suc n)) p = omega arith
 
 -- "7 is only leading + meaningful above 64": no count is 0
 pub no-count-is-zero : (c : ℕ) → ¬ (countOf gorilla c ≡ 0)
@@ -64,6 +72,11 @@ module _ {A : Type 0} (G : Gather A) where
       pub a-write-is-accepted : (ys : List ℕ) → length xs + length ys ≤ mostValues → (stateOver (gorillaCoder G) 0 (xs ++ ys)) .place ≤ 8 * length buf
           → writeAnswer (gorillaCoder G) (stateOver (gorillaCoder G) 0 xs) ys buf ≡ answeredOn (stateOver (gorillaCoder G) 0 (xs ++ ys))
       a-write-is-accepted = calls.a-write-is-accepted (gorillaCoder G) coder-good 0 M bx (omega arith) tt
+
+      -- with room for the most bits that n values take, what is left of n is accepted
+      pub a-write-has-room : (n : ℕ) → n ≤ mostValues → wholeBytes (mostBits gorilla true n) ≤ length buf → (ys : List ℕ) → length xs + length ys ≤ n
+          → writeAnswer (gorillaCoder G) (stateOver (gorillaCoder G) 0 xs) ys buf ≡ answeredOn (stateOver (gorillaCoder G) 0 (xs ++ ys))
+      a-write-has-room = size.a-write-has-room (gorillaCoder G) coder-good (omega arith) 0 M bx (omega arith) tt
 
       module _ (few : length xs ≤ mostValues) where
         pub reopening-goes-back : (k : ℕ) → k ≤ length xs

@@ -3,7 +3,7 @@
 use mathlib.Core.Path.{_≡_, refl, sym, ap, ap₂, _∙_}
 use mathlib.Core.Bool.{Bool, true, false}
 use mathlib.Core.List.{List, [], _∷_, _++_, append-nil, foldl}
-use Prim.Native.Nat.{ℕ, _+_, _*_, _^_, _≤_, _<_}
+use Prim.Native.Nat.{ℕ, zero, suc, _+_, _-_, _*_, _^_, _≤_, _<_}
 use native.Mathlib.Nat.{add-zero}
 use native.Mathlib.Omega.{arith}
 use lib.ListN.{length, take, replicate}
@@ -11,12 +11,13 @@ use Rattle.bits.specs.Bits.{Below, field, bitsOf, wholeBytes, up, padding, padd
 use Rattle.bits.proofs.Bytes.{length-bitsOf}
 use Rattle.bits.proofs.Writes.{laid-used, cut-used}
 use Rattle.bits.proofs.InBytes.{bits-laidIn, length-laidIn, laidIn-nothing, laidIn-before, laidIn-after, bits-cutIn, length-cutIn, cutIn-before, cutIn-after}
-use Rattle.stream.specs.Format.{Format, macaque, gorilla, bitsFor, Gather, gatherFrom, Mode, withFirst, withoutFirst, Stream, State, fresh, mostValues, usable}
+use Rattle.stream.specs.Format.{Format, macaque, gorilla, bitsFor, Gather, gatherFrom, Mode, withFirst, withoutFirst, Stream, macaqueOf, State, fresh, isRaw, mostValues, usable}
 use Rattle.stream.specs.Write.{lossless, keptFrom, kept, Keeps, written, wrote, wroteIn}
 use Rattle.stream.specs.Read.{StreamRefusal, done, stopped, readAll, Reopened, reopened, unopened, reopen, bufferAfter}
 use Rattle.stream.specs.Made.{Made, Resumed, Rewritten}
 use Rattle.stream.specs.Cases.{cases, AllRight}
 use Rattle.stream.specs.Needs.{Good}
+use Rattle.stream.specs.Size.{mostBits, Largest}
 use Rattle.stream.proofs.Formats.{macaque-good, gorilla-good}
 use Rattle.stream.proofs.Writing.{place-after, wrote-append}
 use Rattle.stream.proofs.Rule.{wrote-usable}
@@ -26,6 +27,8 @@ use Rattle.stream.proofs.Reopen.{refused-reopen}
 use Rattle.stream.proofs.Made as spine
 use Rattle.stream.proofs.AnyStream.{any-resumed}
 use Rattle.stream.proofs.Marked.{marked}
+use Rattle.stream.proofs.Size.{written-most}
+use Rattle.stream.proofs.Largest.{macaque-turns, gorilla-turns, largest}
 
 -- ---- demand 2: what was written reads back. And demand 3: a stream that is stopped and resumed is the stream of one fresh run.
 
@@ -166,6 +169,37 @@ reopening-changes-only-the-cut-bits buf p small room =
           ∙ ap padded (sym (append-nil (take p (bitsOf buf))));
       behind = cutIn-after buf p room (wholeBytes (p + 0)) (omega arith) (omega arith) small;
     }
+
+-- ---- how large a stream can get (document 02, W9)
+
+-- n values take at most so many bits, by any rule of what is kept and from any state; a fresh one is such a state, whose first value is raw in the mode with one
+pub values-take-no-more : {A : Type 0} (S : Stream A) → Good (S .format) → 1 < S .format .width → (rule : ℕ → ℕ → ℕ) (s : State A) (xs : List ℕ)
+    → length (written rule S s xs) ≤ mostBits (S .format) (isRaw S s) (length xs)
+values-take-no-more = written-most
+
+-- "For lossless streams show for each n a list that reaches the bound": of MacaqueV, and of the stream of the Gorilla paper
+pub some-values-take-as-many : {A : Type 0} (mode : Mode) (G : Gather A) (l : ℕ) → l < 2 ^ 32 → (n : ℕ) → Largest (macaqueOf mode G) l n
+some-values-take-as-many mode G = largest (macaqueOf mode G) macaque-turns
+
+pub some-doubles-take-as-many : {A : Type 0} (mode : Mode) (G : Gather A) (l : ℕ) → l < 2 ^ 64 → (n : ℕ) → Largest (record { format = gorilla; mode = mode; gather = G }) l n
+some-doubles-take-as-many mode G = largest (record { format = gorilla; mode = mode; gather = G }) gorilla-turns
+
+-- the numbers of MacaqueV: 0 for no value; "44 × n + 1" without a first value; with one "32 bits for n = 1 and at most 32 + 44 × (n − 1) + 1 above that"
+pub no-values-no-bits : (raw : Bool) → mostBits macaque raw 0 ≡ 0
+no-values-no-bits true = refl
+no-values-no-bits false = refl
+
+pub without-a-first-value : (n : ℕ) → 1 ≤ n → mostBits macaque false n ≡ 44 * n + 1
+without-a-first-value zero p = absurd (omega arith)
+without-a-first-value (suc n) p = omega arith
+
+pub a-first-value-alone : mostBits macaque true 1 ≡ 32
+a-first-value-alone = refl
+
+pub with-a-first-value : (n : ℕ) → 2 ≤ n → mostBits macaque true n ≡ 32 + 44 * (n - 1) + 1
+with-a-first-value zero p = absurd (omega arith)
+with-a-first-value (suc zero) p = absurd (omega arith)
+with-a-first-value (suc (suc n)) p = omega arith
 
 -- ---- the marked cases a to l, as one table, and the formats
 

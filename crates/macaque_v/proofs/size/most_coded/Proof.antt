@@ -1,9 +1,8 @@
 -- `macaque_v::size::most_coded` meets its contract. Assumes nothing.
 use borrow.Author.Needs.{needs}
-use mathlib.Core.Path.{_≡_, sym}
-use Prim.Native.Nat.{_<_}
+use mathlib.Core.Path.{_≡_}
 use native.Mathlib.Omega.{arith}
-use Rattle.macaque_v.proofs.Sizes.{most-coded}
+use Rattle.stream.proofs.Promises.{without-a-first-value}
 use Rattle.macaque_v.proofs.size.most_coded.Statement.{statement}
 use Rattle.macaque_v.proofs.size.most_coded.Tie as tie
 
@@ -11,7 +10,7 @@ returns-2 : tie.Need-returns-2
 returns-2 c =
     let n = c .before .args .n in
     let some : ¬ (n ≡ 0) = c .if1 .left in
-    (sym (most-coded n (omega arith)), omega arith)
+    (omega (arith, without-a-first-value n (omega arith)), omega arith)
 
 pub most-coded-spec : {M : Type 1} → statement M
 most-coded-spec = tie.close (tie.spec (λ c. search needs) (λ c. search needs) (λ c. search needs) returns-2)

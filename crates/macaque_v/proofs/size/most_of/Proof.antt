@@ -6,14 +6,15 @@ use Prim.Native.Nat.{ℕ, _+_, _<_}
 use native.Mathlib.Omega.{arith}
 use Rattle.stream.specs.Format.{macaque}
 use Rattle.stream.specs.Size.{mostBits}
-use Rattle.macaque_v.proofs.Sizes.{most-none, most-first}
+use Rattle.stream.proofs.Promises.{no-values-no-bits}
+use Rattle.macaque_v.proofs.Sizes.{most-first}
 use Rattle.macaque_v.proofs.size.most_of.Statement.{statement}
 use Rattle.macaque_v.proofs.size.most_of.Tie as tie
 
 returns : tie.Need-returns
 returns c =
     let a = c .before .args in
-    (sym (ap (mostBits macaque (a .raw)) (c .if1 .taken) ∙ most-none (a .raw)), omega arith)
+    (sym (ap (mostBits macaque (a .raw)) (c .if1 .taken) ∙ no-values-no-bits (a .raw)), omega arith)
 
 returns-2 : tie.Need-returns-2
 returns-2 c =
