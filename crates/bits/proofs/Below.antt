@@ -1,6 +1,6 @@
 -- Lists of numbers of at most w digits. Assumes nothing.
 use Prim.Native.Nat.{ℕ, zero, suc, _^_, _<_}
-use mathlib.Core.List.{List, [], _∷_}
+use mathlib.Core.List.{List, [], _∷_, _++_}
 use lib.ListN.{take, drop, set}
 use lib.Pow.{pow-pos}
 use Rattle.bits.specs.Bits.{Below}
@@ -30,3 +30,9 @@ module _ (w : ℕ) where
   below-drop zero vs b i = b i
   below-drop (suc k) [] b i = b i
   below-drop (suc k) (v ∷ vs) b i = below-drop k vs (λ j. b (suc j)) i
+
+  -- what comes first of a list
+  pub below-front : (us vs : List ℕ) → Below w (us ++ vs) → Below w us
+  below-front [] vs b i = pow-pos w
+  below-front (u ∷ us) vs b zero = b 0
+  below-front (u ∷ us) vs b (suc i) = below-front us vs (λ j. b (suc j)) i

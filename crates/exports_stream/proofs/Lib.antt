@@ -6,5 +6,6 @@ pub mod Numbers
 pub mod Promises
 pub mod Sums
 pub mod Kept
+pub mod Room
 pub mod Broken
 pub mod Causes

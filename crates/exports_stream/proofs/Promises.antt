@@ -107,7 +107,7 @@ module _ (kind bound mode value : ℕ) (row : List ℕ) (hl : openingValue (open
   abbrev newWriter : MacaqueV
   newWriter = writerOf (boundOf kind bound) (isFirst (openingOf mode value)) (opened (openingOf mode value))
 
-  new-opens : newAnswer (boundOf kind bound) (openingOf mode value) ≡ answered newWriter
+  pub new-opens : newAnswer (boundOf kind bound) (openingOf mode value) ≡ answered newWriter
   unfolding newAnswer judge
   new-opens = rw ok
 

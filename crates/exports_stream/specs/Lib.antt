@@ -2,3 +2,4 @@
 pub mod Row
 pub mod Calls
 pub mod Tabled
+pub mod Size

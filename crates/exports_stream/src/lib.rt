@@ -14,6 +14,8 @@ ghost use Rattle.exports_stream.specs.Row.{writerLength, writerRow, writ
 ghost use Rattle.exports_stream.specs.Calls.{openingOf, countIn, newCauses, reopenCausesWith};
 ghost use Rattle.exports_stream.specs.Calls.{newFault, newRow};
 ghost use Rattle.exports_stream.specs.Calls.{reopenFault, reopenRow, reopenBuffer, gridFault, gridOut, sumFault, sumOut};
+ghost use Rattle.macaque_v.specs.Size.{saysSize};
+ghost use Rattle.exports_stream.specs.Size.{numberAfter, mostBitsFault, mostBitsNumber, mostBytesFault, mostBytesNumber};
 ghost use Rattle.exports_stream.specs.Tabled.{tableWriteFault, tableWriteRow, tableWriteBuffer, tableWriteWords, tableWriteEntries};
 use exports::words;
 use macaque_v::MacaqueV;
@@ -21,6 +23,7 @@ use macaque_v::Opening;
 use macaque_v::WriteAnswer;
 use macaque_v::read;
 use macaque_v::read::OpenAnswer;
+use macaque_v::size::SizeAnswer;
 use models::ErrorBound;
 use models::Fault;
 use models::GridAnswer;
@@ -162,6 +165,45 @@ pub extern "C" fn modelardb_macaque_v_sum(
 {
     let answer = read::sum(bytes, count_in(mode, count), opening_of(mode, opening));
     exports::put_value(answer, out)
+}
+
+// ---- how large a stream can get
+
+// The most bits that `count` values take in a stream of this mode, by any bound; a refusal leaves the number.
+#[no_mangle]
+pub extern "C" fn modelardb_macaque_v_most_bits(count: usize, mode: u32, bits: &mut usize) -> Fault
+    ensures fault { λ r. ⌜ r ≡ mostBitsFault count mode ⌝ }
+    ensures number { λ r. ⌜ now (bits .exit) ≡ mostBitsNumber count mode (now (bits .entry)) ⌝ }
+{
+    let most = MacaqueV::most_bits(count_in(mode, count), opening_of(mode, 0));
+    put_number(most, bits)
+}
+
+// The bytes that hold them: a new writer that is lent so many refuses no such values for want of room.
+#[no_mangle]
+pub extern "C" fn modelardb_macaque_v_most_bytes(
+    count: usize,
+    mode: u32,
+    bytes: &mut usize,
+) -> Fault
+    ensures fault { λ r. ⌜ r ≡ mostBytesFault count mode ⌝ }
+    ensures number { λ r. ⌜ now (bytes .exit) ≡ mostBytesNumber count mode (now (bytes .entry)) ⌝ }
+{
+    let most = MacaqueV::most_bytes(count_in(mode, count), opening_of(mode, 0));
+    put_number(most, bytes)
+}
+
+fn put_number(answer: SizeAnswer, number: &mut usize) -> Fault
+    ensures fault { λ r. ⌜ r ≡ plainFault (saysSize answer) ⌝ }
+    ensures number { λ r. ⌜ now (number .exit) ≡ numberAfter (now (number .entry)) (saysSize answer) ⌝ }
+{
+    match answer {
+        SizeAnswer::Refused(r) => models::fault_of(r),
+        SizeAnswer::Answered(n) => {
+            *number = n;
+            exports::ACCEPTED
+        }
+    }
 }
 
 // ---- how a stream opens

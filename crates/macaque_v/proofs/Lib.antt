@@ -3,6 +3,8 @@ pub mod Promises
 pub mod Held
 pub mod Sums
 pub mod Kept
+pub mod Sizes
+pub mod Room
 pub mod Extremes
 pub mod Adding
 pub mod Stepping

@@ -7,4 +7,5 @@ pub mod ReadRun
 pub mod Read
 pub mod Sums
 pub mod Kept
+pub mod Size
 pub mod inner

@@ -3,6 +3,7 @@
 pub mod noting;
 pub mod read;
 pub mod read_run;
+pub mod size;
 pub mod span;
 pub mod total;
 pub mod write;

@@ -1,5 +1,5 @@
--- The residuals' stream, made aside from a fresh writer in 1,436 bytes: 255 values of at most 45 bits have room there, so the write is accepted, and what
--- it leaves is what a segment stores. Assumes nothing.
+-- The residuals' stream, made aside from a fresh writer in 1,403 bytes: 255 values have room there, whatever they are, so the write is accepted, and what it
+-- leaves is what a segment stores. Assumes nothing.
 use mathlib.Core.Path.{_≡_, sym, ap, ap₂, _∙_}
 use mathlib.Core.Bool.{true, false}
 use mathlib.Core.List.{List}
@@ -15,20 +15,19 @@ use Rattle.models.specs.declared.Fault.{Fault}
 use Rattle.models.specs.Bound.{boundAllowed}
 use Rattle.models.specs.declared.ErrorBound.{ErrorBound}
 use Rattle.models.proofs.Judged.{told, turned, same-answer-on}
-use Rattle.stream.specs.Format.{withoutFirst}
 use Rattle.stream.specs.Write.{kept}
 use Rattle.stream.proofs.Calls.{wrote-on}
-use Rattle.stream.proofs.CodeWords.{values-long}
-use Rattle.stream.proofs.Writing.{place-after, count-after, length-kept}
+use Rattle.stream.proofs.Writing.{count-after, length-kept}
 use Rattle.coding.specs.Keep.{keepRule}
-use Rattle.macaque_v.specs.State.{gatherKnown, streamIn, stateOf, writerOf, opened}
+use Rattle.macaque_v.specs.State.{streamIn, stateOf, writerOf, opened}
 use Rattle.models.specs.Causes.{boundCauses}
 use Rattle.macaque_v.specs.Write.{coderBy}
 use Rattle.macaque_v.specs.inner.Write.{writtenBy}
 use Rattle.macaque_v.specs.Calls.{newAnswer, writeAnswer, writeMemory}
 use Rattle.macaque_v.specs.declared.MacaqueV.{MacaqueV}
 use Rattle.macaque_v.specs.declared.Opening.the-variants.{On}
-use Rattle.macaque_v.proofs.Promises.{a-fresh-writer, a-write-is-accepted, a-write-goes-on}
+use Rattle.macaque_v.proofs.Promises.{a-fresh-writer, a-write-goes-on}
+use Rattle.macaque_v.proofs.Room.{a-write-has-room}
 use Rattle.macaque_v.proofs.Accepting.{coder-good}
 use Rattle.macaque_v.proofs.Writing.{written-place}
 use Rattle.segments.specs.Segment.{mostResiduals, lastOf, residualsOn, countedBytes, residualBytes}
@@ -59,21 +58,15 @@ length-written m xs buf n h =
     ap length (w .2) ∙ length-laidIn buf (m .place) (writtenBy m xs) (omega (arith, written-place m xs, w .1))
 
 module _ (b : ErrorBound) (last : ℕ) (small : last < 2 ^ 32) (xs : List ℕ) (few : length xs ≤ mostResiduals) where
-  -- the stream's bits and values
-  residuals-place : (residualsOn b last xs) .place ≤ 45 * mostResiduals
-  residuals-place =
-      let vs : List ℕ = kept (keepRule b) (streamIn false) (opened (On last)) xs in
-      omega (arith, place-after (streamIn false) (opened (On last)) vs, values-long withoutFirst gatherKnown (opened (On last)) vs, length-kept (streamIn false) (keepRule b) (opened (On last)) xs)
-
   residuals-count : (residualsOn b last xs) .count ≡ length xs
   residuals-count =
       let vs : List ℕ = kept (keepRule b) (streamIn false) (opened (On last)) xs in
       count-after (streamIn false) (opened (On last)) vs ∙ zero-add (length vs) ∙ length-kept (streamIn false) (keepRule b) (opened (On last)) xs
 
-  module _ (m : MacaqueV) (opens : newAnswer b (On last) ≡ answered m) (buf : List ℕ) (long : length buf ≡ 1436) where
+  module _ (m : MacaqueV) (opens : newAnswer b (On last) ≡ answered m) (buf : List ℕ) (long : length buf ≡ 1403) where
     pub written-aside : writeAnswer m xs buf ≡ answeredOn (writerOf b false (residualsOn b last xs))
     written-aside =
-        a-write-is-accepted (a-fresh-writer b (On last) buf m opens) (λ i. omega arith) small (opened-allowed b last m opens) xs (omega arith) (omega (arith, residuals-place))
+        a-write-has-room (a-fresh-writer b (On last) buf m opens) small (opened-allowed b last m opens) (λ i. omega arith) mostResiduals (omega arith) (omega (arith, long)) xs (omega (arith, few))
 
     module _ (n : MacaqueV) (h : writeAnswer m xs buf ≡ answeredOn n) where
       same-writer : n ≡ writerOf b false (residualsOn b last xs)
@@ -82,11 +75,14 @@ module _ (b : ErrorBound) (last : ℕ) (small : last < 2 ^ 32) (xs : List ℕ) (
       pub aside-count : n .length ≡ length xs
       aside-count = ap (λ (w : MacaqueV). w .length) same-writer ∙ residuals-count
 
-      pub aside-long : length (writeMemory m xs buf) ≡ 1436
+      pub aside-long : length (writeMemory m xs buf) ≡ 1403
       aside-long = length-written m xs buf n h ∙ long
 
       pub aside-place : n .place ≤ 8 * length (writeMemory m xs buf)
-      aside-place = omega (arith, ap (λ (w : MacaqueV). w .place) same-writer, residuals-place, aside-long)
+      unfolding writeAnswer
+      aside-place =
+          let w = wrote-on (coderBy m) (coder-good (m .«error_bound») (m .«with_first»)) (stateOf m) xs buf n h in
+          omega (arith, ap (λ (v : MacaqueV). v .place) (w .0), w .1, length-written m xs buf n h)
 
       aside-bytes : countedBytes (take (wholeBytes (n .place)) (writeMemory m xs buf)) (n .length) ≡ residualBytes b last xs
       aside-bytes =

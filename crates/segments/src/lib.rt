@@ -82,7 +82,7 @@ fn write_with(
     if (1 < model) | (MacaqueV::MOST_RESIDUALS < count) {
         return SegmentAnswer::Refused(Refusal::OverLimit);
     }
-    let mut stream = [0u8; 1436];
+    let mut stream = [0u8; 1403];
     match writer.compress_values(residuals, &mut stream) {
         WriteAnswer::Refused(r, _) => SegmentAnswer::Refused(r),
         WriteAnswer::Written(after) => hand_out(
@@ -107,7 +107,7 @@ fn hand_out(
     values_out: &mut [u8],
     residuals_out: &mut [u8],
 ) -> SegmentAnswer
-    requires { ⌜ after .place ≤ 8 * length (now stream) ⌝ ∗ ⌜ after .length ≤ mostResiduals ⌝ ∗ ⌜ length (now stream) ≤ 1436 ⌝ }
+    requires { ⌜ after .place ≤ 8 * length (now stream) ⌝ ∗ ⌜ after .length ≤ mostResiduals ⌝ ∗ ⌜ length (now stream) ≤ 1403 ⌝ }
     ensures answer { λ r. ⌜ saysSegment r ≡ handedAnswer (storedBy model «first_value» «last_value» after (now (stream .entry))) (now («values_out» .entry)) (now («residuals_out» .entry)) ⌝ }
     ensures values { λ r. ⌜ now («values_out» .exit) ≡ handedValues (storedBy model «first_value» «last_value» after (now (stream .entry))) (now («values_out» .entry)) (now («residuals_out» .entry)) ⌝ }
     ensures bytes { λ r. ⌜ now («residuals_out» .exit) ≡ handedResiduals (storedBy model «first_value» «last_value» after (now (stream .entry))) (now («values_out» .entry)) (now («residuals_out» .entry)) ⌝ }
@@ -180,7 +180,7 @@ fn form_of(model: u32, first_value: u32, last_value: u32, low: u32, high: u32) -
 
 // How many there are: none where there are no residuals.
 fn counted_length(used: usize, count: usize) -> usize
-    requires { ⌜ used ≤ 1436 ⌝ }
+    requires { ⌜ used ≤ 1403 ⌝ }
     ensures { λ r. ⌜ r ≡ countedLength used count ⌝ }
 {
     if count == 0 {
@@ -190,7 +190,7 @@ fn counted_length(used: usize, count: usize) -> usize
 }
 
 fn put_counted(stream: &[u8], used: usize, count: usize, out: &mut [u8])
-    requires { ⌜ used ≤ length (now stream) ⌝ ∗ ⌜ used ≤ 1436 ⌝ ∗ ⌜ count ≤ mostResiduals ⌝ ∗ ⌜ countedLength used count ≤ length (now out) ⌝ }
+    requires { ⌜ used ≤ length (now stream) ⌝ ∗ ⌜ used ≤ 1403 ⌝ ∗ ⌜ count ≤ mostResiduals ⌝ ∗ ⌜ countedLength used count ≤ length (now out) ⌝ }
     ensures { λ _. ⌜ now (out .exit) ≡ front (countedBytes (take used (now (stream .entry))) count) (now (out .entry)) ⌝ }
 {
     if count == 0 {

@@ -30,10 +30,10 @@ use Rattle.segments.proofs.write_with.Tie as tie
 
 -- the bytes aside, before the write
 abbrev aside : List ℕ
-aside = replicate 1436 0
+aside = replicate 1403 0
 
-aside-room : length aside ≡ 1436
-aside-room = length-replicate {A = ℕ} 1436 0
+aside-room : length aside ≡ 1403
+aside-room = length-replicate {A = ℕ} 1403 0
 
 -- the write, and what it tells
 module _ (c : tie.After-stream2) where
@@ -82,7 +82,7 @@ module _ (c : tie.After-after) where
   counted : n .length ≡ length (xs p)
   counted = aside-count (b p) (last p) (small p) (xs p) (few p) m (start p .pre) aside aside-room n wrote
 
-  long : length (stream.writeMemory m (xs p) aside) ≡ 1436
+  long : length (stream.writeMemory m (xs p) aside) ≡ 1403
   long = aside-long (b p) (last p) (small p) (xs p) (few p) m (start p .pre) aside aside-room n wrote
 
   same-stored : storedBy (start p .args .model) (start p .args .first-value) (start p .args .last-value) n (stream.writeMemory m (xs p) aside)

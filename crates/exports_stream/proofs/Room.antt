@@ -1,0 +1,121 @@
+-- How large a stream can get, of rows: what the calls answer, that so many bytes are room enough for a new row, in one write or in any chain of writes, and that
+-- fewer are not for some list. Assumes nothing.
+use mathlib.Core.Path.{_≡_, refl, sym, ap, _∙_, subst}
+use mathlib.Core.Bool.{Bool, true, false, cond}
+use mathlib.Core.List.{List, [], _∷_, _++_, append-assoc}
+use Prim.Native.Nat.{ℕ, _+_, _*_, _^_, _≤_, _<_}
+use native.Mathlib.Omega.{arith}
+use borrow.Author.Tests.{le-leb, le-ltb}
+use lib.Dec.{eqb}
+use lib.ListN.{length, drop, length-append}
+use Rattle.bits.specs.Bits.{Below, wholeBytes}
+use Rattle.bits.proofs.Below.{below-front}
+use Rattle.models.specs.Answers.{fault, noFault, Said, answered, SaidOn, answeredOn, refusedOn, stateless, judge}
+use Rattle.models.specs.declared.Fault.{Fault}
+use Rattle.models.specs.Limits.{mostValues}
+use Rattle.models.specs.Bound.{boundAllowed}
+use Rattle.models.specs.declared.ErrorBound.{ErrorBound}
+use Rattle.models.specs.declared.ErrorBound.the-variants.{Lossless}
+use Rattle.stream.specs.Format.{macaque, rawNext}
+use Rattle.stream.specs.Write.{keptFrom, after}
+use Rattle.stream.specs.Size.{mostBits}
+use Rattle.macaque_v.specs.State.{modeOf, isFirst, openingValue}
+use Rattle.macaque_v.specs.Calls.{lentBytes, newAnswer, writeAnswer}
+use Rattle.macaque_v.specs.Size.{mostOf, mostBitsAnswer, mostBytesAnswer, inAll, Fills}
+use Rattle.macaque_v.specs.declared.MacaqueV.{MacaqueV}
+use Rattle.macaque_v.specs.declared.Opening.{Opening}
+use Rattle.macaque_v.specs.declared.Opening.the-variants.{First, On}
+use Rattle.macaque_v.proofs.Room.{a-write-has-room, never-4-with-room, a-list-fills}
+use Rattle.exports.specs.Face.{boundOf, plainFault, stepFault, stepRow}
+use Rattle.exports_stream.specs.Row.{writerLength, writtenRow, writerIn}
+use Rattle.exports_stream.specs.Calls.{openingOf, newFault, newRow, writeFault, writeRow, RowMade}
+use Rattle.exports_stream.specs.Size.{mostBitsFault, mostBitsNumber, mostBytesFault, mostBytesNumber, AllRowsAccepted, placeWord, RowFills}
+use Rattle.exports_stream.proofs.Promises.{a-new-row, new-opens, a-row-goes-on, a-row-keeps-the-length}
+
+-- ---- what the two calls answer
+
+-- the opening value does not enter
+same-most : (n mode value : ℕ) → mostOf n (openingOf mode value) ≡ mostOf n (openingOf mode 0)
+same-most n mode value = go (eqb mode 0)
+  where
+    go : (t : Bool) → mostOf n (cond t First (On value)) ≡ mostOf n (cond t First (On 0))
+    go true = refl
+    go false = refl
+
+module _ (n mode : ℕ) (most : n ≤ mostValues) (mode-is : mode ≤ 1) (old value : ℕ) where
+  pub most-bits-say : (mostBitsFault n mode ≡ noFault) × (mostBitsNumber n mode old ≡ mostOf n (openingOf mode value))
+  unfolding mostBitsFault mostBitsNumber mostBitsAnswer judge
+  most-bits-say = rw (le-leb mode 1 mode-is, le-ltb mostValues n most) (refl, sym (same-most n mode value))
+
+  pub most-bytes-say : (mostBytesFault n mode ≡ noFault) × (mostBytesNumber n mode old ≡ wholeBytes (mostOf n (openingOf mode value)))
+  unfolding mostBytesFault mostBytesNumber mostBytesAnswer judge
+  most-bytes-say = rw (le-leb mode 1 mode-is, le-ltb mostValues n most) (refl, ap wholeBytes (sym (same-most n mode value)))
+
+-- ---- room
+
+-- a row that any chain of writes, stops and resumes has made, list by list
+all-rows-have-room : (b : ErrorBound) (o : Opening) → openingValue o < 2 ^ 32 → boundAllowed b ≡ true → (n : ℕ) → n ≤ mostValues → (lists : List (List ℕ)) {xs buf row : List ℕ}
+    → RowMade b o xs buf row → wholeBytes (mostOf n o) ≤ length buf → Below 32 (xs ++ inAll lists) → length (xs ++ inAll lists) ≤ n → AllRowsAccepted row buf lists
+all-rows-have-room b o hl ok n most [] R room small few = tt
+all-rows-have-room b o hl ok n most (ys ∷ lists) {xs} {buf} {row} R room small few =
+    let parts : xs ++ (ys ++ inAll lists) ≡ (xs ++ ys) ++ inAll lists = sym (append-assoc xs ys (inAll lists)) in
+    let apart : Below 32 ((xs ++ ys) ++ inAll lists) = subst (Below 32) parts small in
+    let written = a-write-has-room (R .made) hl ok (below-front 32 xs (ys ++ inAll lists) small) n most room ys (omega (arith, few, length-append xs (ys ++ inAll lists), length-append ys (inAll lists))) in
+    let here : writeFault row ys buf ≡ noFault = ap stepFault written in
+    let next = a-row-goes-on R hl ys (below-front 32 (xs ++ ys) (inAll lists) apart) (ap (λ (f : Fault). f .number) here) in
+    (here, all-rows-have-room b o hl ok n most lists next (omega (arith, room, a-row-keeps-the-length row ys buf)) apart (subst (λ (z : List ℕ). length z ≤ n) parts few))
+
+-- "a fresh writer lent that many bits, rounded up to bytes, never refuses n values with 4": neither call refuses, and through the new row all lists are
+-- accepted, in one write or in any chain of writes
+pub most-bytes-are-enough : (kind bound mode value : ℕ) (row : List ℕ) → openingValue (openingOf mode value) < 2 ^ 32 → boundAllowed (boundOf kind bound) ≡ true → mode ≤ 1
+    → writerLength ≤ length row → (n : ℕ) → n ≤ mostValues → (old : ℕ) (buf : List ℕ) → mostBytesNumber n mode old ≤ length buf → (lists : List (List ℕ)) → Below 32 (inAll lists)
+    → length (inAll lists) ≤ n
+    → (mostBytesFault n mode ≡ noFault) × (newFault kind bound mode value row ≡ noFault) × AllRowsAccepted (newRow kind bound mode value row) buf lists
+most-bytes-are-enough kind bound mode value row hl ok mode-is words n most old buf room lists small few =
+    let say = most-bytes-say n mode most mode-is old value in
+    let new = a-new-row kind bound mode value row hl ok mode-is words in
+    (say .0, new .0, all-rows-have-room (boundOf kind bound) (openingOf mode value) hl ok n most lists (new .1 buf) (omega (arith, room, say .1)) small few)
+
+-- of any row at all: with room for the most bits of its values, 4 is no refusal of theirs
+pub never-4-with-room-through-a-row : (row ys buf : List ℕ)
+    → (writerIn row) .place + mostBits macaque (rawNext (modeOf ((writerIn row) .«with_first»)) ((writerIn row) .length)) (length ys) ≤ 8 * lentBytes (length buf)
+    → (writeFault row ys buf) .number ≡ 4 → ⊥
+never-4-with-room-through-a-row row ys buf room = go (writeAnswer (writerIn row) ys buf) refl
+  where
+    go : (q : SaidOn MacaqueV MacaqueV) → writeAnswer (writerIn row) ys buf ≡ q → (stepFault q) .number ≡ 4 → ⊥
+    go (answeredOn n) e z = omega arith
+    go (refusedOn f n) e z = never-4-with-room (writerIn row) ys buf room f n e z
+
+-- ---- a list that fills it
+
+module _ (mode value n : ℕ) (mode-is : mode ≤ 1) (hl : openingValue (openingOf mode value) < 2 ^ 32) (most : n ≤ mostValues) where
+  abbrev L : Fills (openingOf mode value) n
+  L = a-list-fills (openingOf mode value) hl n most
+
+  abbrev new : List ℕ → List ℕ
+  new row = newRow 0 0 mode value row
+
+  lossless-allowed : boundAllowed (boundOf 0 0) ≡ true
+  unfolding boundOf boundAllowed
+  lossless-allowed = refl
+
+  -- the writer that a new row stands for
+  opens : (row buf : List ℕ) → writerLength ≤ length row → newAnswer Lossless (openingOf mode value) ≡ answered (writerIn (new row))
+  unfolding boundOf keptFrom after
+  opens row buf words =
+      let R = a-new-row 0 0 mode value row hl lossless-allowed mode-is words .1 buf in
+      new-opens 0 0 mode value row hl lossless-allowed mode-is words ∙ ap answered (sym (R .made .writer))
+
+  filled : (row buf : List ℕ) → writerLength ≤ length row → mostBytesNumber n mode 0 ≤ length buf
+      → (writeFault (new row) (L .values) buf ≡ noFault) × (placeWord (writeRow (new row) (L .values) buf) ≡ mostBitsNumber n mode 0)
+  unfolding writtenRow
+  filled row buf words room =
+      let f = L .fills (writerIn (new row)) (opens row buf words) buf (omega (arith, room, most-bytes-say n mode most mode-is 0 value .1)) in
+      let place = ap (λ (q : SaidOn MacaqueV MacaqueV). placeWord (stepRow (writtenRow (new row)) (new row) q)) (f .1) in
+      (ap stepFault (f .1), place ∙ f .2 ∙ sym (most-bits-say n mode most mode-is 0 value .1))
+
+  short : (row buf : List ℕ) → writerLength ≤ length row → length buf < mostBytesNumber n mode 0 → writeFault (new row) (L .values) buf ≡ fault 4
+  short row buf words less = ap stepFault (L .short (writerIn (new row)) (opens row buf words) buf (omega (arith, less, most-bytes-say n mode most mode-is 0 value .1)))
+
+  pub a-list-fills-a-row : RowFills mode value n
+  a-list-fills-a-row = record { values = L .values; counted = L .counted; small = L .small; fills = filled; short = short }
