@@ -264,6 +264,12 @@ fn a_room_is_told_up_to_the_most_readings() {
 }
 
 #[test]
+fn the_readme_shows_the_room() {
+    let text = room::usual().expect("no span is too long");
+    assert!(README.contains(&text), "README lacks:\n{text}");
+}
+
+#[test]
 fn the_readme_shows_the_day() {
     let readings = shipped("day.txt");
     let (times, values) = (&readings.times, &readings.values);
