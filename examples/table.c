@@ -1,5 +1,5 @@
-/* A place table through the C face: a night of 200 values written with a table beside the stream, and six of them
- * read without the rest; then with the table of no stream. It is C and C++ alike.
+/* A place table through the C face: a night of 200 values written with a table beside the stream, in a buffer that any
+ * such night fits in, and six of them read without the rest; then with the table of no stream. It is C and C++ alike.
  *
  *    cc -Iinclude examples/table.c target/staticlib/libexports_table.a target/staticlib/libexports_stream.a \
  *       -o table && ./table
@@ -20,7 +20,7 @@ int main(void) {
   uint32_t values[COUNT], out[Q - P];
   uint64_t state[MODELARDB_WRITER_WORDS], table[MODELARDB_TABLE_ROOM(COUNT)];
   uint8_t buffer[MODELARDB_ROOM(COUNT)];
-  size_t used, entries = 0, i;
+  size_t most, used, entries = 0, i;
   modelardb_fault fault;
 
   for (i = 0; i < COUNT; i++) values[i] = 0x41A00000 + (uint32_t)(i / 3) * 0x2000; /* from 20.0 on */
@@ -30,7 +30,9 @@ int main(void) {
                                           MODELARDB_TABLE_ROOM(COUNT), &entries);
   if (fault.number != MODELARDB_ACCEPTED) return refused(fault);
   used = (size_t)MODELARDB_BYTES(state[MODELARDB_WRITER_PLACE]);
-  printf("%d values in %zu bytes, %zu entries\n", COUNT, used, entries);
+  fault = modelardb_macaque_v_most_bytes(COUNT, MODELARDB_FIRST, &most);
+  if (fault.number != MODELARDB_ACCEPTED) return refused(fault);
+  printf("%d values in %zu bytes, of %zu at most, %zu entries\n", COUNT, used, most, entries);
 
   fault = modelardb_table_check(buffer, used, COUNT, MODELARDB_FIRST, 0, table, MODELARDB_TABLE_ROOM(COUNT), entries);
   if (fault.number != MODELARDB_ACCEPTED) return refused(fault);

@@ -148,15 +148,32 @@ modelardb_fault modelardb_maximum_allowed_deviation(uint32_t kind, uint32_t boun
  * the mode is MODELARDB_FIRST where word 7 is 1, else MODELARDB_ON with the opening value that you kept.
  *
  * The stream's bytes are the buffer's first (word 8 + 7) / 8, and the bits behind the place in the last of them
- * are 0. No value takes more than 45 bits, and one that is stored in full takes 32.
+ * are 0. A value that is stored in full takes 32 bits, and the code of any other at most 45. Of what a writer writes
+ * one code alone can be so long: the window that it sets is never replaced, and later codes take at most 33.
  */
-#define MODELARDB_MOST_BITS 45
+#define MODELARDB_LONGEST_CODE 45
 #define MODELARDB_OPENING_LEADING 255
 #define MODELARDB_OPENING_TRAILING 0
 
-/* How many bytes have room for any stream of so many values, and how many bytes take so many bits. */
-#define MODELARDB_ROOM(values) (((size_t)(values) * MODELARDB_MOST_BITS + 7) / 8)
+/* How many bytes have room for what a fresh writer makes of so many values, in either mode, where the length of an
+ * array has to be constant (modelardb_macaque_v_most_bytes says just how many); and how many bytes so many bits
+ * take. */
+#define MODELARDB_ROOM(values) (((size_t)(values) * (MODELARDB_LONGEST_CODE - 1) + 8) / 8)
 #define MODELARDB_BYTES(place) (((place) + 7) / 8)
+
+/* *bits: how many bits a fresh writer writes at most for `count` values, whatever they are and whatever the bound,
+ * in one write or in several, also where it is reopened in between. In MODELARDB_ON that is 44 * count + 1; in
+ * MODELARDB_FIRST 32 for a count of 1, and 32 + 44 * (count - 1) + 1 above that; in both 0 for a count of 0. For
+ * each count there are values that take just as many, Lossless.
+ *
+ * A stream that another program wrote may be larger. Behind any stream a writer has room for `count` more values
+ * where the buffer has the bits that its word 8 counts and, by MODELARDB_ON, *bits more. Refusals: 3 (mode, or count
+ * above 65,536). */
+modelardb_fault modelardb_macaque_v_most_bits(size_t count, uint32_t mode, size_t *bits);
+
+/* *bytes: how many bytes that is, (bits + 7) / 8. In a buffer of so many a fresh writer is never refused `count`
+ * values with 4. Refusals: 3 (mode, or count above 65,536). */
+modelardb_fault modelardb_macaque_v_most_bytes(size_t count, uint32_t mode, size_t *bytes);
 
 /* state: a writer before any value. Refusals: 1; 3 (mode); 4 (a row under eleven words). */
 modelardb_fault modelardb_macaque_v_new(uint32_t kind, uint32_t bound, uint32_t mode, uint32_t opening,
@@ -342,7 +359,7 @@ modelardb_fault modelardb_choose_model(const int64_t *timestamps, size_t timesta
  *
  * Parameter bytes are 0, 1 or 4 of PMC-Mean's, and 0, 1, 5 or 8 of Swing's. */
 #define MODELARDB_MOST_PARAMETER_BYTES 8
-#define MODELARDB_MOST_RESIDUAL_BYTES 1436
+#define MODELARDB_MOST_RESIDUAL_BYTES 1404
 
 /* The words of a segment that was written: */
 #define MODELARDB_SEGMENT_LEAST 0           /* the bits of the least value */

@@ -6,11 +6,12 @@ use exports_fit::of_swing;
 use models::Fault;
 use replaying::lists::Told;
 
-// How many calls there are; they are numbered from 0 in the order of include/modelardb.h.
-pub const CALLS: u64 = 42;
+// How many calls there are; they are numbered from 0 in the order of include/modelardb.h, but for those that came later
+// and have the last numbers.
+pub const CALLS: u64 = 44;
 
-// What is answered for a line that has no number of entries: no call answers it.
-const NO_TABLE: u64 = 99;
+// What is answered for a line that lacks the number which a call is lent: no call answers it.
+const NO_NUMBER: u64 = 99;
 
 // The numbers that a call is handed, in the order of its parameters: those of 32 bits, and the others.
 pub struct Numbers {
@@ -25,7 +26,7 @@ pub struct Numbers {
 }
 
 // What a call answers: number, value and place. Of its memory, t holds timestamps, p and q bytes, v values, s a row of words that is
-// only read and r one that is written. u is the number of entries in use and the words of their table.
+// only read and r one that is written, or a number. u is the number of entries in use and the words of their table.
 pub fn answer(
     call: u64,
     x: Numbers,
@@ -52,7 +53,10 @@ pub fn answer(
     if call <= 37 {
         return of_the_reader(call, x, s, p, v, r);
     }
-    of_the_table(call, x, p, v, r, u)
+    if call <= 41 {
+        return of_the_table(call, x, p, v, r, u);
+    }
+    of_sizes(call, x, r)
 }
 
 fn of_streams(call: u64, x: Numbers, p: &mut [u8], v: &mut [u32], r: &mut [u64]) -> Told {
@@ -220,7 +224,7 @@ fn of_the_table(
     u: &mut [u64],
 ) -> Told {
     if u.len() == 0 {
-        return given(NO_TABLE);
+        return given(NO_NUMBER);
     }
     let mut entries = u[0] as usize;
     if 39 < call {
@@ -286,6 +290,20 @@ fn of_table_reading(
             v,
         )),
     }
+}
+
+fn of_sizes(call: u64, x: Numbers, r: &mut [u64]) -> Told {
+    if r.len() == 0 {
+        return given(NO_NUMBER);
+    }
+    let count = x.k as usize;
+    let mut most = r[0] as usize;
+    let answer = match call {
+        42 => told(exports_stream::modelardb_macaque_v_most_bits(count, x.a, &mut most)),
+        _ => told(exports_stream::modelardb_macaque_v_most_bytes(count, x.a, &mut most)),
+    };
+    r[0] = most as u64;
+    answer
 }
 
 fn told(fault: Fault) -> Told {

@@ -103,10 +103,26 @@ mod c {
             out: *mut u32,
             out_len: usize,
         ) -> Fault;
+        /// `bits` becomes how many bits so many values take at most in a stream of this mode.
+        pub safe fn modelardb_macaque_v_most_bits(
+            count: usize,
+            mode: u32,
+            bits: &mut usize,
+        ) -> Fault;
+        /// `bytes` becomes how many bytes they take at most.
+        pub safe fn modelardb_macaque_v_most_bytes(
+            count: usize,
+            mode: u32,
+            bytes: &mut usize,
+        ) -> Fault;
     }
 }
 
-pub use c::{modelardb_narrow as narrow, modelardb_widen as widen};
+pub use c::{
+    modelardb_macaque_v_most_bits as macaque_v_most_bits,
+    modelardb_macaque_v_most_bytes as macaque_v_most_bytes, modelardb_narrow as narrow,
+    modelardb_widen as widen,
+};
 
 /// A bound's kind, 0 Lossless, 1 Absolute or 2 Relative, and its bits; or how a stream opens, 0 with
 /// its first value in full or 1 on a given one, and that one's bits.

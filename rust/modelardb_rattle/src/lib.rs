@@ -8,7 +8,8 @@
 //! A state changes in place: what fits or is written is part of it from then on. So writers, readers,
 //! models and builders are no `Copy`; to keep one as it was, clone it.
 //!
-//! A [`MacaqueV`] knows the [mean](MacaqueV::mean) of what it has written, without reading it.
+//! A [`MacaqueV`] knows the [mean](MacaqueV::mean) of what it has written, without reading it, and
+//! [how large a buffer](MacaqueV::most_bytes) any stream of so many values fits in.
 //!
 //! [`compare::differences`] shows where two streams part. A [`TabledWriter`] keeps a [`PlaceTable`] beside its
 //! stream, which reads a range of it without the rest.

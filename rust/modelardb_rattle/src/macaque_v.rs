@@ -4,6 +4,7 @@
 
 mod read;
 mod reader;
+mod size;
 
 use crate::ffi::{self, STATE_WORDS, Words};
 use crate::shown::F32;
@@ -180,7 +181,7 @@ impl MacaqueV {
     ///
     /// [`Refusal::StateNotAllowed`] where the buffer is shorter than the stream that stands there;
     /// [`Refusal::OverLimit`] for more than 65,536 values in all; [`Refusal::OutputTooShort`] where the
-    /// buffer has no room for these, which it has if it has 45 bits for each value.
+    /// buffer has no room for these: [`MacaqueV::most_bytes`] says how long one always has.
     ///
     /// ```
     /// use modelardb_rattle::{ErrorBound, MacaqueV, Opening, Refusal};

@@ -19,11 +19,11 @@ pub use writer::TabledWriter;
 /// let one that comes from elsewhere pass a [`check`](PlaceTable::check) once.
 ///
 /// ```
-/// use modelardb_rattle::{ErrorBound, Opening, PlaceTable, Refusal, TabledWriter};
+/// use modelardb_rattle::{ErrorBound, MacaqueV, Opening, PlaceTable, Refusal, TabledWriter};
 ///
 /// // A night of 421 readings, written with a table.
 /// let night: Vec<f32> = (0..421).map(|minute| 20.0 + (minute / 7) as f32 * 0.25).collect();
-/// let mut bytes = vec![0; 6 * night.len()];
+/// let mut bytes = vec![0; MacaqueV::most_bytes(night.len(), Opening::First)?];
 /// let mut upload = TabledWriter::new(ErrorBound::Lossless, Opening::First)?;
 /// upload.compress_values(&night, &mut bytes)?;
 /// bytes.truncate(upload.writer().bytes_used());

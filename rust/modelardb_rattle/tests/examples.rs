@@ -1,6 +1,7 @@
 //! The examples on the shipped readings: the shipped stream is what the library writes, an upload that is cut at
 //! any value goes on as one run, a flipped bit is often read as other values, a cut is told at the first value that
-//! is missing, an hour of a night is read without the rest, a bad line is named, and the README shows what they print.
+//! is missing, an hour of a night is read without the rest, no night outgrows the room for it, a bad line is named, and
+//! the README shows what they print.
 
 #[path = "../examples/flipped/damage.rs"]
 mod damage;
@@ -12,6 +13,8 @@ mod morning;
 mod night;
 #[path = "../examples/shared/readings.rs"]
 mod readings;
+#[path = "../examples/room/show.rs"]
+mod room;
 #[path = "../examples/day/store.rs"]
 mod store;
 #[path = "../examples/night/stored.rs"]
@@ -206,6 +209,63 @@ fn the_readme_shows_the_night() {
     let readings = shipped("night.txt");
     let stored = stored::store(&readings.values, ErrorBound::Lossless).expect("room");
     let text = night::show(&readings, &stored, "21:00").expect("an hour");
+    assert!(README.contains(&text), "README lacks:\n{text}");
+}
+
+/// A line of a table of rooms, by its words.
+fn line_of(text: &str, line: usize) -> Vec<&str> {
+    let line = text.lines().nth(line).expect("a line");
+    line.split("  ")
+        .filter(|word| !word.is_empty())
+        .map(str::trim)
+        .collect()
+}
+
+#[test]
+fn a_night_fits_in_the_room_for_it() {
+    let text = room::usual().expect("no span is too long");
+    assert!(text.lines().all(|line| line.len() <= 100), "{text}");
+    assert_eq!(
+        line_of(&text, 4),
+        ["a night, 18:00 to 08:00", "5 minutes", "169", "929", "96"]
+    );
+    assert_eq!(
+        line_of(&text, 9),
+        ["a week", "10 seconds", "60481", "332645", "30272"]
+    );
+    // The shipped night has a reading every two minutes.
+    let text = room::asked("120", "14").expect("a short night");
+    assert_eq!(
+        line_of(&text, 1),
+        ["14 hours", "120 seconds", "421", "2315", "224"]
+    );
+    let night = stored::store(&shipped("night.txt").values, ErrorBound::Lossless).expect("room");
+    assert_eq!((night.count, 8 * night.table.words().len()), (421, 224));
+    assert!(night.bytes.len() <= 2315);
+}
+
+#[test]
+fn a_room_is_told_up_to_the_most_readings() {
+    let text = room::asked("1", "18").expect("64,801 readings");
+    assert_eq!(line_of(&text, 1)[..3], ["18 hours", "1 second", "64801"]);
+    let text = room::asked("4294967295", "1").expect("a reading");
+    assert_eq!(line_of(&text, 1)[2..], ["1", "4", "32"]);
+    assert_eq!(
+        room::asked("1", "19").unwrap_err(),
+        "68401 readings come in 19 hours, one every 1 second\n\
+         a stream takes at most 65536 values: these have to be cut into 2 streams or more"
+    );
+    for word in ["0", "-1", "1.5", "", "4294967296"] {
+        let why = format!("{word:?} is no number of seconds: a whole one from 1 to 4294967295");
+        assert_eq!(room::asked(word, "14"), Err(why));
+        let why = format!("{word:?} is no number of hours: a whole one from 1 to 4294967295");
+        assert_eq!(room::asked("10", word), Err(why));
+    }
+}
+
+#[test]
+fn the_readme_shows_the_room() {
+    let text = room::usual().expect("no span is too long");
     assert!(README.contains(&text), "README lacks:\n{text}");
 }
 

@@ -1,6 +1,6 @@
 //! include/modelardb.h and the crate name the same numbers.
 
-use modelardb_rattle::{Fault, MacaqueV, ModelBuilder, Refusal, ffi};
+use modelardb_rattle::{Fault, MacaqueV, ModelBuilder, Opening, Refusal, ffi};
 use std::collections::BTreeMap;
 use std::mem::offset_of;
 
@@ -65,7 +65,7 @@ fn every_call_that_can_be_refused_answers_a_fault() {
     });
     let calls: Vec<(&str, &str)> = calls.collect();
     assert_eq!(calls[..2], [("widen", "uint64_t"), ("narrow", "uint32_t")]);
-    assert_eq!(calls.len(), 42);
+    assert_eq!(calls.len(), 44);
     for (name, answer) in &calls[2..] {
         assert_eq!(*answer, "modelardb_fault", "{name}");
     }
@@ -94,6 +94,29 @@ fn limits_lengths_and_models_are_the_crates() {
         ("SWING", ModelBuilder::SWING_ID as usize),
     ] {
         assert_eq!(named.get(name), Some(&number), "{name}");
+    }
+}
+
+/// The numbers of `((values) * (LONGEST_CODE - A) + B) / C`, as the header has them, against the calls.
+#[test]
+fn the_headers_room_is_that_of_the_calls() {
+    let begin = "#define MODELARDB_ROOM(values) (((size_t)(values) * (MODELARDB_LONGEST_CODE - ";
+    let rest = HEADER.lines().find_map(|line| line.strip_prefix(begin));
+    let rest = rest.expect("the macro");
+    assert_eq!(
+        rest.replace(|sign: char| sign.is_ascii_digit(), ""),
+        ") + ) / )"
+    );
+    let numbers = rest.split(|sign: char| !sign.is_ascii_digit());
+    let numbers: Vec<usize> = numbers.filter_map(|word| word.parse().ok()).collect();
+    let longest = named()["LONGEST_CODE"];
+    let on = Opening::On(0.0);
+    assert_eq!(MacaqueV::most_bits(1, on), Ok(longest), "one code alone");
+    for count in 1..=MacaqueV::MOST_VALUES {
+        let room = (count * (longest - numbers[0]) + numbers[1]) / numbers[2];
+        assert_eq!(MacaqueV::most_bytes(count, on), Ok(room));
+        let first = MacaqueV::most_bytes(count, Opening::First);
+        assert!(first.is_ok_and(|bytes| bytes <= room), "{count} values");
     }
 }
 

@@ -14,7 +14,7 @@ const BESIDES: usize = 32 << 10;
 /// A stream of so many different values.
 fn stream(count: usize) -> Result<Vec<u8>, Refusal> {
     let values: Vec<f32> = (0..count).map(|number| number as f32).collect();
-    let mut buffer = vec![0; (45 * count).div_ceil(8)];
+    let mut buffer = vec![0; MacaqueV::most_bytes(count, Opening::First)?];
     let mut writer = MacaqueV::new(ErrorBound::Lossless, Opening::First)?;
     writer.compress_values(&values, &mut buffer)?;
     buffer.truncate(writer.bytes_used());
@@ -63,7 +63,7 @@ fn writing_reopening_and_checking_with_a_table_take_less_than_16_kib() {
     let entries = in_a_thread(16 << 10, move || {
         let values: Vec<f32> = (0..count).map(|number| number as f32).collect();
         let (lossless, first) = (ErrorBound::Lossless, Opening::First);
-        let mut buffer = vec![0; 6 * count];
+        let mut buffer = vec![0; MacaqueV::most_bytes(count, first)?];
         let mut writer = TabledWriter::new(lossless, first)?;
         writer.compress_values(&values, &mut buffer)?;
         let (used, table) = (writer.writer().bytes_used(), writer.table());
@@ -79,6 +79,7 @@ fn writing_reopening_and_checking_with_a_table_take_less_than_16_kib() {
 fn writing_summing_and_reopening_take_less_than_16_kib() {
     let count = MacaqueV::MOST_VALUES;
     let last = in_a_thread(16 << 10, move || {
+        MacaqueV::most_bits(count, Opening::First)?;
         let mut bytes = stream(count)?;
         macaque_v::sum(&bytes, count, Opening::First)?;
         let used = bytes.len();

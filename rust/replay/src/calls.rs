@@ -1,4 +1,4 @@
-//! The calls by their numbers, in the order of include/modelardb.h, as the oracle answers them.
+//! The calls by their numbers, as the oracle answers them.
 
 use crate::record::Record;
 use modelardb_rattle::Fault;
@@ -7,8 +7,9 @@ use oracle::paper::models::ErrorBound;
 use oracle::paper::{Answer, models, numbers};
 use side_by_side::face::{self, choice, fit, reader, segments, table};
 
-/// Their names, and the refusals that each can give.
-pub const CALLS: [(&str, &[u64]); 42] = [
+/// Their names, and the refusals that each can give: in the order of include/modelardb.h, but for those that came later
+/// and stand at the end, so that no number ever changes.
+pub const CALLS: [(&str, &[u64]); 44] = [
     ("modelardb_widen", &[]),
     ("modelardb_narrow", &[]),
     ("modelardb_is_value_within_error_bound", &[1, 4]),
@@ -60,6 +61,8 @@ pub const CALLS: [(&str, &[u64]); 42] = [
     ("modelardb_table_reopen", &[1, 3, 4, 5, 6, 7, 8, 12, 13]),
     ("modelardb_table_check", &[3, 5, 6, 7, 8, 12, 13]),
     ("modelardb_table_range", &[3, 4, 5, 6, 7, 12, 13]),
+    ("modelardb_macaque_v_most_bits", &[3]),
+    ("modelardb_macaque_v_most_bytes", &[3]),
 ];
 
 /// What a call answers: number, value and place, or, of the two that are never refused, what they give.
@@ -83,7 +86,8 @@ fn answer(record: &mut Record) -> Told {
         22..26 => told(of_the_choice(record)),
         26..34 => told(of_segments(record)),
         34..38 => told(of_the_reader(record)),
-        _ => told(of_the_table(record)),
+        38..42 => told(of_the_table(record)),
+        _ => told(of_sizes(record)),
     }
 }
 
@@ -295,5 +299,17 @@ fn of_the_table(record: &mut Record) -> Fault {
         }
     };
     *used = entries as u64;
+    fault
+}
+
+/// The first word of `r` is the number that the call is lent.
+fn of_sizes(record: &mut Record) -> Fault {
+    let Record { call, x, w, r, .. } = record;
+    let (count, mut most) = (w[0] as usize, r[0] as usize);
+    let fault = match call {
+        42 => face::most_bits(count, x[0], &mut most),
+        _ => face::most_bytes(count, x[0], &mut most),
+    };
+    r[0] = most as u64;
     fault
 }

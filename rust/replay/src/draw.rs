@@ -8,7 +8,8 @@ use modelardb_rattle::ffi::{
     MODEL_BUILDER_WORDS, PMC_MEAN_WORDS, READER_WORDS, SEGMENT_WORDS, SELECTED_MODEL_WORDS,
     STATE_WORDS, SWING_WORDS,
 };
-use oracle::paper::{MOST_METADATA, MOST_RESIDUALS, MOST_VALUES};
+use oracle::paper::macaque_v::Opening;
+use oracle::paper::{MOST_METADATA, MOST_RESIDUALS, MOST_VALUES, size};
 use side_by_side::face::{self, choice, fit, reader, segments};
 use side_by_side::inputs::{ABOUT_MOST, Inputs, ONE, SPECIAL};
 
@@ -31,10 +32,12 @@ fn within_limits(call: usize) -> Vec<Record> {
     let most = MOST_VALUES as u64;
     let record = Record::default();
     match call {
-        // The bytes that it takes, and one less.
+        // The bytes that it takes, and one less; so too of lists that take the most bits.
         5 => [MOST_VALUES / 4 + 4, MOST_VALUES / 4 + 3]
             .map(written)
-            .to_vec(),
+            .into_iter()
+            .chain(largest_written())
+            .collect(),
         6 => [0, 1, most].map(reopened).to_vec(),
         7 | 8 | 37 => vec![Record {
             x: vec![1, ONE],
@@ -63,7 +66,10 @@ fn within_limits(call: usize) -> Vec<Record> {
             r: vec![STALE.into(); SEGMENT_WORDS],
             ..record
         }],
-        38.. => table::within_limits(call),
+        38..42 => table::within_limits(call),
+        42.. => [0, 1, 2, most - 1, most]
+            .map(|count| [0, 1].map(|mode| sized(count, mode)))
+            .concat(),
         _ => vec![],
     }
 }
@@ -119,7 +125,23 @@ fn above_limits(call: usize) -> Vec<Record> {
             record.v = vec![0; MOST_RESIDUALS + 1];
             vec![record]
         }
+        42.. => [1, u64::MAX / 44, u64::MAX - MOST_VALUES as u64]
+            .map(|above| Record {
+                w: vec![MOST_VALUES as u64 + above],
+                ..record.clone()
+            })
+            .to_vec(),
         _ => vec![],
+    }
+}
+
+/// How large a stream of so many values gets in a mode.
+fn sized(count: u64, mode: u32) -> Record {
+    Record {
+        x: vec![mode],
+        w: vec![count],
+        r: vec![STALE.into()],
+        ..Record::default()
     }
 }
 
@@ -133,6 +155,25 @@ pub fn written(bytes: usize) -> Record {
         r: row,
         ..Record::default()
     }
+}
+
+/// Lists of which none as long takes more bits, written into the bytes for so many values and into one less.
+fn largest_written() -> Vec<Record> {
+    let mut records = vec![];
+    for count in [1, 2, 3, 64] {
+        for opening in [Opening::WithFirst, Opening::On(ONE)] {
+            let bytes = size::most_bytes(count, opening).expect("within the limit");
+            let mut row = vec![0; STATE_WORDS];
+            face::new((0, 0), face::opening_words(opening), &mut row);
+            records.extend([bytes, bytes - 1].map(|bytes| Record {
+                p: vec![STALE; bytes],
+                v: size::largest(count, opening),
+                r: row.clone(),
+                ..Record::default()
+            }));
+        }
+    }
+    records
 }
 
 /// A stream of the most values, reopened behind the first k.
@@ -167,7 +208,8 @@ pub fn drawn(call: usize, inputs: &mut Inputs) -> Record {
         26..31 => of_parameters(call, inputs),
         31..34 => of_reading(inputs),
         34..38 => of_the_reader(call, inputs),
-        _ => table::drawn(call, inputs),
+        38..42 => table::drawn(call, inputs),
+        _ => of_sizes(inputs),
     };
     Record { call, ..record }
 }
@@ -563,6 +605,13 @@ fn of_the_reader(call: usize, inputs: &mut Inputs) -> Record {
     record
 }
 
+/// A count of any size up to a few above the limit, one time in ten in a mode that there is not.
+fn of_sizes(inputs: &mut Inputs) -> Record {
+    let most = inputs.pick(&[8, 1_000, MOST_VALUES as u64 + 4]);
+    let mode = opening(inputs)[0];
+    sized(inputs.below(most), mode)
+}
+
 #[cfg(test)]
 mod tests {
     use super::{Record, answered, within_limits};
@@ -577,7 +626,7 @@ mod tests {
             records.map(|record| answered(&record).0).collect()
         };
         let accepted = [0; 3];
-        assert_eq!(answers(5), [accepted, [4, 0, 0]]);
+        assert_eq!(answers(5), [accepted, [4, 0, 0]].repeat(9));
         assert_eq!(answers(6), [accepted; 3]);
         for call in [7, 8, 13, 14, 19, 30, 37, 40] {
             assert_eq!(answers(call), [accepted], "call {call}");
@@ -585,5 +634,8 @@ mod tests {
         assert_eq!(answers(38), [accepted, [4, 0, 0], [4, 0, 0], accepted]);
         assert_eq!(answers(39), [accepted; 3]);
         assert_eq!(answers(41), [accepted; 2]);
+        for call in [42, 43] {
+            assert_eq!(answers(call), [accepted; 10]);
+        }
     }
 }

@@ -5,7 +5,8 @@ use std::fmt::Write;
 
 /// What each list holds is said in crates/replay/src/calls.rt: `x` and `w` the numbers of 32 and of 64 bits in
 /// the order of the parameters, `t` timestamps, `p` and `q` bytes, `v` values, `s` a row that is
-/// only read and `r` one that is written, `u` how many entries of a place table are in use and then its words.
+/// only read and `r` one that is written, or a number, `u` how many entries of a place table are in use and
+/// then its words.
 #[derive(Clone, Default)]
 pub struct Record {
     pub call: usize,

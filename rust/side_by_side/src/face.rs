@@ -12,7 +12,7 @@ use modelardb_rattle::{Fault, Refusal};
 use oracle::paper::macaque_v::{self, MacaqueV, Opening, Window};
 use oracle::paper::models::ErrorBound::{self, Absolute, Lossless, Relative};
 use oracle::paper::refusal::{BOUND, COUNTS, LIMIT, OUTPUT, STATE};
-use oracle::paper::{Answer, Fault as Refused, Read, judge_count, refuse_if};
+use oracle::paper::{Answer, Fault as Refused, Read, judge_count, refuse_if, size};
 
 pub fn new(bound: Words, opening: Words, row: &mut [u64]) -> Fault {
     told(|| {
@@ -66,6 +66,20 @@ pub fn sum(bytes: &[u8], count: usize, opening: Words, out: &mut [u32]) -> Fault
     })
 }
 
+pub fn most_bits(count: usize, mode: u32, bits: &mut usize) -> Fault {
+    told(|| {
+        *bits = size::most_bits(count, opening_in((mode, 0))?)?;
+        Ok(())
+    })
+}
+
+pub fn most_bytes(count: usize, mode: u32, bytes: &mut usize) -> Fault {
+    told(|| {
+        *bytes = size::most_bytes(count, opening_in((mode, 0))?)?;
+        Ok(())
+    })
+}
+
 fn told(call: impl FnOnce() -> Read<()>) -> Fault {
     call().map_or_else(fault, |()| Fault::ACCEPTED)
 }
@@ -91,6 +105,14 @@ pub fn safe_bound(bound: ErrorBound) -> modelardb_rattle::ErrorBound {
         Lossless => modelardb_rattle::ErrorBound::Lossless,
         Absolute(bound) => modelardb_rattle::ErrorBound::Absolute(bound),
         Relative(bound) => modelardb_rattle::ErrorBound::Relative(bound),
+    }
+}
+
+/// An opening as the safe types take it.
+pub fn safe_opening(opening: Opening) -> modelardb_rattle::Opening {
+    match opening {
+        Opening::WithFirst => modelardb_rattle::Opening::First,
+        Opening::On(bits) => modelardb_rattle::Opening::on_bits(bits),
     }
 }
 

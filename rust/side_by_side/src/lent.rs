@@ -12,10 +12,11 @@ pub const WORD_GUARD: u64 = 0xA5A5_5A5A_A5A5_5A5A;
 pub const TIME_GUARD: i64 = 0x5A5A_A5A5_5A5A_A5A5;
 pub const COUNT_GUARD: usize = 0xA5A5_5A5A;
 
-/// What lent bytes, values and words hold before a call.
+/// What lent bytes, values, words and counts hold before a call.
 pub const STALE: u8 = 0x5A;
 pub const STALE_VALUE: u32 = 0x5A5A;
 pub const STALE_WORD: u64 = 0x5A5A;
+pub const STALE_COUNT: usize = 0x5A5A;
 
 /// How many places stand guard on each side: a stray word of eight bytes or two is seen. With `GUARDS=0` in the
 /// environment none do, and a slice is the whole of what is allocated for it: a memory checker such as valgrind

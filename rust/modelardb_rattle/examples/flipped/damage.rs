@@ -22,11 +22,8 @@ pub struct Outcomes {
 
 pub const NEAR: usize = 10;
 
-/// No value takes more than 45 bits.
-const MOST_BITS: usize = 45;
-
 pub fn written(values: &[f32], error_bound: ErrorBound) -> Result<Stream, Refusal> {
-    let mut bytes = vec![0; (MOST_BITS * values.len()).div_ceil(8)];
+    let mut bytes = vec![0; MacaqueV::most_bytes(values.len(), Opening::First)?];
     let mut writer = MacaqueV::new(error_bound, Opening::First)?;
     writer.compress_values(values, &mut bytes)?;
     bytes.truncate(writer.bytes_used());

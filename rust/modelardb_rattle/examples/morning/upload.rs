@@ -5,9 +5,6 @@ use modelardb_rattle::{ErrorBound, MacaqueV, Opening, Refusal};
 /// A writer and the bytes of its stream.
 pub type Upload = (MacaqueV, Vec<u8>);
 
-/// No value takes more than 45 bits.
-const MOST_BYTES: usize = 6;
-
 pub fn written(values: &[f32], error_bound: ErrorBound) -> Result<Upload, Refusal> {
     resumed(
         (MacaqueV::new(error_bound, Opening::First)?, vec![]),
@@ -18,7 +15,7 @@ pub fn written(values: &[f32], error_bound: ErrorBound) -> Result<Upload, Refusa
 /// The mean after each reading, as the writer that takes them one by one tells it: no byte is read for it.
 pub fn means(values: &[f32], error_bound: ErrorBound) -> Result<Vec<f64>, Refusal> {
     let mut writer = MacaqueV::new(error_bound, Opening::First)?;
-    let mut buffer = vec![0; MOST_BYTES * values.len()];
+    let mut buffer = vec![0; MacaqueV::most_bytes(values.len(), Opening::First)?];
     let mut means = vec![];
     for &value in values {
         writer.compress_values(&[value], &mut buffer)?;
@@ -36,9 +33,10 @@ pub fn cut(values: &[f32], k: usize, error_bound: ErrorBound) -> Result<Upload, 
     Ok((writer, bytes))
 }
 
-/// The values behind those that stand there.
+/// The values behind those that stand there, in a buffer with room for any so many.
 pub fn resumed((mut writer, mut bytes): Upload, values: &[f32]) -> Result<Upload, Refusal> {
-    bytes.resize(bytes.len() + MOST_BYTES * values.len(), 0);
+    let count = writer.length() + values.len();
+    bytes.resize(MacaqueV::most_bytes(count, Opening::First)?, 0);
     writer.compress_values(values, &mut bytes)?;
     bytes.truncate(writer.bytes_used());
     Ok((writer, bytes))

@@ -1,6 +1,6 @@
 //! A night as it is stored: the bytes of its stream, how many values they hold, and the table beside them.
 
-use modelardb_rattle::{ErrorBound, Opening, PlaceTable, Refusal, TabledWriter};
+use modelardb_rattle::{ErrorBound, MacaqueV, Opening, PlaceTable, Refusal, TabledWriter};
 use std::ops::Range;
 
 pub struct Stored {
@@ -9,11 +9,8 @@ pub struct Stored {
     pub table: PlaceTable,
 }
 
-/// No value takes more than 45 bits.
-const MOST_BYTES: usize = 6;
-
 pub fn store(values: &[f32], error_bound: ErrorBound) -> Result<Stored, Refusal> {
-    let mut bytes = vec![0; MOST_BYTES * values.len()];
+    let mut bytes = vec![0; MacaqueV::most_bytes(values.len(), Opening::First)?];
     let mut writer = TabledWriter::new(error_bound, Opening::First)?;
     writer.compress_values(values, &mut bytes)?;
     let (writer, table) = writer.into_parts();

@@ -3,12 +3,9 @@
 use modelardb_rattle::compare::Upload;
 use modelardb_rattle::{ErrorBound, MacaqueV, Opening, Refusal};
 
-/// No value takes more than 45 bits.
-const MOST_BYTES: usize = 6;
-
 pub fn written(values: &[f32], error_bound: ErrorBound) -> Result<Vec<u8>, Refusal> {
     let opening = Opening::First;
-    let mut buffer = vec![0; MOST_BYTES * values.len()];
+    let mut buffer = vec![0; MacaqueV::most_bytes(values.len(), opening)?];
     let mut writer = MacaqueV::new(error_bound, opening)?;
     writer.compress_values(values, &mut buffer)?;
     let upload = Upload {

@@ -106,9 +106,9 @@ pub const SEGMENT_WORDS: usize = 4;
 /// The most parameter bytes of a segment.
 pub const MOST_VALUES_BYTES: usize = 8;
 
-/// The most residual bytes of a segment: 45 bits for each of 255 residuals, and the byte that counts
-/// them.
-pub const MOST_RESIDUALS_BYTES: usize = 1_436;
+/// The most residual bytes of a segment: those of a stream of 255 values without a first one, and the byte
+/// that counts them.
+pub const MOST_RESIDUALS_BYTES: usize = 1_404;
 
 /// The bits of two values: a least and a greatest one, or a model's first and last.
 pub type Pair = (u32, u32);

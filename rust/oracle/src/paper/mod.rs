@@ -12,6 +12,7 @@ pub mod place_table;
 pub mod pmc_mean;
 pub mod rules;
 pub mod segments;
+pub mod size;
 pub mod swing;
 pub mod types;
 

@@ -50,6 +50,7 @@ pub const ALL: &[Part] = &[
     Part::new("library: repeats", library_stream::repeats),
     Part::new("library: states", library_stream::states),
     Part::new("library: sums", library_stream::sums),
+    Part::new("library: how large", library_stream::large),
     Part::new("library: reader", library_stream::reading),
     Part::new("library: causes", library_stream::causes),
     Part::new(

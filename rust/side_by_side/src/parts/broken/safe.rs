@@ -2,20 +2,17 @@
 
 use super::Broken;
 use crate::context::Context;
-use crate::face::placed;
+use crate::face::{placed, safe_opening};
 use crate::inputs::ONE;
 use modelardb_rattle::{self as library, PlaceTable, Reader, Refusal, Segment, TabledWriter};
 use oracle::paper::MOST_RESIDUALS;
-use oracle::paper::macaque_v::{Opening, read_all, sum};
+use oracle::paper::macaque_v::{read_all, sum};
 use std::result;
 
 impl Broken {
     pub fn by_the_safe_calls(&self, context: &mut Context) {
         let (bytes, count) = (&self.bytes[..], self.count);
-        let opening = match self.opening {
-            Opening::WithFirst => library::Opening::First,
-            Opening::On(bits) => library::Opening::on_bits(bits),
-        };
+        let opening = safe_opening(self.opening);
         let rows = read_all(bytes, count, self.opening);
         let values = rows.map(|rows| rows.iter().map(|row| row.value).collect::<Vec<u32>>());
         let last = values

@@ -1,7 +1,7 @@
 //! The rows about MacaqueV.
 
 use super::said::{Row, bytes, decimal, pattern, row, values};
-use crate::face::safe_bound;
+use crate::face::{safe_bound, safe_opening};
 use crate::inputs::{ONE, TWO};
 use modelardb_rattle::{self as library, Refusal};
 use oracle::paper::macaque_v::{self, MacaqueV, Opening};
@@ -23,13 +23,6 @@ pub fn rows() -> Vec<Row> {
     rows
 }
 
-fn of_library(opening: Opening) -> library::Opening {
-    match opening {
-        Opening::WithFirst => library::Opening::First,
-        Opening::On(bits) => library::Opening::on_bits(bits),
-    }
-}
-
 /// The bytes after some calls of the paper's writer, each with values.
 fn by_paper(bound: ErrorBound, opening: Opening, calls: &[&[u32]]) -> Answer<Vec<u8>> {
     let mut writer = MacaqueV::new(bound, opening)?;
@@ -43,7 +36,7 @@ fn by_paper(bound: ErrorBound, opening: Opening, calls: &[&[u32]]) -> Answer<Vec
 
 /// The same by the library.
 fn by_library(bound: ErrorBound, opening: Opening, calls: &[&[u32]]) -> Result<Vec<u8>, Refusal> {
-    let mut writer = library::MacaqueV::new(safe_bound(bound), of_library(opening))?;
+    let mut writer = library::MacaqueV::new(safe_bound(bound), safe_opening(opening))?;
     let mut buffer = vec![0; 6 * calls.concat().len()];
     for values in calls {
         writer.compress_values_bits(values, &mut buffer)?;
@@ -54,7 +47,7 @@ fn by_library(bound: ErrorBound, opening: Opening, calls: &[&[u32]]) -> Result<V
 
 fn read_by_library(bytes: &[u8], count: usize, opening: Opening) -> Result<Vec<u32>, Refusal> {
     let mut out = vec![0; count];
-    library::macaque_v::grid_bits(bytes, count, of_library(opening), &mut out).map(|()| out)
+    library::macaque_v::grid_bits(bytes, count, safe_opening(opening), &mut out).map(|()| out)
 }
 
 /// 2: What is kept of a value after another.
@@ -251,8 +244,8 @@ fn read_one(input: &'static str, stream: Vec<u8>, count: usize, opening: Opening
     let (mut out, mut ours) = (vec![0; count], vec![0; count]);
     let drawn = macaque_v::grid(&stream, count, opening, &mut out).map(|()| out);
     let paper = with_sum(drawn, macaque_v::sum(&stream, count, opening));
-    let answer = library::macaque_v::grid_bits(&stream, count, of_library(opening), &mut ours);
-    let sum = library::macaque_v::sum_bits(&stream, count, of_library(opening));
+    let answer = library::macaque_v::grid_bits(&stream, count, safe_opening(opening), &mut ours);
+    let sum = library::macaque_v::sum_bits(&stream, count, safe_opening(opening));
     let library = with_sum(answer.map(|()| ours), sum);
     let there = move |rust: &Calls| {
         let drawn = (rust.read)(&stream, count, opening).ok_or(());

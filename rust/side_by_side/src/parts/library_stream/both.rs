@@ -3,7 +3,7 @@
 
 use crate::context::Context;
 use crate::face;
-use crate::lent::{BYTE_GUARD, Lent, VALUE_GUARD, WORD_GUARD};
+use crate::lent::{BYTE_GUARD, COUNT_GUARD, Lent, STALE_COUNT, VALUE_GUARD, WORD_GUARD, compared};
 use modelardb_rattle::Fault;
 use modelardb_rattle::ffi::{self, Words};
 
@@ -85,6 +85,34 @@ pub fn reopened(context: &mut Context, buffer: &[u8], at: At, row: &[u64]) -> Le
     let input = || format!("reopened {at:X?} of {buffer:02X?} into {row:X?}");
     context.same("library", expected, left, input);
     (fault, after, bytes)
+}
+
+/// The most that a count of values in a mode takes.
+type Most = fn(usize, u32, &mut usize) -> Fault;
+
+/// The paper's and the library's.
+pub const MOST_BITS: [Most; 2] = [face::most_bits, |count, mode, bits| {
+    ffi::macaque_v_most_bits(count, mode, bits)
+}];
+pub const MOST_BYTES: [Most; 2] = [face::most_bytes, |count, mode, bytes| {
+    ffi::macaque_v_most_bytes(count, mode, bytes)
+}];
+
+/// What is answered, and the number afterwards.
+pub fn most(
+    context: &mut Context,
+    [paper, library]: [Most; 2],
+    count: usize,
+    mode: u32,
+) -> (Fault, usize) {
+    let (fault, left) = compared(
+        context,
+        (&[STALE_COUNT], COUNT_GUARD),
+        |number| paper(count, mode, &mut number[0]),
+        |number| library(count, mode, &mut number[0]),
+        || format!("the most of {count} values in mode {mode}"),
+    );
+    (fault, left[0])
 }
 
 /// Reading into an output.

@@ -13,7 +13,7 @@ use oracle::paper::MOST_VALUES;
 use oracle::paper::macaque_v::Opening;
 use oracle::paper::models::ErrorBound;
 
-const MODES: [u32; 4] = [0, 1, 2, u32::MAX];
+pub(super) const MODES: [u32; 4] = [0, 1, 2, u32::MAX];
 
 /// A row's lengths: none, a part of its bound, its bound alone, one word less, just enough, and more.
 const ROWS: [usize; 6] = [0, 1, 2, STATE_WORDS - 1, STATE_WORDS, STATE_WORDS + 2];

@@ -183,11 +183,7 @@ fn in_pieces(context: &mut Context, stream: &Stream) {
 
 /// The safe type over the same calls: its accessors say what the row holds.
 fn by_the_safe_type(context: &mut Context, bound: ErrorBound, opening: Opening, stream: &Stream) {
-    let opening = match opening {
-        Opening::WithFirst => library::Opening::First,
-        Opening::On(bits) => library::Opening::on_bits(bits),
-    };
-    let bound = face::safe_bound(bound);
+    let (bound, opening) = (face::safe_bound(bound), face::safe_opening(opening));
     let mut buffer = vec![0; stream.bytes.len()];
     let mut writer = library::MacaqueV::new(bound, opening).expect("an allowed bound");
     let answer = writer.compress_values_bits(&stream.values, &mut buffer);

@@ -4,6 +4,7 @@
 pub mod both;
 mod causes;
 mod damaged;
+mod large;
 mod lists;
 mod marked;
 mod older;
@@ -15,6 +16,7 @@ mod sums;
 
 pub use causes::causes;
 pub use damaged::damaged;
+pub use large::large;
 pub use lists::{lists, short_lists};
 pub use marked::marked;
 pub use older::older;

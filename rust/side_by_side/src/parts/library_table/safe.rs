@@ -2,17 +2,10 @@
 
 use super::Tabled;
 use crate::context::Context;
-use crate::face::{self, placed};
+use crate::face::{placed, safe_bound, safe_opening};
 use modelardb_rattle::{self as library, PlaceTable, Refusal, TabledWriter};
 use oracle::paper::macaque_v::Opening;
 use oracle::paper::models::ErrorBound;
-
-fn opening_of(opening: Opening) -> library::Opening {
-    match opening {
-        Opening::WithFirst => library::Opening::First,
-        Opening::On(bits) => library::Opening::on_bits(bits),
-    }
-}
 
 /// Written in two goes, reopened at the first, checked and read: what the calls on words give.
 pub fn written(context: &mut Context, bound: ErrorBound, opening: Opening, tabled: &Tabled) {
@@ -25,15 +18,15 @@ pub fn written(context: &mut Context, bound: ErrorBound, opening: Opening, table
         )
     };
     let words = &tabled.table.words[..];
-    let made = by_the_types(face::safe_bound(bound), opening_of(opening), tabled, half);
+    let made = by_the_types(safe_bound(bound), safe_opening(opening), tabled, half);
     let expected = (words.to_vec(), tabled.stream.bytes.clone());
     context.same("safe types", Ok(expected), placed(made), input);
     let table = PlaceTable::from_words(words.to_vec());
     let (bytes, count, _) = tabled.stored();
-    let checked = placed(table.check(bytes, count, opening_of(opening)));
+    let checked = placed(table.check(bytes, count, safe_opening(opening)));
     context.same("safe check", Ok(()), checked, input);
     let all = tabled.values(context);
-    let read = placed(table.range_bits(bytes, count, opening_of(opening), hour.clone()));
+    let read = placed(table.range_bits(bytes, count, safe_opening(opening), hour.clone()));
     context.same("safe range", Ok(all[hour].to_vec()), read, input);
 }
 
