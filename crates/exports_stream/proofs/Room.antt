@@ -53,15 +53,19 @@ module _ (n mode : ℕ) (most : n ≤ mostValues) (mode-is : mode ≤ 1) (old va
 
 -- ---- room
 
--- a row that any chain of writes, stops and resumes has made, list by list
-all-rows-have-room : (b : ErrorBound) (o : Opening) → openingValue o < 2 ^ 32 → boundAllowed b ≡ true → (n : ℕ) → n ≤ mostValues → (lists : List (List ℕ)) {xs buf row : List ℕ}
+-- a row that any chain of writes, stops and resumes has made accepts what is left of n values, where its bytes hold the most that n can take
+pub a-row-has-room : {b : ErrorBound} {o : Opening} {xs buf row : List ℕ} → RowMade b o xs buf row → openingValue o < 2 ^ 32 → boundAllowed b ≡ true → Below 32 xs → (n : ℕ)
+    → n ≤ mostValues → wholeBytes (mostOf n o) ≤ length buf → (ys : List ℕ) → length xs + length ys ≤ n → writeFault row ys buf ≡ noFault
+a-row-has-room R hl ok bx n most room ys few = ap stepFault (a-write-has-room (R .made) hl ok bx n most room ys few)
+
+-- and so list by list
+pub all-rows-have-room : (b : ErrorBound) (o : Opening) → openingValue o < 2 ^ 32 → boundAllowed b ≡ true → (n : ℕ) → n ≤ mostValues → (lists : List (List ℕ)) {xs buf row : List ℕ}
     → RowMade b o xs buf row → wholeBytes (mostOf n o) ≤ length buf → Below 32 (xs ++ inAll lists) → length (xs ++ inAll lists) ≤ n → AllRowsAccepted row buf lists
 all-rows-have-room b o hl ok n most [] R room small few = tt
 all-rows-have-room b o hl ok n most (ys ∷ lists) {xs} {buf} {row} R room small few =
     let parts : xs ++ (ys ++ inAll lists) ≡ (xs ++ ys) ++ inAll lists = sym (append-assoc xs ys (inAll lists)) in
     let apart : Below 32 ((xs ++ ys) ++ inAll lists) = subst (Below 32) parts small in
-    let written = a-write-has-room (R .made) hl ok (below-front 32 xs (ys ++ inAll lists) small) n most room ys (omega (arith, few, length-append xs (ys ++ inAll lists), length-append ys (inAll lists))) in
-    let here : writeFault row ys buf ≡ noFault = ap stepFault written in
+    let here = a-row-has-room R hl ok (below-front 32 xs (ys ++ inAll lists) small) n most room ys (omega (arith, few, length-append xs (ys ++ inAll lists), length-append ys (inAll lists))) in
     let next = a-row-goes-on R hl ys (below-front 32 (xs ++ ys) (inAll lists) apart) (ap (λ (f : Fault). f .number) here) in
     (here, all-rows-have-room b o hl ok n most lists next (omega (arith, room, a-row-keeps-the-length row ys buf)) apart (subst (λ (z : List ℕ). length z ≤ n) parts few))
 

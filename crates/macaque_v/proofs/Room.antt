@@ -80,7 +80,7 @@ module _ {b : ErrorBound} {o : Opening} {xs buf : List ℕ} {m : MacaqueV} (M : 
       ∙ size.a-write-has-room (coderOf b (isFirst o)) (coder-good b (isFirst o)) (omega arith) (openingValue o) (in-theory M) bx hl (no-bound-refuses b ok) n most fits ys few
 
 -- and so list by list
-all-have-room : (b : ErrorBound) (o : Opening) → openingValue o < 2 ^ 32 → boundAllowed b ≡ true → (n : ℕ) → n ≤ mostValues → (lists : List (List ℕ)) {xs buf : List ℕ} {m : MacaqueV}
+pub all-have-room : (b : ErrorBound) (o : Opening) → openingValue o < 2 ^ 32 → boundAllowed b ≡ true → (n : ℕ) → n ≤ mostValues → (lists : List (List ℕ)) {xs buf : List ℕ} {m : MacaqueV}
     → Made b o xs buf m → wholeBytes (mostOf n o) ≤ length buf → Below 32 (xs ++ inAll lists) → length (xs ++ inAll lists) ≤ n → AllAccepted m buf lists
 all-have-room b o hl ok n most [] M room small few = tt
 all-have-room b o hl ok n most (ys ∷ lists) {xs} {buf} {m} M room small few =
