@@ -7,10 +7,10 @@ use Prim.Native.Nat.{ℕ, _+_, _*_, _^_, _≤_, _<_}
 use native.Mathlib.Omega.{arith}
 use borrow.Author.Tests.{le-leb, le-ltb}
 use lib.Dec.{eqb}
-use lib.ListN.{length, drop, length-append}
+use lib.ListN.{length, length-append}
 use Rattle.bits.specs.Bits.{Below, wholeBytes}
 use Rattle.bits.proofs.Below.{below-front}
-use Rattle.models.specs.Answers.{fault, noFault, Said, answered, SaidOn, answeredOn, refusedOn, stateless, judge}
+use Rattle.models.specs.Answers.{fault, noFault, answered, SaidOn, answeredOn, refusedOn, judge}
 use Rattle.models.specs.declared.Fault.{Fault}
 use Rattle.models.specs.Limits.{mostValues}
 use Rattle.models.specs.Bound.{boundAllowed}
@@ -19,14 +19,14 @@ use Rattle.models.specs.declared.ErrorBound.the-variants.{Lossless}
 use Rattle.stream.specs.Format.{macaque, rawNext}
 use Rattle.stream.specs.Write.{keptFrom, after}
 use Rattle.stream.specs.Size.{mostBits}
-use Rattle.macaque_v.specs.State.{modeOf, isFirst, openingValue}
+use Rattle.macaque_v.specs.State.{modeOf, openingValue}
 use Rattle.macaque_v.specs.Calls.{lentBytes, newAnswer, writeAnswer}
 use Rattle.macaque_v.specs.Size.{mostOf, mostBitsAnswer, mostBytesAnswer, inAll, Fills}
 use Rattle.macaque_v.specs.declared.MacaqueV.{MacaqueV}
 use Rattle.macaque_v.specs.declared.Opening.{Opening}
 use Rattle.macaque_v.specs.declared.Opening.the-variants.{First, On}
 use Rattle.macaque_v.proofs.Room.{a-write-has-room, never-4-with-room, a-list-fills}
-use Rattle.exports.specs.Face.{boundOf, plainFault, stepFault, stepRow}
+use Rattle.exports.specs.Face.{boundOf, stepFault, stepRow}
 use Rattle.exports_stream.specs.Row.{writerLength, writtenRow, writerIn}
 use Rattle.exports_stream.specs.Calls.{openingOf, newFault, newRow, writeFault, writeRow, RowMade}
 use Rattle.exports_stream.specs.Size.{mostBitsFault, mostBitsNumber, mostBytesFault, mostBytesNumber, AllRowsAccepted, placeWord, RowFills}

@@ -18,7 +18,7 @@ use Rattle.macaque_v.specs.declared.read_run.Aim.the-variants as OfAim
 use Rattle.macaque_v.specs.declared.read_run.Tally.{Tally}
 use Rattle.macaque_v.specs.declared.read_run.Cursor.{Cursor}
 use Rattle.macaque_v.proofs.Adding.{one-more-added}
-use Rattle.macaque_v.proofs.Stepping.{raw-once}
+use Rattle.stream.proofs.Writing.{raw-once}
 use Rattle.macaque_v.proofs.ReadingRun.{reads-none, reads-then}
 
 module _ {A : Type 0} (G : Gather A) (mode : Mode) where

@@ -11,7 +11,7 @@ use lib.Dec.{leb}
 use lib.ListN.{length, length-append}
 use Rattle.bits.specs.Bits.{Below, wholeBytes}
 use Rattle.bits.proofs.Below.{below-nil, below-front}
-use Rattle.models.specs.Answers.{answered, SaidOn, answeredOn, refusedOn, fault, _when_, judge, refusing, NoneHolds}
+use Rattle.models.specs.Answers.{answered, SaidOn, answeredOn, refusedOn, fault, _when_, judge, refusing}
 use Rattle.models.specs.Causes.{boundCauses, countCauses}
 use Rattle.models.specs.Limits.{mostValues}
 use Rattle.models.specs.Bound.{boundAllowed}
@@ -30,7 +30,7 @@ use Rattle.stream.proofs.Largest.{macaque-turns, largest}
 use Rattle.coding.specs.Keep.{keepRule}
 use Rattle.macaque_v.specs.State.{Known, modeOf, streamIn, stateOf, writerOf, isFirst, openingValue, opened}
 use Rattle.macaque_v.specs.Write.{coderOf, streamBy, ruleBy, writerAt, wroteBy}
-use Rattle.macaque_v.specs.Calls.{lentBytes, tooMany, newAnswer, writeCauses, writeAnswer, writeMemory}
+use Rattle.macaque_v.specs.Calls.{lentBytes, tooMany, newAnswer, writeAnswer}
 use Rattle.macaque_v.specs.Made.{stateOver, Made}
 use Rattle.macaque_v.specs.Size.{mostOf, mostBitsAnswer, mostBytesAnswer, inAll, AllAccepted, Fills}
 use Rattle.macaque_v.specs.declared.MacaqueV.{MacaqueV}
@@ -57,7 +57,7 @@ most-bytes-told n k o h = let t = told (countCauses n) (wholeBytes (mostOf n o))
 pub a-stream-is-no-larger : (b : ErrorBound) (o : Opening) (xs : List ℕ) → (stateOver b o xs) .place ≤ mostOf (length xs) o
 a-stream-is-no-larger b o xs =
     subst (λ (raw : Bool). (stateOver b o xs) .place ≤ mostBits macaque raw (length xs)) (raw-fresh (isFirst o))
-    (omega (arith, size.place-most (streamIn (isFirst o)) macaque-good (omega arith) (keepRule b) (opened o) xs))
+    (omega (arith, size.place-at-most (streamIn (isFirst o)) macaque-good (omega arith) (keepRule b) (opened o) xs))
 
 -- so bytes that hold the most that n values can take have room for any list of no more
 pub a-stream-has-room : (b : ErrorBound) (o : Opening) (n bytes : ℕ) → wholeBytes (mostOf n o) ≤ bytes → (xs : List ℕ) → length xs ≤ n → (stateOver b o xs) .place ≤ 8 * bytes
@@ -65,7 +65,7 @@ a-stream-has-room b o n bytes room xs few = omega (arith, room, a-stream-is-no-l
 
 -- a write from any writer, handed in or made
 pub a-write-is-no-larger : (m : MacaqueV) (xs : List ℕ) → (wroteBy m xs) .place ≤ m .place + mostBits macaque (rawNext (modeOf (m .«with_first»)) (m .length)) (length xs)
-a-write-is-no-larger m xs = size.place-most (streamBy m) macaque-good (omega arith) (ruleBy m) (stateOf m) xs
+a-write-is-no-larger m xs = size.place-at-most (streamBy m) macaque-good (omega arith) (ruleBy m) (stateOf m) xs
 
 -- ---- room
 

@@ -10,8 +10,9 @@ use lib.ListN.{length}
 use lib.Ieee.{Float, binary32, add, ofBits}
 use Rattle.bits.specs.Bits.{field}
 use Rattle.bits.proofs.Fields.{length-field}
-use Rattle.stream.specs.Format.{macaque, Window, gathered, Mode, withFirst, withoutFirst, rawNext, State, isRaw, bitsFor, windowFor, windowIn}
+use Rattle.stream.specs.Format.{macaque, Window, gathered, rawNext, State, isRaw, bitsFor, windowFor, windowIn}
 use Rattle.stream.specs.Write.{keptOne, bitsOne, next}
+use Rattle.stream.proofs.Writing.{raw-once}
 use Rattle.macaque_v.specs.State.{Known, MinMax, minMaxWith, gatherSum, gatherKnown, endsIn, sumIn, modeOf, stateOf}
 use Rattle.macaque_v.specs.Write.{streamBy, ruleBy}
 use Rattle.macaque_v.specs.inner.Write.{stateBy, StrokeSays}
@@ -57,11 +58,6 @@ pub raw-none : (first : Bool) (len n : ℕ) → (first && eqb len 0) ≡ false �
 raw-none first len n e i h =
     let no : ¬ (i ≡ n) = omega arith in
     ne-eqb i n no ∙ ap (λ (b : Bool). b && eqb i 0) (sym e) ∙ raw-at first len i
-
--- behind a value none is raw
-pub raw-once : (mode : Mode) (n : ℕ) → rawNext mode (suc n) ≡ false
-raw-once withFirst n = refl
-raw-once withoutFirst n = refl
 
 -- a raw value enters the least and the greatest as any other; the sum begins with it
 pub known-more : (raw : Bool) (e : MinMax) (s : Float) (v : ℕ) → gathered gatherKnown raw (e, s) v ≡ (minMaxWith e v, gathered gatherSum raw s v)

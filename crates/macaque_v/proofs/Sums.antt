@@ -29,7 +29,7 @@ use Rattle.stream.specs.Calls.{valuesRead, reopening, resumed}
 use Rattle.stream.specs.Made.{Resumed}
 use Rattle.stream.proofs.Formats.{macaque-good}
 use Rattle.stream.proofs.Rule.{RuledIn, fresh-ruled, read-ruled, some-bits}
-use Rattle.stream.proofs.Writing.{place-after, count-after, length-kept, fresh-small, kept-below}
+use Rattle.stream.proofs.Writing.{raw-once, place-after, count-after, length-kept, fresh-small, kept-below}
 use Rattle.stream.proofs.Gathered.{seen-after, SeenIn, seen-read, gather-folds, both-gather}
 use Rattle.stream.proofs.Reading.{Whole, WholeOf, whole}
 use Rattle.stream.proofs.Reopen.{ended-inv, refused-reopen, goes-on}
@@ -48,7 +48,6 @@ use Rattle.macaque_v.specs.Sums.{OfItsBytes, SumsAsTheCall, withSum, car
 use Rattle.macaque_v.specs.declared.MacaqueV.{MacaqueV}
 use Rattle.macaque_v.specs.declared.Opening.{Opening}
 use Rattle.macaque_v.proofs.Accepting.{coder-good, in-theory}
-use Rattle.macaque_v.proofs.Stepping.{raw-once}
 use Rattle.macaque_v.proofs.Writing.{written-count}
 use Rattle.macaque_v.proofs.Held.{ends-small, window-small, sum-fits}
 

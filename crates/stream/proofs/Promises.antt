@@ -27,7 +27,7 @@ use Rattle.stream.proofs.Reopen.{refused-reopen}
 use Rattle.stream.proofs.Made as spine
 use Rattle.stream.proofs.AnyStream.{any-resumed}
 use Rattle.stream.proofs.Marked.{marked}
-use Rattle.stream.proofs.Size.{written-most}
+use Rattle.stream.proofs.Size.{written-at-most}
 use Rattle.stream.proofs.Largest.{macaque-turns, gorilla-turns, largest}
 
 -- ---- demand 2: what was written reads back. And demand 3: a stream that is stopped and resumed is the stream of one fresh run.
@@ -175,7 +175,7 @@ reopening-changes-only-the-cut-bits buf p small room =
 -- n values take at most so many bits, by any rule of what is kept and from any state; a fresh one is such a state, whose first value is raw in the mode with one
 pub values-take-no-more : {A : Type 0} (S : Stream A) → Good (S .format) → 1 < S .format .width → (rule : ℕ → ℕ → ℕ) (s : State A) (xs : List ℕ)
     → length (written rule S s xs) ≤ mostBits (S .format) (isRaw S s) (length xs)
-values-take-no-more = written-most
+values-take-no-more = written-at-most
 
 -- "For lossless streams show for each n a list that reaches the bound": of MacaqueV, and of the stream of the Gorilla paper
 pub some-values-take-as-many : {A : Type 0} (mode : Mode) (G : Gather A) (l : ℕ) → l < 2 ^ 32 → (n : ℕ) → Largest (macaqueOf mode G) l n

@@ -1,5 +1,5 @@
 -- `exports_stream::put_number` meets its contract, case by case. Assumes nothing.
-use mathlib.Core.Path.{_≡_, sym, ap, _∙_}
+use mathlib.Core.Path.{sym, ap, _∙_}
 use denote.Ref.{now}
 use Rattle.macaque_v.specs.Size.{saysSize}
 use Rattle.exports.specs.Face.{plainFault}

@@ -1,6 +1,6 @@
 -- `largest::draw` is safe and ends: each turn sets one more value. Assumes nothing.
 use borrow.Author.Needs.{needs}
-use mathlib.Core.Path.{_≡_, refl}
+use mathlib.Core.Path.{_≡_}
 use Prim.Native.Nat.{_-_}
 use lib.ListN.{length}
 use Rattle.largest.proofs.draw.Statement.{statement}
