@@ -50,7 +50,7 @@ sum-fits mode n s (v ∷ vs) h = sum-fits mode (suc n) (gathered gatherSum (rawN
     one true = ofBits-fits binary32 v
     one false = add-fits binary32 s (ofBits binary32 v)
 
-last-small : {A : Type 0} (S : Stream A) (s : State A) (vs : List ℕ) → s .last < 2 ^ 32 → Below 32 vs → (after S s vs) .last < 2 ^ 32
+pub last-small : {A : Type 0} (S : Stream A) (s : State A) (vs : List ℕ) → s .last < 2 ^ 32 → Below 32 vs → (after S s vs) .last < 2 ^ 32
 unfolding after
 last-small S s [] h b = h
 last-small S s (v ∷ vs) h b = last-small S (next S s v) vs (b 0) (λ i. b (suc i))

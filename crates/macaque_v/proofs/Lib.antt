@@ -5,6 +5,7 @@ pub mod Sums
 pub mod Kept
 pub mod Sizes
 pub mod Room
+pub mod Turns
 pub mod Extremes
 pub mod Adding
 pub mod Stepping

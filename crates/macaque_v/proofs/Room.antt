@@ -1,17 +1,17 @@
--- How large a stream can get, of the calls: what `most_bytes` answers is room enough for a fresh writer, in one write or in any chain of writes; fewer bytes
--- are not, for some list; and from any writer, handed in or made, a write is not refused with 4 where the most bits of its values have room. Assumes nothing.
+-- How large a stream can get, of the calls: what they answer; the bound, for every list; that a writer which was made has room in so many bytes, and for some list
+-- in no fewer; and that from any writer, handed in or made, a write is not refused with 4 where the most bits of its values have room. Assumes nothing.
 use mathlib.Core.Path.{_≡_, refl, sym, ap, _∙_, subst}
 use mathlib.Core.Bool.{Bool, true, false, not, true≢false}
-use mathlib.Core.List.{List, [], _∷_, _++_, append-assoc}
+use mathlib.Core.List.{List, [], _∷_, _++_}
 use Prim.Native.Nat.{ℕ, _+_, _*_, _^_, _≤_, _<_}
 use native.Mathlib.Nat.{min-le-left, zero-add}
 use native.Mathlib.Omega.{arith}
-use borrow.Author.Tests.{le-leb, le-ltb, lt-leb, ltb-false, not-false}
+use borrow.Author.Tests.{le-leb, le-ltb, lt-leb, lt-ltb, ltb-false, not-false}
 use lib.Dec.{leb}
-use lib.ListN.{length, length-append}
+use lib.ListN.{length}
 use Rattle.bits.specs.Bits.{Below, wholeBytes}
-use Rattle.bits.proofs.Below.{below-nil, below-front}
-use Rattle.models.specs.Answers.{answered, SaidOn, answeredOn, refusedOn, fault, _when_, judge, refusing}
+use Rattle.bits.proofs.Below.{below-nil}
+use Rattle.models.specs.Answers.{answered, refused, SaidOn, answeredOn, refusedOn, fault, _when_, judge, refusing}
 use Rattle.models.specs.Causes.{boundCauses, countCauses}
 use Rattle.models.specs.Limits.{mostValues}
 use Rattle.models.specs.Bound.{boundAllowed}
@@ -32,13 +32,13 @@ use Rattle.macaque_v.specs.State.{Known, modeOf, streamIn, stateOf, writ
 use Rattle.macaque_v.specs.Write.{coderOf, streamBy, ruleBy, writerAt, wroteBy}
 use Rattle.macaque_v.specs.Calls.{lentBytes, tooMany, newAnswer, writeAnswer}
 use Rattle.macaque_v.specs.Made.{stateOver, Made}
-use Rattle.macaque_v.specs.Size.{mostOf, mostBitsAnswer, mostBytesAnswer, inAll, AllAccepted, Fills}
+use Rattle.macaque_v.specs.Size.{mostOf, mostBitsAnswer, mostBytesAnswer, Fills}
 use Rattle.macaque_v.specs.declared.MacaqueV.{MacaqueV}
 use Rattle.macaque_v.specs.declared.Opening.{Opening}
 use Rattle.macaque_v.proofs.Accepting.{coder-good, no-bound-refuses, in-theory}
-use Rattle.macaque_v.proofs.Promises.{a-fresh-writer, a-write-goes-on, a-write-is-accepted, a-write-keeps-the-length}
+use Rattle.macaque_v.proofs.Promises.{a-fresh-writer, a-write-is-accepted}
 
-raw-fresh : (first : Bool) → rawNext (modeOf first) 0 ≡ first
+pub raw-fresh : (first : Bool) → rawNext (modeOf first) 0 ≡ first
 raw-fresh true = refl
 raw-fresh false = refl
 
@@ -50,6 +50,15 @@ most-bits-told n k o h = let t = told (countCauses n) (mostOf n o) k (sym h) in 
 pub most-bytes-told : (n k : ℕ) (o : Opening) → mostBytesAnswer n o ≡ answered k → (n ≤ mostValues) × (k ≡ wholeBytes (mostOf n o))
 unfolding mostBytesAnswer
 most-bytes-told n k o h = let t = told (countCauses n) (wholeBytes (mostOf n o)) k (sym h) in (ltb-false mostValues n (t .0 .0), t .1)
+
+-- and what is answered: a count within its limit, or 3
+pub most-answered : (n : ℕ) (o : Opening) → n ≤ mostValues → (mostBitsAnswer n o ≡ answered (mostOf n o)) × (mostBytesAnswer n o ≡ answered (wholeBytes (mostOf n o)))
+unfolding mostBitsAnswer mostBytesAnswer judge
+most-answered n o h = rw (le-ltb mostValues n h) (refl, refl)
+
+pub over-the-limit-is-3 : (n : ℕ) (o : Opening) → mostValues < n → (mostBitsAnswer n o ≡ refused (fault 3)) × (mostBytesAnswer n o ≡ refused (fault 3))
+unfolding mostBitsAnswer mostBytesAnswer judge
+over-the-limit-is-3 n o h = rw (lt-ltb mostValues n h) (refl, refl)
 
 -- ---- the bound, for every list and every bound of what is kept
 
@@ -79,29 +88,10 @@ module _ {b : ErrorBound} {o : Opening} {xs buf : List ℕ} {m : MacaqueV} (M : 
       ap (λ (w : MacaqueV). writeAnswer w ys buf) (M .writer)
       ∙ size.a-write-has-room (coderOf b (isFirst o)) (coder-good b (isFirst o)) (omega arith) (openingValue o) (in-theory M) bx hl (no-bound-refuses b ok) n most fits ys few
 
--- and so list by list
-pub all-have-room : (b : ErrorBound) (o : Opening) → openingValue o < 2 ^ 32 → boundAllowed b ≡ true → (n : ℕ) → n ≤ mostValues → (lists : List (List ℕ)) {xs buf : List ℕ} {m : MacaqueV}
-    → Made b o xs buf m → wholeBytes (mostOf n o) ≤ length buf → Below 32 (xs ++ inAll lists) → length (xs ++ inAll lists) ≤ n → AllAccepted m buf lists
-all-have-room b o hl ok n most [] M room small few = tt
-all-have-room b o hl ok n most (ys ∷ lists) {xs} {buf} {m} M room small few =
-    let next : MacaqueV = writerOf b (isFirst o) (stateOver b o (xs ++ ys)) in
-    let parts : xs ++ (ys ++ inAll lists) ≡ (xs ++ ys) ++ inAll lists = sym (append-assoc xs ys (inAll lists)) in
-    let here = a-write-has-room M hl ok (below-front 32 xs (ys ++ inAll lists) small) n most room ys (omega (arith, few, length-append xs (ys ++ inAll lists), length-append ys (inAll lists))) in
-    let later =
-    all-have-room b o hl ok n most lists (a-write-goes-on M ys next here) (omega (arith, room, a-write-keeps-the-length m ys buf)) (subst (Below 32) parts small) (subst (λ (z : List ℕ). length z ≤ n) parts few) in
-    (next, here, later)
-
--- a bound with which a writer was opened
-new-told : (b : ErrorBound) (o : Opening) (m : MacaqueV) → newAnswer b o ≡ answered m → (boundAllowed b ≡ true) × (m ≡ writerOf b (isFirst o) (opened o))
+-- what an opened writer tells of its bound
+pub new-told : (b : ErrorBound) (o : Opening) (m : MacaqueV) → newAnswer b o ≡ answered m → (boundAllowed b ≡ true) × (m ≡ writerOf b (isFirst o) (opened o))
 unfolding newAnswer
 new-told b o m h = let t = told (boundCauses b) (writerOf b (isFirst o) (opened o)) m (sym h) in (not-false (boundAllowed b) (t .0 .0), t .1)
-
--- "a fresh writer lent that many bits, rounded up to bytes, never refuses n values with 4": they are accepted, in one write or in any chain of writes
-pub most-bytes-are-enough : (b : ErrorBound) (o : Opening) → openingValue o < 2 ^ 32 → (n k : ℕ) → mostBytesAnswer n o ≡ answered k → (buf : List ℕ) → k ≤ length buf
-    → (m : MacaqueV) → newAnswer b o ≡ answered m → (lists : List (List ℕ)) → Below 32 (inAll lists) → length (inAll lists) ≤ n → AllAccepted m buf lists
-most-bytes-are-enough b o hl n k h buf room m opens lists small few =
-    let t = most-bytes-told n k o h in
-    all-have-room b o hl (new-told b o m opens .0) n (t .0) lists (a-fresh-writer b o buf m opens) (omega (arith, t .1, room)) small few
 
 -- of any writer at all: with room for the most bits of its values, 4 is no refusal of theirs
 pub never-4-with-room : (m : MacaqueV) (xs buf : List ℕ)
@@ -147,9 +137,9 @@ module _ (o : Opening) (hl : openingValue o < 2 ^ 32) (n : ℕ) (most : n ≤ mo
       let written = a-write-is-accepted (a-fresh-writer Lossless o buf m h) (below-nil 32) hl ok (L .values) (omega (arith, L .counted)) (omega (arith, end-place, room)) in
       (writerOf Lossless (isFirst o) end, written, end-place)
 
-  refused : (m : MacaqueV) → newAnswer Lossless o ≡ answered m → (buf : List ℕ) → length buf < wholeBytes (mostOf n o) → writeAnswer m (L .values) buf ≡ refusedOn (fault 4) m
+  too-short : (m : MacaqueV) → newAnswer Lossless o ≡ answered m → (buf : List ℕ) → length buf < wholeBytes (mostOf n o) → writeAnswer m (L .values) buf ≡ refusedOn (fault 4) m
   unfolding writeAnswer judge
-  refused m h buf less =
+  too-short m h buf less =
       let t = new-told Lossless o m h in
       let bytes : ℕ = lentBytes (length buf) in
       let room : bytes ≤ length buf = min-le-left (length buf) (2 ^ 60) in
@@ -159,4 +149,4 @@ module _ (o : Opening) (hl : openingValue o < 2 ^ 32) (n : ℕ) (most : n ≤ mo
       subst (λ (w : MacaqueV). writeAnswer w (L .values) buf ≡ refusedOn (fault 4) w) (sym (t .1)) (rw (t .0, may, few, over) refl)
 
   pub a-list-fills : Fills o n
-  a-list-fills = record { values = L .values; counted = L .counted; small = L .small; fills = filled; short = refused }
+  a-list-fills = record { values = L .values; counted = L .counted; small = L .small; fills = filled; short = too-short }

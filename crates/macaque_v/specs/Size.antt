@@ -1,17 +1,21 @@
 -- How large a stream can get (document 02, W9): what the calls answer, with the law that a result is told apart; and words of the promises on room. Assumes nothing.
 use mathlib.Core.Path.{_≡_, refl, ap}
-use mathlib.Core.List.{List, [], _∷_, _++_}
-use Prim.Native.Nat.{ℕ, _≤_, _<_}
+use mathlib.Core.Bool.{true}
+use mathlib.Core.List.{List, [], _∷_}
+use Prim.Native.Nat.{ℕ, _+_, _≤_, _<_}
 use lib.ListN.{length}
 use Rattle.bits.specs.Bits.{Below, wholeBytes}
 use Rattle.models.specs.Answers.{Said, Done, answered, refused, answeredOn, refusedOn, fault, judged, Injective, told-apart}
+use Rattle.models.specs.Bound.{boundAllowed}
 use Rattle.models.specs.Causes.{countCauses}
 use Rattle.models.specs.Refusals.{faultOf, refusal-told, unsaid}
+use Rattle.models.specs.declared.ErrorBound.{ErrorBound}
 use Rattle.models.specs.declared.ErrorBound.the-variants.{Lossless}
 use Rattle.stream.specs.Format.{macaque}
 use Rattle.stream.specs.Size.{mostBits}
 use Rattle.macaque_v.specs.State.{isFirst}
 use Rattle.macaque_v.specs.Calls.{newAnswer, writeAnswer, writeMemory}
+use Rattle.macaque_v.specs.Read.{reopenAnswer, reopenMemory}
 use Rattle.macaque_v.specs.declared.MacaqueV.{MacaqueV}
 use Rattle.macaque_v.specs.declared.Opening.{Opening}
 use Rattle.macaque_v.specs.declared.size.SizeAnswer.{SizeAnswer}
@@ -41,17 +45,27 @@ size-told (OfSize.Refused r) = ap OfSize.Refused (refusal-told r)
 pub saysSize-injective : Injective saysSize
 saysSize-injective = told-apart saysSize (unsaid OfSize.Answered OfSize.Refused) size-told
 
--- ---- "a fresh writer lent that many bits .. never refuses n values with 4", in one write or in any chain of writes
+-- ---- "a fresh writer lent that many bits .. never refuses n values with 4", in one write or in any chain of writes, also where it is stopped and reopened
+-- in between
 
--- lists one behind the other
-abbrev pub inAll : List (List ℕ) → List ℕ
-inAll [] = []
-inAll (ys ∷ lists) = ys ++ inAll lists
+-- one turn of a chain: values are written, or the stream is reopened behind its first k values, with a bound of its own
+pub data Turn : Type 0 where
+  writes : List ℕ → Turn
+  reopens : ℕ → ErrorBound → Turn
 
--- each list is accepted by the writer, and in the bytes, that the write before left
-abbrev pub AllAccepted : MacaqueV → List ℕ → List (List ℕ) → Type 0
-AllAccepted m buf [] = Done
-AllAccepted m buf (ys ∷ lists) = (n : MacaqueV) × (writeAnswer m ys buf ≡ answeredOn n) × AllAccepted n (writeMemory m ys buf) lists
+-- from `have` values on, the stream never has more than n; it is reopened behind values that it has, with bounds that are allowed
+abbrev pub AtMost : ℕ → ℕ → List Turn → Type 0
+AtMost n have [] = Done
+AtMost n have (writes ys ∷ turns) = (have + length ys ≤ n) × Below 32 ys × AtMost n (have + length ys) turns
+AtMost n have (reopens k b ∷ turns) = (k ≤ have) × (boundAllowed b ≡ true) × AtMost n k turns
+
+-- each turn is accepted by the writer, and in the bytes, that the one before left
+abbrev pub AllAccepted : Opening → MacaqueV → List ℕ → List Turn → Type 0
+AllAccepted o m buf [] = Done
+AllAccepted o m buf (writes ys ∷ turns) = (next : MacaqueV) × (writeAnswer m ys buf ≡ answeredOn next) × AllAccepted o next (writeMemory m ys buf) turns
+AllAccepted o m buf (reopens k b ∷ turns) =
+    (next : MacaqueV) × (reopenAnswer buf (wholeBytes (m .place)) (m .length) k o b ≡ answered next)
+    × AllAccepted o next (reopenMemory buf (wholeBytes (m .place)) (m .length) k o b) turns
 
 -- n values of which a fresh lossless writer writes as many bits as `most_bits` answers: in fewer bytes than `most_bytes` answers it refuses them with 4
 pub record Fills (o : Opening) (n : ℕ) : Type 0 where

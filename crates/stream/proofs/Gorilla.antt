@@ -31,7 +31,10 @@ use Rattle.stream.proofs.Size as size
 pub at-most-77 : longest gorilla ≡ 77
 at-most-77 = refl
 
--- so n values take at most 64 bits for n = 1, and 64 + 76 × (n − 1) + 1 above that
+-- so the most bits of n values are 64 for n = 1, and 64 + 76 × (n − 1) + 1 above that
+pub its-first-value-alone : mostBits gorilla true 1 ≡ 64
+its-first-value-alone = refl
+
 pub its-most-bits : (n : ℕ) → 2 ≤ n → mostBits gorilla true n ≡ 64 + 76 * (n - 1) + 1
 its-most-bits zero p = absurd (omega arith)
 its-most-bits (suc zero) p = absurd (omega arith)

@@ -11,7 +11,7 @@ use Rattle.bits.specs.Bits.{Below, field, bitsOf, wholeBytes, up, padding, padd
 use Rattle.bits.proofs.Bytes.{length-bitsOf}
 use Rattle.bits.proofs.Writes.{laid-used, cut-used}
 use Rattle.bits.proofs.InBytes.{bits-laidIn, length-laidIn, laidIn-nothing, laidIn-before, laidIn-after, bits-cutIn, length-cutIn, cutIn-before, cutIn-after}
-use Rattle.stream.specs.Format.{Format, macaque, gorilla, bitsFor, Gather, gatherFrom, Mode, withFirst, withoutFirst, Stream, macaqueOf, State, fresh, isRaw, mostValues, usable}
+use Rattle.stream.specs.Format.{Format, macaque, gorilla, Window, kindOf, codeOf, windowBy, bitsFor, Gather, gatherFrom, Mode, withFirst, withoutFirst, Stream, macaqueOf, State, fresh, isRaw, mostValues, usable}
 use Rattle.stream.specs.Write.{lossless, keptFrom, kept, Keeps, written, wrote, wroteIn}
 use Rattle.stream.specs.Read.{StreamRefusal, done, stopped, readAll, Reopened, reopened, unopened, reopen, bufferAfter}
 use Rattle.stream.specs.Made.{Made, Resumed, Rewritten}
@@ -27,7 +27,7 @@ use Rattle.stream.proofs.Reopen.{refused-reopen}
 use Rattle.stream.proofs.Made as spine
 use Rattle.stream.proofs.AnyStream.{any-resumed}
 use Rattle.stream.proofs.Marked.{marked}
-use Rattle.stream.proofs.Size.{written-at-most}
+use Rattle.stream.proofs.Size.{written-at-most, a-longest-code-sets-all-bits, all-bits-stay}
 use Rattle.stream.proofs.Largest.{macaque-turns, gorilla-turns, largest}
 
 -- ---- demand 2: what was written reads back. And demand 3: a stream that is stopped and resumed is the stream of one fresh run.
@@ -176,6 +176,15 @@ reopening-changes-only-the-cut-bits buf p small room =
 pub values-take-no-more : {A : Type 0} (S : Stream A) → Good (S .format) → 1 < S .format .width → (rule : ℕ → ℕ → ℕ) (s : State A) (xs : List ℕ)
     → length (written rule S s xs) ≤ mostBits (S .format) (isRaw S s) (length xs)
 values-take-no-more = written-at-most
+
+-- "The reason: a 45-bit code sets a window that no later code replaces." Behind it a code takes at most 33 bits.
+pub a-45-bit-code-sets-all-bits : (win : Window) (x : ℕ) → 45 ≤ length (codeOf macaque win x)
+    → (windowBy macaque win x (kindOf macaque win x)) .lead + (windowBy macaque win x (kindOf macaque win x)) .trail ≡ 0
+a-45-bit-code-sets-all-bits = a-longest-code-sets-all-bits macaque macaque-good (omega arith)
+
+pub no-later-code-replaces-it : (win : Window) (x : ℕ) → win .lead + win .trail ≡ 0
+    → (windowBy macaque win x (kindOf macaque win x) ≡ win) × (length (codeOf macaque win x) ≤ 33)
+no-later-code-replaces-it = all-bits-stay macaque macaque-good (omega arith) (omega arith)
 
 -- "For lossless streams show for each n a list that reaches the bound": of MacaqueV, and of the stream of the Gorilla paper
 pub some-values-take-as-many : {A : Type 0} (mode : Mode) (G : Gather A) (l : ℕ) → l < 2 ^ 32 → (n : ℕ) → Largest (macaqueOf mode G) l n
