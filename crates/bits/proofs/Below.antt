@@ -31,13 +31,8 @@ module _ (w : ℕ) where
   below-drop (suc k) [] b i = b i
   below-drop (suc k) (v ∷ vs) b i = below-drop k vs (λ j. b (suc j)) i
 
-  -- two lists, one behind the other; and the first of them
+  -- one list behind another
   pub below-append : (us vs : List ℕ) → Below w us → Below w vs → Below w (us ++ vs)
   below-append [] vs a b i = b i
   below-append (u ∷ us) vs a b zero = a 0
   below-append (u ∷ us) vs a b (suc i) = below-append us vs (λ j. a (suc j)) b i
-
-  pub below-front : (us vs : List ℕ) → Below w (us ++ vs) → Below w us
-  below-front [] vs b i = pow-pos w
-  below-front (u ∷ us) vs b zero = b 0
-  below-front (u ∷ us) vs b (suc i) = below-front us vs (λ j. b (suc j)) i

@@ -7,5 +7,6 @@ pub mod Promises
 pub mod Sums
 pub mod Kept
 pub mod Room
+pub mod Turns
 pub mod Broken
 pub mod Causes

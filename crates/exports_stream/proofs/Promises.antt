@@ -49,7 +49,7 @@ front-words : (m : MacaqueV) (rest : List ℕ) → take writerLength (writerRow 
 unfolding writerRow
 front-words m rest = refl
 
-behind-words : (m : MacaqueV) (rest : List ℕ) → drop writerLength (writerRow m ++ rest) ≡ rest
+pub behind-words : (m : MacaqueV) (rest : List ℕ) → drop writerLength (writerRow m ++ rest) ≡ rest
 unfolding writerRow
 behind-words m rest = refl
 
@@ -78,18 +78,21 @@ unfolding after
 no-value-no-place S s [] h e = h
 no-value-no-place S s (v ∷ vs) h e = absurd (omega (arith, count-after S s (v ∷ vs), e))
 
+-- a row of a writer behind some kept values stands for a state: it holds eleven words
+pub stands-behind : (b : ErrorBound) (o : Opening) (vs row : List ℕ) → writerIn row ≡ writerOf b (isFirst o) (after (streamIn (isFirst o)) (opened o) vs) → standsForState row ≡ true
+stands-behind b o vs row e = go (standsForState row) refl
+  where
+    go : (t : Bool) → standsForState row ≡ t → t ≡ true
+    go true h = refl
+    go false h =
+        let spoiled : spoiledWriter (boundFront row) ≡ writerOf b (isFirst o) (after (streamIn (isFirst o)) (opened o) vs) = no-state row h ∙ e in
+        let count : 0 ≡ (after (streamIn (isFirst o)) (opened o) vs) .count = ap (λ (m : MacaqueV). m .length) spoiled in
+        let place : 1 ≡ (after (streamIn (isFirst o)) (opened o) vs) .place = ap (λ (m : MacaqueV). m .place) spoiled in
+        absurd (omega (arith, place, no-value-no-place (streamIn (isFirst o)) (opened o) vs refl (sym count)))
+
 module _ {b : ErrorBound} {o : Opening} {xs buf row : List ℕ} (R : RowMade b o xs buf row) where
-  -- a row that stands for a made writer stands for a state: it holds eleven words
   pub a-made-row-stands : standsForState row ≡ true
-  a-made-row-stands = go (standsForState row) refl
-    where
-      go : (t : Bool) → standsForState row ≡ t → t ≡ true
-      go true h = refl
-      go false h =
-          let spoiled : spoiledWriter (boundFront row) ≡ writerOf b (isFirst o) (stateOver b o xs) = no-state row h ∙ R .made .writer in
-          let count : 0 ≡ (stateOver b o xs) .count = ap (λ (m : MacaqueV). m .length) spoiled in
-          let place : 1 ≡ (stateOver b o xs) .place = ap (λ (m : MacaqueV). m .place) spoiled in
-          absurd (omega (arith, place, no-value-no-place (streamIn (isFirst o)) (opened o) (keptOf b o xs) refl (sym count)))
+  a-made-row-stands = stands-behind b o (keptOf b o xs) row (R .made .writer)
 
   -- its word of the place tells the bytes in use, and its word of the length how many values were written
   pub place-word : (writerIn row) .place ≡ getD row 8 0
@@ -155,20 +158,33 @@ accepted-zero m ys buf =
     judged-so (λ (q : SaidOn MacaqueV MacaqueV). (plainFault (stateless q)) .number ≡ 0 → q ≡ answeredOn (writerAt m (wroteBy m ys))) (refusing m) (λ n pos z. absurd (omega (arith, pos, z)))
     (writeCauses m ys (lentBytes (length buf))) (omega arith, (omega arith, (omega arith, (omega arith, tt)))) _ (λ z. refl)
 
-module _ {b : ErrorBound} {o : Opening} {xs buf row : List ℕ} (R : RowMade b o xs buf row) (hl : openingValue o < 2 ^ 32) where
-  -- the words that a write leaves are those of the bound and the mode of the writer that the row stands for
+-- of a row whose words are those of the writer that it stands for
+module _ {row : List ℕ} (stands : standsForState row ≡ true) (words : row ≡ writerRow (writerIn row) ++ drop writerLength row) where
   own-word : (i : ℕ) → getD row i 0 ≡ getD (writerRow (writerIn row) ++ drop writerLength row) i 0
-  own-word i = ap (λ (l : List ℕ). getD l i 0) (R .words)
+  own-word i = ap (λ (l : List ℕ). getD l i 0) words
 
+  -- the words that a write leaves are those of the bound and the mode of that writer
   written-same : (n : MacaqueV) → n .«error_bound» ≡ (writerIn row) .«error_bound» → n .«with_first» ≡ (writerIn row) .«with_first» → sumAfter row n ≡ toBits binary32 (n .sum)
       → writtenRow row n ≡ writerRow n
   unfolding writtenRow writerRow
   written-same n e f sum = rw (e, f, sum, own-word 0, own-word 1, own-word 7)
 
   -- its word of the sum is the pattern of the writer's
-  pub plain-sum : sumWord row ≡ toBits binary32 ((writerIn row) .sum)
+  plain-word : sumWord row ≡ toBits binary32 ((writerIn row) .sum)
   unfolding writerRow
-  plain-sum = own-word 10
+  plain-word = own-word 10
+
+  -- an accepted write leaves a row that begins with the words of the writer after it
+  pub a-written-row : (ys buf : List ℕ) (n : MacaqueV) → writeAnswer (writerIn row) ys buf ≡ answeredOn n → n ≡ writerAt (writerIn row) (wroteBy (writerIn row) ys)
+      → writeRow row ys buf ≡ writerRow n ++ drop (length (writtenRow row n)) row
+  a-written-row ys buf n a is =
+      let same : writtenRow row n ≡ writerRow n = written-same n (ap (λ (w : MacaqueV). w .«error_bound») is) (ap (λ (w : MacaqueV). w .«with_first») is)
+      (subst (λ (w : MacaqueV). sumAfter row w ≡ toBits binary32 (w .sum)) (sym is) (sum-after-is row stands plain-word ys)) in
+      ap (stepRow (writtenRow row) row) a ∙ ap (λ (l : List ℕ). l ++ drop (length (writtenRow row n)) row) same
+
+module _ {b : ErrorBound} {o : Opening} {xs buf row : List ℕ} (R : RowMade b o xs buf row) (hl : openingValue o < 2 ^ 32) where
+  pub plain-sum : sumWord row ≡ toBits binary32 ((writerIn row) .sum)
+  plain-sum = plain-word (a-made-row-stands R) (R .words)
 
   -- its bound is of its format, whatever the words
   bound-held : BoundHeld b
@@ -179,8 +195,7 @@ module _ {b : ErrorBound} {o : Opening} {xs buf row : List ℕ} (R : RowMade b o
   a-row-goes-on ys by h =
       let n : MacaqueV = writerAt (writerIn row) (wroteBy (writerIn row) ys) in
       let a : writeAnswer (writerIn row) ys buf ≡ answeredOn n = accepted-zero (writerIn row) ys buf h in
-      let is : writeRow row ys buf ≡ writerRow n ++ drop (length (writtenRow row n)) row = ap (stepRow (writtenRow row) row) a ∙ ap (λ (l : List ℕ). l ++ drop (length (writtenRow row n)) row) (written-same n refl refl (sum-after-is row (a-made-row-stands R) plain-sum ys)) in
-      row-made (a-write-goes-on (R .made) ys n a) hl by bound-held _ is
+      row-made (a-write-goes-on (R .made) ys n a) hl by bound-held _ (a-written-row (a-made-row-stands R) (R .words) ys buf n a refl)
 
   -- and it is accepted, wherever room and count limit allow
   pub a-row-is-accepted : Below 32 xs → boundAllowed b ≡ true → (ys : List ℕ) → length xs + length ys ≤ mostValues

@@ -1,15 +1,14 @@
--- How large a stream can get, of rows: what the calls answer, that so many bytes are room enough for a new row, in one write or in any chain of writes, and that
--- fewer are not for some list. Assumes nothing.
+-- How large a stream can get, of rows: what the calls answer and refuse; that a row which was made has room in so many bytes, and for some list in no fewer; and
+-- that through any row a write is not refused with 4 where the most bits of its values have room. Assumes nothing.
 use mathlib.Core.Path.{_≡_, refl, sym, ap, _∙_, subst}
 use mathlib.Core.Bool.{Bool, true, false, cond}
-use mathlib.Core.List.{List, [], _∷_, _++_, append-assoc}
-use Prim.Native.Nat.{ℕ, _+_, _*_, _^_, _≤_, _<_}
+use mathlib.Core.List.{List}
+use Prim.Native.Nat.{ℕ, zero, suc, _+_, _*_, _^_, _≤_, _<_}
 use native.Mathlib.Omega.{arith}
-use borrow.Author.Tests.{le-leb, le-ltb}
+use borrow.Author.Tests.{le-leb, le-ltb, lt-leb, lt-ltb}
 use lib.Dec.{eqb}
-use lib.ListN.{length, length-append}
+use lib.ListN.{length}
 use Rattle.bits.specs.Bits.{Below, wholeBytes}
-use Rattle.bits.proofs.Below.{below-front}
 use Rattle.models.specs.Answers.{fault, noFault, answered, SaidOn, answeredOn, refusedOn, judge}
 use Rattle.models.specs.declared.Fault.{Fault}
 use Rattle.models.specs.Limits.{mostValues}
@@ -21,16 +20,17 @@ use Rattle.stream.specs.Write.{keptFrom, after}
 use Rattle.stream.specs.Size.{mostBits}
 use Rattle.macaque_v.specs.State.{modeOf, openingValue}
 use Rattle.macaque_v.specs.Calls.{lentBytes, newAnswer, writeAnswer}
-use Rattle.macaque_v.specs.Size.{mostOf, mostBitsAnswer, mostBytesAnswer, inAll, Fills}
+use Rattle.macaque_v.specs.Size.{mostOf, mostBitsAnswer, mostBytesAnswer, Fills}
 use Rattle.macaque_v.specs.declared.MacaqueV.{MacaqueV}
 use Rattle.macaque_v.specs.declared.Opening.{Opening}
 use Rattle.macaque_v.specs.declared.Opening.the-variants.{First, On}
 use Rattle.macaque_v.proofs.Room.{a-write-has-room, never-4-with-room, a-list-fills}
 use Rattle.exports.specs.Face.{boundOf, stepFault, stepRow}
-use Rattle.exports_stream.specs.Row.{writerLength, writtenRow, writerIn}
-use Rattle.exports_stream.specs.Calls.{openingOf, newFault, newRow, writeFault, writeRow, RowMade}
-use Rattle.exports_stream.specs.Size.{mostBitsFault, mostBitsNumber, mostBytesFault, mostBytesNumber, AllRowsAccepted, placeWord, RowFills}
-use Rattle.exports_stream.proofs.Promises.{a-new-row, new-opens, a-row-goes-on, a-row-keeps-the-length}
+use Rattle.exports_stream.specs.Row.{writerLength, writtenRow, standsForState, writerIn}
+use Rattle.exports_stream.specs.Calls.{openingOf, newRow, writeFault, writeRow, RowMade}
+use Rattle.exports_stream.specs.Size.{mostBitsFault, mostBitsNumber, mostBytesFault, mostBytesNumber, placeWord, RowFills}
+use Rattle.exports_stream.proofs.Words.{a-state}
+use Rattle.exports_stream.proofs.Promises.{a-new-row, new-opens}
 
 -- ---- what the two calls answer
 
@@ -51,34 +51,23 @@ module _ (n mode : ℕ) (most : n ≤ mostValues) (mode-is : mode ≤ 1) (old va
   unfolding mostBytesFault mostBytesNumber mostBytesAnswer judge
   most-bytes-say = rw (le-leb mode 1 mode-is, le-ltb mostValues n most) (refl, ap wholeBytes (sym (same-most n mode value)))
 
+-- a mode above 1 is refused with 3, and so is a count above its limit; the number stays
+module _ (n mode old : ℕ) where
+  pub no-mode-is-3 : 1 < mode → (mostBitsFault n mode ≡ fault 3) × (mostBitsNumber n mode old ≡ old) × (mostBytesFault n mode ≡ fault 3) × (mostBytesNumber n mode old ≡ old)
+  unfolding mostBitsFault mostBitsNumber mostBitsAnswer mostBytesFault mostBytesNumber mostBytesAnswer judge
+  no-mode-is-3 h = rw (lt-leb mode 1 h) (refl, refl, refl, refl)
+
+  pub over-the-limit-is-3 : mode ≤ 1 → mostValues < n
+      → (mostBitsFault n mode ≡ fault 3) × (mostBitsNumber n mode old ≡ old) × (mostBytesFault n mode ≡ fault 3) × (mostBytesNumber n mode old ≡ old)
+  unfolding mostBitsFault mostBitsNumber mostBitsAnswer mostBytesFault mostBytesNumber mostBytesAnswer judge
+  over-the-limit-is-3 h p = rw (le-leb mode 1 h, lt-ltb mostValues n p) (refl, refl, refl, refl)
+
 -- ---- room
 
 -- a row that any chain of writes, stops and resumes has made accepts what is left of n values, where its bytes hold the most that n can take
 pub a-row-has-room : {b : ErrorBound} {o : Opening} {xs buf row : List ℕ} → RowMade b o xs buf row → openingValue o < 2 ^ 32 → boundAllowed b ≡ true → Below 32 xs → (n : ℕ)
     → n ≤ mostValues → wholeBytes (mostOf n o) ≤ length buf → (ys : List ℕ) → length xs + length ys ≤ n → writeFault row ys buf ≡ noFault
 a-row-has-room R hl ok bx n most room ys few = ap stepFault (a-write-has-room (R .made) hl ok bx n most room ys few)
-
--- and so list by list
-pub all-rows-have-room : (b : ErrorBound) (o : Opening) → openingValue o < 2 ^ 32 → boundAllowed b ≡ true → (n : ℕ) → n ≤ mostValues → (lists : List (List ℕ)) {xs buf row : List ℕ}
-    → RowMade b o xs buf row → wholeBytes (mostOf n o) ≤ length buf → Below 32 (xs ++ inAll lists) → length (xs ++ inAll lists) ≤ n → AllRowsAccepted row buf lists
-all-rows-have-room b o hl ok n most [] R room small few = tt
-all-rows-have-room b o hl ok n most (ys ∷ lists) {xs} {buf} {row} R room small few =
-    let parts : xs ++ (ys ++ inAll lists) ≡ (xs ++ ys) ++ inAll lists = sym (append-assoc xs ys (inAll lists)) in
-    let apart : Below 32 ((xs ++ ys) ++ inAll lists) = subst (Below 32) parts small in
-    let here = a-row-has-room R hl ok (below-front 32 xs (ys ++ inAll lists) small) n most room ys (omega (arith, few, length-append xs (ys ++ inAll lists), length-append ys (inAll lists))) in
-    let next = a-row-goes-on R hl ys (below-front 32 (xs ++ ys) (inAll lists) apart) (ap (λ (f : Fault). f .number) here) in
-    (here, all-rows-have-room b o hl ok n most lists next (omega (arith, room, a-row-keeps-the-length row ys buf)) apart (subst (λ (z : List ℕ). length z ≤ n) parts few))
-
--- "a fresh writer lent that many bits, rounded up to bytes, never refuses n values with 4": neither call refuses, and through the new row all lists are
--- accepted, in one write or in any chain of writes
-pub most-bytes-are-enough : (kind bound mode value : ℕ) (row : List ℕ) → openingValue (openingOf mode value) < 2 ^ 32 → boundAllowed (boundOf kind bound) ≡ true → mode ≤ 1
-    → writerLength ≤ length row → (n : ℕ) → n ≤ mostValues → (old : ℕ) (buf : List ℕ) → mostBytesNumber n mode old ≤ length buf → (lists : List (List ℕ)) → Below 32 (inAll lists)
-    → length (inAll lists) ≤ n
-    → (mostBytesFault n mode ≡ noFault) × (newFault kind bound mode value row ≡ noFault) × AllRowsAccepted (newRow kind bound mode value row) buf lists
-most-bytes-are-enough kind bound mode value row hl ok mode-is words n most old buf room lists small few =
-    let say = most-bytes-say n mode most mode-is old value in
-    let new = a-new-row kind bound mode value row hl ok mode-is words in
-    (say .0, new .0, all-rows-have-room (boundOf kind bound) (openingOf mode value) hl ok n most lists (new .1 buf) (omega (arith, room, say .1)) small few)
 
 -- of any row at all: with room for the most bits of its values, 4 is no refusal of theirs
 pub never-4-with-room-through-a-row : (row ys buf : List ℕ)
@@ -89,6 +78,21 @@ never-4-with-room-through-a-row row ys buf room = go (writeAnswer (writerIn row)
     go : (q : SaidOn MacaqueV MacaqueV) → writeAnswer (writerIn row) ys buf ≡ q → (stepFault q) .number ≡ 4 → ⊥
     go (answeredOn n) e z = omega arith
     go (refusedOn f n) e z = never-4-with-room (writerIn row) ys buf room f n e z
+
+more-without-a-first : (raw : Bool) (n : ℕ) → mostBits macaque raw n ≤ mostBits macaque false n
+more-without-a-first false n = omega arith
+more-without-a-first true zero = omega arith
+more-without-a-first true (suc zero) = omega arith
+more-without-a-first true (suc (suc n)) = omega arith
+
+-- in words that a caller has: the bits that the row's word 8 counts, and those that `most_bits` gives without a first value
+pub behind-any-row : (row ys buf : List ℕ) → standsForState row ≡ true → length ys ≤ mostValues → (old : ℕ)
+    → placeWord row + mostBitsNumber (length ys) 1 old ≤ 8 * lentBytes (length buf) → (writeFault row ys buf) .number ≡ 4 → ⊥
+behind-any-row row ys buf h few old room =
+    let m : MacaqueV = writerIn row in
+    let p : placeWord row ≡ m .place = ap (λ (w : MacaqueV). w .place) (a-state row h) in
+    let say : mostBitsNumber (length ys) 1 old ≡ mostBits macaque false (length ys) = most-bits-say (length ys) 1 few (omega arith) old 0 .1 in
+    never-4-with-room-through-a-row row ys buf (omega (arith, room, p, say, more-without-a-first (rawNext (modeOf (m .«with_first»)) (m .length)) (length ys)))
 
 -- ---- a list that fills it
 

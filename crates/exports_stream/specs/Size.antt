@@ -3,13 +3,14 @@ use mathlib.Core.Path.{_≡_}
 use mathlib.Core.List.{List, [], _∷_}
 use Prim.Native.Nat.{ℕ, _≤_, _<_}
 use lib.ListN.{length, getD}
-use Rattle.bits.specs.Bits.{Below}
+use Rattle.bits.specs.Bits.{Below, wholeBytes}
 use Rattle.models.specs.Answers.{Said, Done, answered, refused, fault, noFault}
 use Rattle.models.specs.declared.Fault.{Fault}
-use Rattle.macaque_v.specs.Size.{mostBitsAnswer, mostBytesAnswer}
-use Rattle.exports.specs.Face.{plainFault}
-use Rattle.exports_stream.specs.Row.{writerLength}
-use Rattle.exports_stream.specs.Calls.{openingOf, countIn, newRow, writeFault, writeRow, writeBuffer}
+use Rattle.macaque_v.specs.Size.{mostBitsAnswer, mostBytesAnswer, Turn}
+use Rattle.macaque_v.specs.Size as call
+use Rattle.exports.specs.Face.{boundOf, plainFault}
+use Rattle.exports_stream.specs.Row.{writerLength, lengthWord}
+use Rattle.exports_stream.specs.Calls.{openingOf, countIn, newRow, writeFault, writeRow, writeBuffer, reopenFault, reopenRow, reopenBuffer}
 
 -- ---- most_bits and most_bytes: no opening value enters
 
@@ -38,14 +39,30 @@ mostBytesNumber count mode old = numberAfter old (mostBytesSaid count mode)
 
 -- ---- room, of rows
 
--- each list is accepted through the row, and in the bytes, that the write before left
-abbrev pub AllRowsAccepted : List ℕ → List ℕ → List (List ℕ) → Type 0
-AllRowsAccepted row buf [] = Done
-AllRowsAccepted row buf (ys ∷ lists) = (writeFault row ys buf ≡ noFault) × AllRowsAccepted (writeRow row ys buf) (writeBuffer row ys buf) lists
-
 -- the word of the place
 abbrev pub placeWord : List ℕ → ℕ
 placeWord row = getD row 8 0
+
+-- one turn of a chain: values are written, or the stream is reopened behind its first k values, with a bound of these two words
+pub data RowTurn : Type 0 where
+  writes : List ℕ → RowTurn
+  reopens : ℕ → ℕ → ℕ → RowTurn
+
+-- as a turn of the calls behind
+abbrev pub turnsOf : List RowTurn → List Turn
+turnsOf [] = []
+turnsOf (writes ys ∷ turns) = call.writes ys ∷ turnsOf turns
+turnsOf (reopens k kind bound ∷ turns) = call.reopens k (boundOf kind bound) ∷ turnsOf turns
+
+-- each turn is accepted through the row, and in the bytes, that the one before left: a reopening by the row's own place and length, into the same row
+abbrev pub AllRowsAccepted : ℕ → ℕ → List ℕ → List ℕ → List RowTurn → Type 0
+AllRowsAccepted mode opening row buf [] = Done
+AllRowsAccepted mode opening row buf (writes ys ∷ turns) =
+    (writeFault row ys buf ≡ noFault) × AllRowsAccepted mode opening (writeRow row ys buf) (writeBuffer row ys buf) turns
+AllRowsAccepted mode opening row buf (reopens k kind bound ∷ turns) =
+    (reopenFault buf (wholeBytes (placeWord row)) (lengthWord row) k mode opening kind bound row ≡ noFault)
+    × AllRowsAccepted mode opening (reopenRow buf (wholeBytes (placeWord row)) (lengthWord row) k mode opening kind bound row)
+    (reopenBuffer buf (wholeBytes (placeWord row)) (lengthWord row) k mode opening kind bound row) turns
 
 -- n values that a new lossless row writes into as many bytes as `most_bytes` gives, and then its place is what `most_bits` gives; in fewer bytes they are
 -- refused with 4

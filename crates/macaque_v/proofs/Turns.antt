@@ -79,7 +79,7 @@ module _ (o : Opening) (hl : openingValue o < 2 ^ 32) {b : ErrorBound} {vs buf :
     abbrev ks : List ℕ
     ks = kept (keepRule b) S s ys
 
-    abbrev next : MacaqueV
+    abbrev pub next : MacaqueV
     next = writerOf b (isFirst o) (wrote (keepRule b) S s ys)
 
     next-place : (wrote (keepRule b) S s ys) .place ≤ 8 * length buf
@@ -119,7 +119,7 @@ module _ (o : Opening) (hl : openingValue o < 2 ^ 32) {b : ErrorBound} {vs buf :
   -- ---- it is reopened, with any bound
 
   module _ (c : ErrorBound) (ok : boundAllowed c ≡ true) (most : length vs ≤ mostValues) (k : ℕ) (le : k ≤ length vs) where
-    abbrev resumed : MacaqueV
+    abbrev pub resumed : MacaqueV
     resumed = writerOf c (isFirst o) (behind o (take k vs))
 
     pub behind-reopens : (reopenAnswer buf (wholeBytes (m .place)) (m .length) k o c ≡ answered resumed)
