@@ -157,22 +157,24 @@ modelardb_fault modelardb_maximum_allowed_deviation(uint32_t kind, uint32_t boun
 
 /* How many bytes have room for what a fresh writer makes of so many values, in either mode, where the length of an
  * array has to be constant (modelardb_macaque_v_most_bytes says just how many); and how many bytes so many bits
- * take. */
+ * take. An earlier version had LONGEST_CODE bits for each value in ROOM, by the name of MODELARDB_MOST_BITS: now it
+ * is shorter, and behind a stream that another program wrote it need not be enough. */
 #define MODELARDB_ROOM(values) (((size_t)(values) * (MODELARDB_LONGEST_CODE - 1) + 8) / 8)
 #define MODELARDB_BYTES(place) (((place) + 7) / 8)
 
 /* *bits: how many bits a fresh writer writes at most for `count` values, whatever they are and whatever the bound,
- * in one write or in several, also where it is reopened in between. In MODELARDB_ON that is 44 * count + 1; in
- * MODELARDB_FIRST 32 for a count of 1, and 32 + 44 * (count - 1) + 1 above that; in both 0 for a count of 0. For
- * each count there are values that take just as many, Lossless.
+ * in one write or in several, also where it is reopened in between, with another bound too. In MODELARDB_ON that is
+ * 44 * count + 1; in MODELARDB_FIRST 32 for a count of 1, and 32 + 44 * (count - 1) + 1 above that; in both 0 for a
+ * count of 0. For each count there are values that take just as many, Lossless. Ask for all values of a stream at
+ * once: what is asked for parts of it need not add up to enough.
  *
- * A stream that another program wrote may be larger. Behind any stream a writer has room for `count` more values
- * where the buffer has the bits that its word 8 counts and, by MODELARDB_ON, *bits more. Refusals: 3 (mode, or count
- * above 65,536). */
+ * A stream that another program wrote may be larger. To write m more values behind any stream, a buffer of
+ * MODELARDB_BYTES(word 8 + *bits) bytes is enough, with *bits of a count of m in MODELARDB_ON. Refusals: 3 (mode, or
+ * count above 65,536). */
 modelardb_fault modelardb_macaque_v_most_bits(size_t count, uint32_t mode, size_t *bits);
 
 /* *bytes: how many bytes that is, (bits + 7) / 8. In a buffer of so many a fresh writer is never refused `count`
- * values with 4. Refusals: 3 (mode, or count above 65,536). */
+ * values with 4 for its buffer. Refusals: 3 (mode, or count above 65,536). */
 modelardb_fault modelardb_macaque_v_most_bytes(size_t count, uint32_t mode, size_t *bytes);
 
 /* state: a writer before any value. Refusals: 1; 3 (mode); 4 (a row under eleven words). */
@@ -357,7 +359,9 @@ modelardb_fault modelardb_choose_model(const int64_t *timestamps, size_t timesta
  * Lossless, the residuals come back bit for bit. A model's own values are computed: they are what an average or a
  * line draws, and nothing is promised of their last bits.
  *
- * Parameter bytes are 0, 1 or 4 of PMC-Mean's, and 0, 1, 5 or 8 of Swing's. */
+ * Parameter bytes are 0, 1 or 4 of PMC-Mean's, and 0, 1, 5 or 8 of Swing's. Residual bytes that are written are at
+ * most those of 255 values without a first one, and the byte that counts them. Those that another program wrote may
+ * be 1,436, MODELARDB_BYTES(255 * MODELARDB_LONGEST_CODE) + 1, and are read too. */
 #define MODELARDB_MOST_PARAMETER_BYTES 8
 #define MODELARDB_MOST_RESIDUAL_BYTES 1404
 

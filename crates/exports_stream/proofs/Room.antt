@@ -1,6 +1,6 @@
 -- How large a stream can get, of rows: what the calls answer and refuse; that a row which was made has room in so many bytes, and for some list in no fewer; and
 -- that through any row a write is not refused with 4 where the most bits of its values have room. Assumes nothing.
-use mathlib.Core.Path.{_≡_, refl, sym, ap, _∙_, subst}
+use mathlib.Core.Path.{_≡_, refl, sym, ap, _∙_}
 use mathlib.Core.Bool.{Bool, true, false, cond}
 use mathlib.Core.List.{List}
 use Prim.Native.Nat.{ℕ, zero, suc, _+_, _*_, _^_, _≤_, _<_}
@@ -10,7 +10,6 @@ use lib.Dec.{eqb}
 use lib.ListN.{length}
 use Rattle.bits.specs.Bits.{Below, wholeBytes}
 use Rattle.models.specs.Answers.{fault, noFault, answered, SaidOn, answeredOn, refusedOn, judge}
-use Rattle.models.specs.declared.Fault.{Fault}
 use Rattle.models.specs.Limits.{mostValues}
 use Rattle.models.specs.Bound.{boundAllowed}
 use Rattle.models.specs.declared.ErrorBound.{ErrorBound}

@@ -1,8 +1,8 @@
 -- A chain of writes and reopenings through rows, each with a bound of its own, has room in as many bytes as `most_bytes` gives. Assumes nothing.
-use mathlib.Core.Path.{_≡_, refl, sym, ap, ap₂, _∙_, subst}
+use mathlib.Core.Path.{_≡_, sym, ap, ap₂, _∙_, subst}
 use mathlib.Core.Bool.{true}
 use mathlib.Core.List.{List, [], _∷_, _++_}
-use Prim.Native.Nat.{ℕ, _+_, _*_, _^_, _≤_, _<_}
+use Prim.Native.Nat.{ℕ, _+_, _^_, _≤_, _<_}
 use native.Mathlib.Omega.{arith}
 use lib.ListN.{length, take, drop}
 use lib.Seq.{length-take-le}
@@ -18,7 +18,6 @@ use Rattle.models.proofs.Judged.{same-answer-on}
 use Rattle.stream.specs.Write.{lossless, kept, keptFrom, after}
 use Rattle.coding.specs.Keep.{keepRule}
 use Rattle.macaque_v.specs.State.{streamIn, writerOf, isFirst, openingValue, opened}
-use Rattle.macaque_v.specs.Write.{writerAt, wroteBy}
 use Rattle.macaque_v.specs.Calls.{writeAnswer}
 use Rattle.macaque_v.specs.Read.{reopenAnswer, reopenMemory}
 use Rattle.macaque_v.specs.Made.{WordsSmall}
@@ -26,13 +25,13 @@ use Rattle.macaque_v.specs.Size.{mostOf, AtMost}
 use Rattle.macaque_v.specs.declared.MacaqueV.{MacaqueV}
 use Rattle.macaque_v.specs.declared.Opening.{Opening}
 use Rattle.macaque_v.proofs.Held.{made-held}
-use Rattle.macaque_v.proofs.Turns.{Behind, behind, behind-length, next, behind-accepts, behind-goes-on, more-length, more-below, resumed, behind-reopens}
+use Rattle.macaque_v.proofs.Turns.{Behind, behind, next, behind-accepts, behind-goes-on, more-length, more-below, resumed, behind-reopens}
 use Rattle.exports.specs.Face.{boundOf, stepFault}
 use Rattle.exports.proofs.Back.{bound-of-held, bound-front-held}
-use Rattle.exports_stream.specs.Row.{writerLength, writerRow, writtenRow, standsForState, writerIn, lengthWord}
-use Rattle.exports_stream.specs.Calls.{openingOf, newFault, newRow, writeFault, writeRow, writeBuffer, reopenFault, reopenRow, reopenBuffer, RowMade}
+use Rattle.exports_stream.specs.Row.{writerLength, writerRow, standsForState, writerIn, lengthWord}
+use Rattle.exports_stream.specs.Calls.{openingOf, newFault, newRow, writeFault, writeRow, writeBuffer, reopenFault, reopenRow, reopenBuffer}
 use Rattle.exports_stream.specs.Size.{mostBytesFault, mostBytesNumber, placeWord, RowTurn, writes, reopens, turnsOf, AllRowsAccepted}
-use Rattle.exports_stream.proofs.Words.{has-words, a-state, row-back, written-long}
+use Rattle.exports_stream.proofs.Words.{has-words, a-state, row-back}
 use Rattle.exports_stream.proofs.Promises.{behind-words, stands-behind, a-new-row, accepted-zero, a-written-row, a-row-keeps-the-length, reopening-row-keeps-the-length, reopened-fault, reopened-row, reopened-buffer}
 use Rattle.exports_stream.proofs.Room.{most-bytes-say}
 

@@ -1,13 +1,13 @@
 -- A chain of writes and reopenings, each with a bound of its own, has room: a stream is that of a lossless run over the values that it keeps, whatever bounds
 -- chose them. Assumes nothing.
-use mathlib.Core.Path.{_≡_, refl, sym, ap, ap₂, _∙_, subst}
+use mathlib.Core.Path.{_≡_, refl, sym, ap, _∙_, subst}
 use mathlib.Core.Bool.{Bool, true}
 use mathlib.Core.List.{List, [], _∷_, _++_}
 use Prim.Native.Nat.{ℕ, _+_, _*_, _^_, _≤_, _<_}
 use native.Mathlib.Omega.{arith}
 use lib.ListN.{length, take, length-append}
 use lib.Seq.{length-take-le}
-use Rattle.bits.specs.Bits.{Below, wholeBytes, laidIn}
+use Rattle.bits.specs.Bits.{Below, bytesOf, wholeBytes, padded, laidIn}
 use Rattle.bits.proofs.Below.{below-nil, below-take, below-append}
 use Rattle.models.specs.Answers.{answered, answeredOn}
 use Rattle.models.specs.Limits.{mostValues}
@@ -15,7 +15,7 @@ use Rattle.models.specs.Bound.{boundAllowed}
 use Rattle.models.specs.Causes.{boundCauses}
 use Rattle.models.specs.declared.ErrorBound.{ErrorBound}
 use Rattle.stream.specs.Format.{macaque, Stream, State, usable}
-use Rattle.stream.specs.Write.{lossless, keptFrom, kept, encode, after, wrote, wroteIn}
+use Rattle.stream.specs.Write.{lossless, kept, Keeps, encode, after, wrote, wroteIn, streamOf}
 use Rattle.stream.specs.Calls.{Coder}
 use Rattle.stream.specs.Made.{MadeBy}
 use Rattle.stream.specs.Made as theory
@@ -33,6 +33,7 @@ use Rattle.macaque_v.specs.State.{Known, streamIn, stateOf, writerOf, is
 use Rattle.macaque_v.specs.Write.{coderOf}
 use Rattle.macaque_v.specs.Calls.{newAnswer, writeAnswer, writeMemory}
 use Rattle.macaque_v.specs.Read.{reopenAnswer, reopenMemory}
+use Rattle.macaque_v.specs.Kept.{keptBy, stateBy, WrittenBy}
 use Rattle.macaque_v.specs.Size.{mostOf, mostBytesAnswer, Turn, writes, reopens, AtMost, AllAccepted}
 use Rattle.macaque_v.specs.declared.MacaqueV.{MacaqueV}
 use Rattle.macaque_v.specs.declared.Opening.{Opening}
@@ -162,3 +163,21 @@ most-bytes-are-enough b o hl n k h buf room m opens turns A =
     let t = most-bytes-told n k o h in
     let fresh : Behind b o [] buf m = calls.a-fresh-writer (plain b o) (plain-good b o) (openingValue o) buf m opens in
     all-have-room o hl n (t .0) turns fresh (below-nil 32) (new-told b o m opens .0) (omega (arith, t .1, room)) (omega arith) A
+
+-- a stream that any rule wrote which keeps values of 32 bits, as that of an earlier version or of another bound: reopened, it has room as one that was written by this one
+pub an-older-stream-has-room : (rule : ℕ → ℕ → ℕ) → Keeps 32 rule → (o : Opening) → openingValue o < 2 ^ 32 → {xs buf : List ℕ} {used : ℕ} → WrittenBy rule o xs buf used → Below 32 xs
+    → (n : ℕ) → n ≤ mostValues → wholeBytes (mostOf n o) ≤ length buf → length xs ≤ n → (k : ℕ) → k ≤ length xs → (b : ErrorBound) → boundAllowed b ≡ true → (turns : List Turn) → AtMost n k turns
+    → (m : MacaqueV) × (reopenAnswer buf used (length xs) k o b ≡ answered m) × AllAccepted o m (reopenMemory buf used (length xs) k o b) turns
+an-older-stream-has-room rule K o hl {xs} {buf} {used} W bx n most room few k le b ok turns A =
+    let S : Stream Known = streamIn (isFirst o) in
+    let vs : List ℕ = keptBy rule o xs in
+    let same : kept lossless S (opened o) vs ≡ vs = kept-lossless S (opened o) vs in
+    let is : behind o vs ≡ stateBy rule o xs = ap (after S (opened o)) same in
+    let bytes : take (wholeBytes ((behind o vs) .place)) buf ≡ streamOf lossless S (openingValue o) vs =
+    ap (λ (s : State Known). take (wholeBytes (s .place)) buf) is ∙ ap (λ (u : ℕ). take u buf) (sym (W .inUse)) ∙ W .bytes ∙ ap (λ (z : List ℕ). bytesOf (padded (encode S (opened o) z))) (sym same) in
+    let M : Behind b o vs buf (writerOf b (isFirst o) (behind o vs)) = record { writer = refl; bytes = bytes } in
+    let bv : Below 32 vs = kept-below S 32 rule K (opened o) xs (fresh-small S 32 (openingValue o) hl) bx in
+    let long : length vs ≡ length xs = length-kept S rule (opened o) xs in
+    let in-use : used ≡ wholeBytes ((behind o vs) .place) = W .inUse ∙ ap (λ (s : State Known). wholeBytes (s .place)) (sym is) in
+    let counted : length xs ≡ (behind o vs) .count = sym long ∙ sym (behind-length o hl M bv) in
+    rw (in-use, counted) (all-have-room o hl n most (reopens k b ∷ turns) M bv ok room (omega (arith, long, few)) (omega (arith, long, le), ok, A))

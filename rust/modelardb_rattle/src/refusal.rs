@@ -43,7 +43,8 @@ pub enum Refusal {
     /// most 65,536 values, a segment 255 residuals and model 0 or 1, the metadata size is at most
     /// 65,535, and the mode in a file of an upload 0 or 1. Begin a new stream, model or segment with what does not fit in.
     OverLimit,
-    /// 4: the lent output does not hold the answer. Lend a longer one: for all values that a fresh writer is handed,
+    /// 4: the lent output does not hold the answer. Lend a longer one; of a writer, with the bytes in use copied to its
+    /// front, since no call can see that they are missing. For all values that a fresh writer is handed,
     /// [`MacaqueV::most_bytes`](crate::MacaqueV::most_bytes) of their number are always enough.
     OutputTooShort,
     /// 5: the stream ends before its last value. Bytes are missing, the count is too high, or the bytes

@@ -253,7 +253,14 @@ fn a_room_is_told_up_to_the_most_readings() {
     assert_eq!(
         room::asked("1", "19").unwrap_err(),
         "68401 readings come in 19 hours, one every 1 second\n\
-         a stream takes at most 65536 values: these have to be cut into 2 streams or more"
+         a stream takes at most 65536 values: cut these into 2 streams or more, each with a writer, a count and a table of its own\n\
+         a stream of 65536: 360447 bytes at most, and 32768 of a place table\n\
+         a stream of 2865: 15757 bytes at most, and 1440 of a place table"
+    );
+    let text = room::asked("225", "8192").unwrap_err();
+    assert!(
+        text.ends_with("a stream of 1: 4 bytes at most, and 32 of a place table"),
+        "{text}"
     );
     for word in ["0", "-1", "1.5", "", "4294967296"] {
         let why = format!("{word:?} is no number of seconds: a whole one from 1 to 4294967295");

@@ -40,9 +40,7 @@ fn table(asked: &[Asked]) -> Result<String, String> {
     );
     for &[(span, hours), (apart, seconds)] in asked {
         let readings = hours * SECONDS_PER_HOUR / seconds + 1;
-        let bytes = MacaqueV::most_bytes(readings, Opening::First)
-            .map_err(|_| too_many(readings, span, apart))?;
-        let beside = ENTRY_BYTES * PlaceTable::entries_for(readings);
+        let (bytes, beside) = sizes(readings).ok_or_else(|| too_many(readings, span, apart))?;
         _ = writeln!(
             text,
             "{span:23}  {apart:15}  {readings:8}  {bytes:13}  {beside:22}"
@@ -53,14 +51,29 @@ fn table(asked: &[Asked]) -> Result<String, String> {
     Ok(text)
 }
 
+/// The most bytes of a stream of so many readings, and those of its place table; nothing where they are too many.
+fn sizes(readings: usize) -> Option<(usize, usize)> {
+    let bytes = MacaqueV::most_bytes(readings, Opening::First).ok()?;
+    Some((bytes, ENTRY_BYTES * PlaceTable::entries_for(readings)))
+}
+
 /// Which limit is passed, and what is to be done.
 fn too_many(readings: usize, span: &str, apart: &str) -> String {
     let most = MacaqueV::MOST_VALUES;
     let streams = readings.div_ceil(most);
-    format!(
+    let mut text = format!(
         "{readings} readings come in {span}, one every {apart}\n\
-         a stream takes at most {most} values: these have to be cut into {streams} streams or more"
-    )
+         a stream takes at most {most} values: cut these into {streams} streams or more, each with a writer, a count and a table of its own"
+    );
+    for part in [most, readings % most] {
+        if let Some((bytes, beside)) = sizes(part).filter(|_| part > 0) {
+            _ = write!(
+                text,
+                "\na stream of {part}: {bytes} bytes at most, and {beside} of a place table"
+            );
+        }
+    }
+    text
 }
 
 /// A whole number above 0.

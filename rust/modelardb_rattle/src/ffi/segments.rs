@@ -106,8 +106,8 @@ pub const SEGMENT_WORDS: usize = 4;
 /// The most parameter bytes of a segment.
 pub const MOST_VALUES_BYTES: usize = 8;
 
-/// The most residual bytes of a segment: those of a stream of 255 values without a first one, and the byte
-/// that counts them.
+/// The most residual bytes that a written segment has: those of a stream of 255 values without a first one, and the
+/// byte that counts them. One that another program wrote may have up to 1,436, and is read too.
 pub const MOST_RESIDUALS_BYTES: usize = 1_404;
 
 /// The bits of two values: a least and a greatest one, or a model's first and last.

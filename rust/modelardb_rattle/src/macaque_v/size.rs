@@ -5,14 +5,14 @@ use crate::{Fault, Refusal, ffi};
 
 impl MacaqueV {
     /// How many bits a fresh writer writes at most for so many values, whatever they are and whatever the bound, in one
-    /// call or in several, also where it is cut and reopened in between. Where the stream goes on from a value, that is
-    /// 44 for each and one more; with its first value in full, 32 for that one and, where others follow, 44 for each of
-    /// those and one more. No values take none. For every count there are values that take just as many, lossless. Of
-    /// the opening only the case counts.
+    /// call or in several, also where it is cut and reopened in between, with another bound too. Where the stream goes
+    /// on from a value, that is 44 for each and one more; with its first value in full, 32 for that one and, where
+    /// others follow, 44 for each of those and one more. No values take none. For every count there are values that
+    /// take just as many, lossless. Of the opening only the case counts. Ask for all values of a stream at once: what
+    /// is asked for parts of it need not add up to enough.
     ///
-    /// A stream that another program wrote may be larger. Behind any stream a writer has room for `count` more values
-    /// where the buffer has the bits in use, its [`place`](MacaqueV::place), and
-    /// `most_bits(count, Opening::On(0.0))` more.
+    /// A stream that another program wrote may be larger. To write m more values behind any stream, as many bytes are
+    /// enough as [`place`](MacaqueV::place) and `most_bits(m, Opening::On(0.0))` bits fill.
     ///
     /// # Errors
     ///
