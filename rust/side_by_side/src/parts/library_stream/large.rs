@@ -120,13 +120,15 @@ impl Fresh {
         });
     }
 
-    /// In that buffer nothing is refused, in one go, in pieces, and with a table, and no bit more is taken. The place
-    /// behind them.
+    /// In that buffer nothing is refused, in one go, in pieces, with a table, and with bounds that change, and no bit more
+    /// is taken. The place behind them.
     fn every_way(&self, context: &mut Context) -> u64 {
         let place = self.in_one_go(context);
         self.same(context, "the bound kept", true, place <= self.most);
-        let pieces = self.in_pieces(context);
+        let pieces = self.in_pieces(context, |_, _| self.bound);
         self.same(context, "in pieces", place, pieces);
+        let changed = self.in_pieces(context, |context, values| context.inputs.bound_for(values));
+        self.same(context, "with other bounds", true, changed <= self.most);
         let tabled = self.with_a_table(context);
         self.same(context, "with a table", place, tabled);
         place
@@ -147,23 +149,28 @@ impl Fresh {
         self.same(context, "a byte less", expected, left);
     }
 
-    /// In pieces; behind each one it is reopened a few values back and written on.
-    fn in_pieces(&self, context: &mut Context) -> u64 {
+    /// In pieces; behind each one it is reopened a few values back, with a bound for the next, and written on.
+    fn in_pieces(
+        &self,
+        context: &mut Context,
+        bound_for: impl Fn(&mut Context, &[u32]) -> ErrorBound,
+    ) -> u64 {
         let (mut row, mut buffer) = (self.row.clone(), self.buffer());
         let count = self.values.len();
         let mut end = 0;
         while end < count {
             let begin = end - context.inputs.below(4).min(row[9]) as usize;
             end += (count / 8 + 1 + context.inputs.below(3) as usize).min(count - end);
+            let values = &self.values[begin..end];
+            let bound = bound_for(context, values);
             let at = At {
                 used: row[8].div_ceil(8) as usize,
                 count: row[9] as usize,
                 k: begin,
                 opening: face::opening_words(self.opening),
-                bound: face::bound_words(self.bound),
+                bound: face::bound_words(bound),
             };
             let (reopened, on, cut) = both::reopened(context, &buffer, at, &row);
-            let values = &self.values[begin..end];
             let (written, after, bytes) = both::written(context, &on, values, &cut);
             let faults = [reopened, written];
             self.same(context, "a piece", [Fault::ACCEPTED; 2], faults);
