@@ -25,9 +25,9 @@ use Rattle.macaque_v.specs.declared.Opening.{Opening}
 use Rattle.macaque_v.specs.declared.Opening.the-variants.{First, On}
 use Rattle.macaque_v.proofs.Room.{a-write-has-room, never-4-with-room, a-list-fills}
 use Rattle.exports.specs.Face.{boundOf, stepFault, stepRow}
-use Rattle.exports_stream.specs.Row.{writerLength, writtenRow, standsForState, writerIn}
+use Rattle.exports_stream.specs.Row.{writerLength, placeWord, writtenRow, standsForState, writerIn}
 use Rattle.exports_stream.specs.Calls.{openingOf, newRow, writeFault, writeRow, RowMade}
-use Rattle.exports_stream.specs.Size.{mostBitsFault, mostBitsNumber, mostBytesFault, mostBytesNumber, placeWord, RowFills}
+use Rattle.exports_stream.specs.Size.{mostBitsFault, mostBitsNumber, mostBytesFault, mostBytesNumber, RowFills}
 use Rattle.exports_stream.proofs.Words.{a-state}
 use Rattle.exports_stream.proofs.Promises.{a-new-row, new-opens}
 

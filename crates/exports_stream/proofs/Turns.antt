@@ -28,9 +28,9 @@ use Rattle.macaque_v.proofs.Held.{made-held}
 use Rattle.macaque_v.proofs.Turns.{Behind, behind, next, behind-accepts, behind-goes-on, more-length, more-below, resumed, behind-reopens}
 use Rattle.exports.specs.Face.{boundOf, stepFault}
 use Rattle.exports.proofs.Back.{bound-of-held, bound-front-held}
-use Rattle.exports_stream.specs.Row.{writerLength, writerRow, standsForState, writerIn, lengthWord}
+use Rattle.exports_stream.specs.Row.{writerLength, writerRow, placeWord, lengthWord, standsForState, writerIn}
 use Rattle.exports_stream.specs.Calls.{openingOf, newFault, newRow, writeFault, writeRow, writeBuffer, reopenFault, reopenRow, reopenBuffer}
-use Rattle.exports_stream.specs.Size.{mostBytesFault, mostBytesNumber, placeWord, RowTurn, writes, reopens, turnsOf, AllRowsAccepted}
+use Rattle.exports_stream.specs.Size.{mostBytesFault, mostBytesNumber, RowTurn, writes, reopens, turnsOf, AllRowsAccepted}
 use Rattle.exports_stream.proofs.Words.{has-words, a-state, row-back}
 use Rattle.exports_stream.proofs.Promises.{behind-words, stands-behind, a-new-row, accepted-zero, a-written-row, a-row-keeps-the-length, reopening-row-keeps-the-length, reopened-fault, reopened-row, reopened-buffer}
 use Rattle.exports_stream.proofs.Room.{most-bytes-say}

@@ -39,7 +39,10 @@ stateWords kind bits mode sum m =
 unfoldable pub writerRow : MacaqueV → List ℕ
 writerRow m = stateWords (boundKind (m .«error_bound»)) (boundBits (m .«error_bound»)) (wordOf (m .«with_first»)) (toBits binary32 (m .sum)) m
 
--- how many values a row's stream holds, and the bits of their sum
+-- the place behind a row's stream, how many values it holds, and the bits of their sum
+abbrev pub placeWord : List ℕ → ℕ
+placeWord row = getD row 8 0
+
 abbrev pub lengthWord : List ℕ → ℕ
 lengthWord row = getD row 9 0
 
@@ -92,7 +95,7 @@ readWriter b row =
       «last_leading_zero_bits» = getD row 5 0;
       «last_trailing_zero_bits» = getD row 6 0;
       «with_first» = eqb (getD row 7 0) 1;
-      place = getD row 8 0;
+      place = placeWord row;
       length = lengthWord row;
       sum = ofBits binary32 (sumWord row);
     }
@@ -105,4 +108,4 @@ writerIn row = cond (standsForState row) (readWriter (boundFront row) row) (spoi
 
 -- the bytes in use, by the word of the place
 abbrev pub bytesInUse : List ℕ → List ℕ → List ℕ
-bytesInUse row buf = take (wholeBytes (getD row 8 0)) buf
+bytesInUse row buf = take (wholeBytes (placeWord row)) buf

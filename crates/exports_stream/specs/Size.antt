@@ -2,14 +2,14 @@
 use mathlib.Core.Path.{_≡_}
 use mathlib.Core.List.{List, [], _∷_}
 use Prim.Native.Nat.{ℕ, _≤_, _<_}
-use lib.ListN.{length, getD}
+use lib.ListN.{length}
 use Rattle.bits.specs.Bits.{Below, wholeBytes}
 use Rattle.models.specs.Answers.{Said, Done, answered, refused, fault, noFault}
 use Rattle.models.specs.declared.Fault.{Fault}
 use Rattle.macaque_v.specs.Size.{mostBitsAnswer, mostBytesAnswer, Turn}
 use Rattle.macaque_v.specs.Size as call
 use Rattle.exports.specs.Face.{boundOf, plainFault}
-use Rattle.exports_stream.specs.Row.{writerLength, lengthWord}
+use Rattle.exports_stream.specs.Row.{writerLength, placeWord, lengthWord}
 use Rattle.exports_stream.specs.Calls.{openingOf, countIn, newRow, writeFault, writeRow, writeBuffer, reopenFault, reopenRow, reopenBuffer}
 
 -- ---- most_bits and most_bytes: no opening value enters
@@ -38,10 +38,6 @@ unfoldable pub mostBytesNumber : ℕ → ℕ → ℕ → ℕ
 mostBytesNumber count mode old = numberAfter old (mostBytesSaid count mode)
 
 -- ---- room, of rows
-
--- the word of the place
-abbrev pub placeWord : List ℕ → ℕ
-placeWord row = getD row 8 0
 
 -- one turn of a chain: values are written, or the stream is reopened behind its first k values, with a bound of these two words
 pub data RowTurn : Type 0 where

@@ -26,7 +26,7 @@ use Rattle.stream.proofs.Formats.{macaque-good}
 use Rattle.stream.proofs.Writing.{place-after}
 use Rattle.stream.proofs.Rule.{fresh-ruled, usable-if}
 use Rattle.stream.proofs.Size as size
-use Rattle.stream.proofs.Largest.{macaque-turns, largest}
+use Rattle.stream.proofs.Largest.{macaque-patterns, largest}
 use Rattle.coding.specs.Keep.{keepRule}
 use Rattle.macaque_v.specs.State.{Known, modeOf, streamIn, stateOf, writerOf, isFirst, openingValue, opened}
 use Rattle.macaque_v.specs.Write.{coderOf, streamBy, ruleBy, writerAt, wroteBy}
@@ -118,7 +118,7 @@ never-4-with-room m xs buf room f n =
 
 module _ (o : Opening) (hl : openingValue o < 2 ^ 32) (n : ℕ) (most : n ≤ mostValues) where
   abbrev L : Largest (streamIn (isFirst o)) (openingValue o) n
-  L = largest (streamIn (isFirst o)) macaque-turns (openingValue o) hl n
+  L = largest (streamIn (isFirst o)) macaque-patterns (openingValue o) hl n
 
   -- the state after them
   abbrev end : State Known

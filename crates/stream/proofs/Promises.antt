@@ -28,7 +28,7 @@ use Rattle.stream.proofs.Made as spine
 use Rattle.stream.proofs.AnyStream.{any-resumed}
 use Rattle.stream.proofs.Marked.{marked}
 use Rattle.stream.proofs.Size.{written-at-most, a-longest-code-sets-all-bits, all-bits-stay}
-use Rattle.stream.proofs.Largest.{macaque-turns, gorilla-turns, largest}
+use Rattle.stream.proofs.Largest.{macaque-patterns, gorilla-patterns, largest}
 
 -- ---- demand 2: what was written reads back. And demand 3: a stream that is stopped and resumed is the stream of one fresh run.
 
@@ -188,10 +188,10 @@ no-later-code-replaces-it = all-bits-stay macaque macaque-good (omega arith) (om
 
 -- "For lossless streams show for each n a list that reaches the bound": of MacaqueV, and of the stream of the Gorilla paper
 pub some-values-take-as-many : {A : Type 0} (mode : Mode) (G : Gather A) (l : ℕ) → l < 2 ^ 32 → (n : ℕ) → Largest (macaqueOf mode G) l n
-some-values-take-as-many mode G = largest (macaqueOf mode G) macaque-turns
+some-values-take-as-many mode G = largest (macaqueOf mode G) macaque-patterns
 
 pub some-doubles-take-as-many : {A : Type 0} (mode : Mode) (G : Gather A) (l : ℕ) → l < 2 ^ 64 → (n : ℕ) → Largest (record { format = gorilla; mode = mode; gather = G }) l n
-some-doubles-take-as-many mode G = largest (record { format = gorilla; mode = mode; gather = G }) gorilla-turns
+some-doubles-take-as-many mode G = largest (record { format = gorilla; mode = mode; gather = G }) gorilla-patterns
 
 -- the numbers of MacaqueV: 0 for no value; "44 × n + 1" without a first value; with one "32 bits for n = 1 and at most 32 + 44 × (n − 1) + 1 above that"
 pub no-values-no-bits : (raw : Bool) → mostBits macaque raw 0 ≡ 0
