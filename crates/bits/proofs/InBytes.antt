@@ -9,7 +9,7 @@ use lib.ListN.{length, take, drop}
 use lib.Seq.{take-take}
 use Rattle.bits.specs.Bits.{Below, bitsOf, bytesOf, wholeBytes, up, padded, laid, cutAt, laidIn, cutIn}
 use Rattle.bits.proofs.Bytes.{length-bitsOf, bits-take, length-bytesOf, bytes-below, bytes-bits, bits-bytes, bytes-take, bytes-drop}
-use Rattle.bits.proofs.Writes.{laid-laid, laid-before, laid-after, length-laid, laid-used, cut-whole, cut-before, cut-after, length-cut, cut-used, laid-cut}
+use Rattle.bits.proofs.Writes.{laid-laid, laid-before, laid-after, length-laid, laid-used, cut-whole, cut-before, cut-after, length-cut, cut-used, cut-again, laid-cut}
 
 -- ---- a put
 
@@ -112,6 +112,11 @@ module _ (l : List ℕ) (p : ℕ) (room : p ≤ 8 * length l) where
   cutIn-used =
       sym (bytes-take (length l) (wholeBytes p) (cutAt (bitsOf l) p) cut-long (omega arith))
       ∙ ap bytesOf (cut-used (bitsOf l) p cut-inside)
+
+  -- a second cut there changes nothing more
+  pub cutIn-again : cutIn (cutIn l p) p ≡ cutIn l p
+  unfolding cutIn
+  cutIn-again = ap (λ (z : List Bool). bytesOf (cutAt z p)) bits-cutIn ∙ ap bytesOf (cut-again (bitsOf l) p cut-inside)
 
   -- a put at the place of a cut lies over what the cut zeroed
   pub laidIn-cutIn : (b : List Bool) → 0 < length b → laidIn (cutIn l p) p b ≡ laidIn l p b

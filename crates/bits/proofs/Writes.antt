@@ -137,6 +137,12 @@ module _ (s : List Bool) (p : ℕ) (hp : p ≤ length s) where
       let z : up p - (p + 0) ≡ padding (length (take p s)) = omega (arith, length-take-le p s hp) in
       write-used s p [] (up p) hp (omega arith) ∙ ap (λ (n : ℕ). take p s ++ replicate n false) z
 
+  -- a second cut there changes nothing more
+  pub cut-again : cutAt (cutAt s p) p ≡ cutAt s p
+  unfolding cutAt write
+  cut-again =
+      ap₂ (λ (front behind : List Bool). front ++ (replicate (up p - (p + 0)) false ++ behind)) (cut-before p (omega arith)) (cut-after (up p) (omega arith))
+
   -- a put at the place of a cut lies over what the cut zeroed
   pub laid-cut : (b : List Bool) → 0 < length b → laid (cutAt s p) p b ≡ laid s p b
   unfolding cutAt

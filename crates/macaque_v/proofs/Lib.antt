@@ -17,6 +17,7 @@ pub mod Repeating
 pub mod ReadingTally
 pub mod ReadingEnd
 pub mod ReadingAll
+pub mod Arriving
 pub mod Drawing
 pub mod Broken
 pub mod Causes

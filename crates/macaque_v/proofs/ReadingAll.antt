@@ -106,6 +106,20 @@ module _ (bytes : List ℕ) (o : Opening) where
       alike-ended S gatherKnown (readFrom (isFirst o) bytes (startOf o) n) (readN (streamIn (isFirst o)) n (opened o) (bitsOf bytes))
       (read-any S gatherKnown n (stateAt (startOf o)) (gatherKnown .none) (bitsOf bytes))
 
+  -- ---- values that were read, with what a writer gathers of them; or where reading stops
+
+  pub read-known : {k : ℕ} {us : List ℕ} {at : Cursor} → Reads (isFirst o) bytes (startOf o) k us at
+      → readN (streamIn (isFirst o)) k (opened o) (bitsOf bytes)
+      ≡ done us (stateWith at (gatherFrom gatherKnown (modeOf (isFirst o)) 0 (gatherKnown .none) us)) (drop (at .place) (bitsOf bytes))
+  read-known {k} {us} {at} R =
+      read-gathering (bare (modeOf (isFirst o))) gatherKnown k (stateAt (startOf o)) (gatherKnown .none) (bitsOf bytes) us (stateAt at) (drop (at .place) (bitsOf bytes)) (R .values)
+
+  pub stops-known : {n : ℕ} {r : Refusal} → StopsBy (readFrom (isFirst o) bytes (startOf o) n) r → StopsBy (readN (streamIn (isFirst o)) n (opened o) (bitsOf bytes)) r
+  stops-known {n} {r} s =
+      let S : Stream Unit = bare (modeOf (isFirst o)) in
+      alike-stops S gatherKnown (readFrom (isFirst o) bytes (startOf o) n) (readN (streamIn (isFirst o)) n (opened o) (bitsOf bytes)) r
+      (read-any S gatherKnown n (stateAt (startOf o)) (gatherKnown .none) (bitsOf bytes)) s
+
   -- ---- the values
 
   pub same-values : (n : ℕ) → valuesIn bytes n o ≡ valuesFrom true (isFirst o) bytes (startOf o) n
@@ -162,4 +176,4 @@ module _ (bytes : List ℕ) (o : Opening) where
           let all : Reads (isFirst o) bytes (startOf o) n (us ++ vs) to = subst (λ (m : ℕ). Reads (isFirst o) bytes (startOf o) m (us ++ vs) to) whole (reads-then (isFirst o) bytes R Q) in
           alike-checked S gatherKnown (ended (readFrom (isFirst o) bytes (startOf o) n)) (readAll (streamIn (isFirst o)) n (opened o) (bitsOf bytes))
           (us ++ vs) (stateAt to) (drop (to .place) (bitsOf bytes)) (all-alike n) (ends-right all e) (stateRead (readN (streamIn (isFirst o)) k (opened o) (bitsOf bytes)))
-          ∙ ap stateRead (read-gathering S gatherKnown k (stateAt (startOf o)) (gatherKnown .none) (bitsOf bytes) us (stateAt at) (drop (at .place) (bitsOf bytes)) (R .values))
+          ∙ ap stateRead (read-known R)

@@ -3,6 +3,7 @@ pub mod State
 pub mod Write
 pub mod Calls
 pub mod Made
+pub mod Rescued
 pub mod ReadRun
 pub mod Read
 pub mod Sums

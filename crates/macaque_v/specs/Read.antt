@@ -1,4 +1,4 @@
--- What the reading calls say and answer, in MacaqueV's words: of grid and reopening what the theory's calls answer and leave in lent memory, the sum, and
+-- What the reading calls say and answer, in MacaqueV's words: of grid, reopening and rescue what the theory's calls answer and leave in lent memory, the sum, and
 -- the law that a result is told apart. Assumes nothing.
 use mathlib.Core.Path.{_≡_, refl, ap}
 use mathlib.Core.Bool.{Bool}
@@ -60,6 +60,19 @@ reopenAnswer buf used count k o b = theory.reopenAnswer (coderOf b (isFirst o)) 
 
 unfoldable pub reopenMemory : List ℕ → ℕ → ℕ → ℕ → Opening → ErrorBound → List ℕ
 reopenMemory buf used count k o b = theory.reopenMemory (coderOf b (isFirst o)) (openingValue o) buf used count k
+
+-- ---- rescue
+
+abbrev pub rescueCauses : ErrorBound → ℕ → ℕ → ℕ → List Cause
+rescueCauses b = theory.rescueCauses (boundCauses b)
+
+unfoldable pub rescueAnswer : List ℕ → ℕ → ℕ → Opening → ErrorBound → Said MacaqueV
+rescueAnswer buf used limit o b = theory.rescueAnswer (coderOf b (isFirst o)) (openingValue o) buf used limit
+
+unfoldable pub rescueMemory : List ℕ → ℕ → ℕ → Opening → ErrorBound → List ℕ
+rescueMemory buf used limit o b = theory.rescueMemory (coderOf b (isFirst o)) (openingValue o) buf used limit
+
+-- ---- a writer that is opened
 
 abbrev pub saysOpen : OpenAnswer → Said MacaqueV
 saysOpen (OfOpen.Opened m) = answered m

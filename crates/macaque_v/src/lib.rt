@@ -3,6 +3,7 @@
 pub mod noting;
 pub mod read;
 pub mod read_run;
+pub mod rescue;
 pub mod size;
 pub mod span;
 pub mod total;

@@ -12,7 +12,7 @@ ghost use Rattle.macaque_v.specs.inner.ReadRun.{ReadableAt};
 ghost use Rattle.macaque_v.specs.Read.{startOf, gridCauses, drawn, gridAnswer, gridMemory, sumAnswer};
 ghost use Rattle.macaque_v.specs.inner.Read.{valuesFrom, drawnAt, endWhere};
 ghost use Rattle.macaque_v.specs.Read.{reopenCauses, reopenAnswer, reopenMemory, saysOpen};
-ghost use Rattle.macaque_v.specs.inner.Read.{reopening, resumed, StateSays};
+ghost use Rattle.macaque_v.specs.inner.Read.{reopening, resumed, OpensAs, EndsIn, openedBehind, cutBehind};
 use crate::MacaqueV;
 use crate::Opening;
 use crate::read_run;
@@ -204,7 +204,7 @@ fn judge_behind(bytes: &[u8], to: Cursor, whole: bool) -> Verdict
 // The state after the first k values, with the least, the greatest and the sum of them. The values behind them are read too.
 fn state_at(bytes: &[u8], count: usize, k: usize, opening: Opening) -> Walk
     requires { ⌜ (k ≤ count) × (count ≤ mostValues) ⌝ }
-    ensures { λ r. ⌜ StateSays (now (bytes .entry)) count k opening r ⌝ }
+    ensures { λ r. ⌜ OpensAs (reopening (now (bytes .entry)) count k opening) (now (bytes .entry)) r ⌝ }
 {
     let first = is_first(opening);
     match read_run::go_through(bytes, first, start(opening), k, Aim::All) {
@@ -230,7 +230,22 @@ fn resume(
     ensures answer { λ r. ⌜ saysOpen r ≡ resumed «error_bound» (isFirst opening) (reopening (take used (now (buffer .entry))) count k opening) ⌝ }
     ensures bytes { λ r. ⌜ now (buffer .exit) ≡ bufferAfter (reopening (take used (now (buffer .entry))) count k opening) (now (buffer .entry)) ⌝ }
 {
-    match state_at(&buffer[..used], count, k, opening) {
+    let found = state_at(&buffer[..used], count, k, opening);
+    open_behind(buffer, found, opening, error_bound)
+}
+
+// The writer where going through the buffer's first bytes has ended; the bits behind it in the byte that this cuts are zeroed.
+pub fn open_behind(
+    buffer: &mut [u8],
+    found: Walk,
+    opening: Opening,
+    error_bound: ErrorBound,
+) -> OpenAnswer
+    requires { ⌜ EndsIn (now buffer) found ⌝ }
+    ensures answer { λ r. ⌜ saysOpen r ≡ openedBehind «error_bound» (isFirst opening) found ⌝ }
+    ensures bytes { λ r. ⌜ now (buffer .exit) ≡ cutBehind found (now (buffer .entry)) ⌝ }
+{
+    match found {
         Walk::Refused(r) => OpenAnswer::Refused(r),
         Walk::To(at, tally) => {
             bits::cut(buffer, at.place);

@@ -24,20 +24,20 @@ use Rattle.stream.proofs.CutValue.{Early, early-one, Numbered, numbered
 
 -- ---- what n values say of themselves, read from any state: how many they are; or behind how many of them reading stops
 
-record Halted {A : Type 0} (S : Stream A) (n : ℕ) (s : State A) (bs : List Bool) (r : StreamRefusal) : Type 0 where
-  number : ℕ
-  values : List ℕ
-  state : State A
-  rest : List Bool
-  reads : readN S number s bs ≡ done values state rest
-  long : length values ≡ number
-  counted : state .count ≡ s .count + number
-  wanted : number < n
-  told : state .count ≡ r .value
-  begins : state .place ≡ r .place
-  halts : stepAt S state rest ≡ halt (r .no)
+pub record Halted {A : Type 0} (S : Stream A) (n : ℕ) (s : State A) (bs : List Bool) (r : StreamRefusal) : Type 0 where
+  pub number : ℕ
+  pub values : List ℕ
+  pub state : State A
+  pub rest : List Bool
+  pub reads : readN S number s bs ≡ done values state rest
+  pub long : length values ≡ number
+  pub counted : state .count ≡ s .count + number
+  pub wanted : number < n
+  pub told : state .count ≡ r .value
+  pub begins : state .place ≡ r .place
+  pub halts : stepAt S state rest ≡ halt (r .no)
 
-abbrev CountedOf : {A : Type 0} → Stream A → ℕ → State A → List Bool → Reading A → Type 0
+abbrev pub CountedOf : {A : Type 0} → Stream A → ℕ → State A → List Bool → Reading A → Type 0
 CountedOf S n s bs (done vs t rest) = (length vs ≡ n) × (t .count ≡ s .count + n)
 CountedOf S n s bs (stopped r) = Halted S n s bs r
 
@@ -54,7 +54,7 @@ module _ {A : Type 0} (S : Stream A) where
   read-halt n s bs m e = ap (λ (q : Step). follow s q (λ y w used. push y (readN S n (advance S s y w used) (drop used bs)))) e
 
   -- a value that is refused refuses every reading that goes beyond it
-  stops-there : (k n : ℕ) (s : State A) (bs : List Bool) (vs : List ℕ) (t : State A) (r : List Bool) (m : ℕ)
+  pub stops-there : (k n : ℕ) (s : State A) (bs : List Bool) (vs : List ℕ) (t : State A) (r : List Bool) (m : ℕ)
       → readN S k s bs ≡ done vs t r → stepAt S t r ≡ halt m → k < n
       → readN S n s bs ≡ stopped (record { no = m; value = t .count; place = t .place })
   stops-there k n s bs vs t r m h e lt =
@@ -80,7 +80,7 @@ module _ {A : Type 0} (S : Stream A) where
         halts = H .halts;
       }
 
-  counted : (n : ℕ) (s : State A) (bs : List Bool) → CountedOf S n s bs (readN S n s bs)
+  pub counted : (n : ℕ) (s : State A) (bs : List Bool) → CountedOf S n s bs (readN S n s bs)
   unfolding readN
   counted zero s bs = (refl, omega arith)
   counted (suc n) s bs = go (stepAt S s bs) refl (λ s′ bs′. counted n s′ bs′)
@@ -180,14 +180,14 @@ module _ {A : Type 0} (S : Stream A) (good : Good (S .format)) (l : ℕ) (hl : l
       ap (readN S k (fresh S l)) (sym (take-append-drop p other) ∙ ap (λ (z : List Bool). z ++ drop p other) (same ∙ front)) ∙ W .alone (drop p other)
 
   -- more bits behind them change nothing
-  more-behind : (k : ℕ) (bits : List Bool) (vs : List ℕ) (t : State A) (rest : List Bool) → readN S k (fresh S l) bits ≡ done vs t rest
+  pub more-behind : (k : ℕ) (bits : List Bool) (vs : List ℕ) (t : State A) (rest : List Bool) → readN S k (fresh S l) bits ≡ done vs t rest
       → (more : List Bool) → readN S k (fresh S l) (bits ++ more) ≡ done vs t (rest ++ more)
   more-behind k bits vs t rest e more =
       let W : Whole S k (fresh S l) bits vs t rest = all-of k bits vs t rest e in
       ap (readN S k (fresh S l)) (ap (λ (z : List Bool). z ++ more) (W .cut) ∙ append-assoc (W .front) rest more) ∙ W .alone (rest ++ more)
 
   -- the place behind values that were read is within the bits
-  place-within : (k : ℕ) (bits : List Bool) (vs : List ℕ) (t : State A) (rest : List Bool) → readN S k (fresh S l) bits ≡ done vs t rest
+  pub place-within : (k : ℕ) (bits : List Bool) (vs : List ℕ) (t : State A) (rest : List Bool) → readN S k (fresh S l) bits ≡ done vs t rest
       → t .place + length rest ≡ length bits
   place-within k bits vs t rest e =
       let W : Whole S k (fresh S l) bits vs t rest = all-of k bits vs t rest e in
@@ -234,7 +234,7 @@ module _ {A : Type 0} (S : Stream A) (good : Good (S .format)) (l : ℕ) (hl : l
   -- ---- a cut is 5
 
   -- in the first bits of bits that read as n values no value is refused but by 5
-  only-by-5 : (n : ℕ) (p q : List Bool) (us : List ℕ) (u : State A) (x : List Bool) → readN S n (fresh S l) (p ++ q) ≡ done us u x
+  pub only-by-5 : (n : ℕ) (p q : List Bool) (us : List ℕ) (u : State A) (x : List Bool) → readN S n (fresh S l) (p ++ q) ≡ done us u x
       → (r : StreamRefusal) → Halted S n (fresh S l) p r → r .no ≡ 5
   only-by-5 n p q us u x acc r H = go (early-one (S .format) (H .state .win) (H .state .last) (H .rest) q good (isRaw S (H .state)))
     where

@@ -64,6 +64,16 @@ pub read-whole : {A : Type 0} (q : Reading A) (vs : List ℕ) → valuesRead q �
 read-whole (done us t r) vs h = (t, r, ap (λ (z : List ℕ). done z t r) (same-answer h))
 read-whole (stopped f) vs h = absurd (not-answered h)
 
+-- the grid draws what is read, where the output has room; later places of it stay
+pub a-grid-draws : {A : Type 0} (S : Stream A) (l : ℕ) (bytes : List ℕ) (n : ℕ) (vs : List ℕ) → valuesIn S l bytes n ≡ answered vs → n ≤ mostValues
+    → (out : List ℕ) → n ≤ length out
+    → (gridAnswer S l bytes n (length out) ≡ answered tt) × (gridMemory S l bytes n out ≡ vs ++ drop (length vs) out)
+a-grid-draws S l bytes n vs values most out long =
+    let no : NoneHolds (gridCauses n (length out)) = (le-ltb mostValues n most, (le-ltb (length out) n long, tt)) in (
+      sym (judging.accepted refused _ (gridCauses n (length out)) no) ∙ ap drawn values,
+      sym (judging.accepted (keeping out) _ (gridCauses n (length out)) no) ∙ ap (drawnIn out) values,
+    )
+
 module _ {A W : Type 0} (C : Coder A W) (good : GoodCoder C) where
   abbrev S : Stream A
   S = C .stream
@@ -159,7 +169,7 @@ module _ {A W : Type 0} (C : Coder A W) (good : GoodCoder C) where
 
     -- ---- reopening, where nothing but the stream refuses it
 
-    opens-on : (buf : List ℕ) (used n k : ℕ) (t : State A) → NoneHolds (C .first) → n ≤ mostValues → k ≤ n → used ≤ length buf
+    pub opens-on : (buf : List ℕ) (used n k : ℕ) (t : State A) → NoneHolds (C .first) → n ≤ mostValues → k ≤ n → used ≤ length buf
         → reopening S l (take used buf) n k ≡ reopened t
         → (reopenAnswer C l buf used n k ≡ answered (C .hold t)) × (reopenMemory C l buf used n k ≡ cutIn buf (t .place))
     opens-on buf used n k t free most le fits e =
@@ -242,12 +252,8 @@ module _ {A W : Type 0} (C : Coder A W) (good : GoodCoder C) where
           × (gridMemory S l (take (wholeBytes ((C .state m) .place)) buf) (length xs) out ≡ kept (C .rule) S (fresh S l) xs ++ drop (length xs) out)
       grid-reads-back bx hl most out long =
           let vs : List ℕ = kept (C .rule) S (fresh S l) xs in
-          let values = values-read-back bx hl in
-          let no : NoneHolds (gridCauses (length xs) (length out)) = (le-ltb mostValues (length xs) most, (le-ltb (length out) (length xs) long, tt)) in (
-            sym (judging.accepted refused _ (gridCauses (length xs) (length out)) no) ∙ ap drawn values,
-            sym (judging.accepted (keeping out) _ (gridCauses (length xs) (length out)) no) ∙ ap (drawnIn out) values
-                ∙ ap (λ (n : ℕ). vs ++ drop n out) (length-kept S (C .rule) (fresh S l) xs),
-          )
+          let d = a-grid-draws S l (take (wholeBytes ((C .state m) .place)) buf) (length xs) vs (values-read-back bx hl) most out long in
+          (d .0, d .1 ∙ ap (λ (n : ℕ). vs ++ drop n out) (length-kept S (C .rule) (fresh S l) xs))
 
     -- reopened so, any further list that room and count limit allow is accepted, and leaves the bytes and the writer of one fresh run over the first k
     -- inputs and the list

@@ -11,6 +11,7 @@ use Rattle.models.specs.declared.Fault.{Fault}
 use Rattle.stream.specs.Format.{gorilla, Gather, withFirst, Stream, State, fresh, mostValues, usable}
 use Rattle.stream.specs.Write.{lossless, wrote, wroteIn}
 use Rattle.stream.specs.Read.{StreamRefusal, Reading, done, stopped, readAll, Reopened, reopened, unopened, reopen, bufferAfter}
+use Rattle.stream.specs.Rescue.{rescue}
 
 -- A writer of a stream: the stream and what it keeps, the causes that are judged before the stream's own (those of a bound, where it has one), and how
 -- its words W hold a state.
@@ -71,6 +72,14 @@ reopening S l bytes count k = reopen S count k (fresh S l) (bitsOf bytes)
 abbrev pub reopenCauses : List Cause → ℕ → ℕ → ℕ → ℕ → List Cause
 reopenCauses first room used count k = first ++ (3 when ltb mostValues count ∷ 12 when (ltb count k || ltb room used) ∷ [])
 
+-- the state after the values that arrived whole in the bytes in use, `limit` at most
+abbrev pub rescuing : {A : Type 0} → Stream A → ℕ → List ℕ → ℕ → Reopened A
+rescuing S l bytes limit = rescue S limit (fresh S l) (bitsOf bytes)
+
+-- of a rescue: a limit above the most values, used length above buffer
+abbrev pub rescueCauses : List Cause → ℕ → ℕ → ℕ → List Cause
+rescueCauses first room used limit = first ++ (3 when ltb mostValues limit ∷ 12 when ltb room used ∷ [])
+
 module _ {A W : Type 0} (C : Coder A W) where
   -- ---- a fresh writer
 
@@ -110,6 +119,15 @@ module _ {A W : Type 0} (C : Coder A W) where
   abbrev pub reopenMemory : ℕ → List ℕ → ℕ → ℕ → ℕ → List ℕ
   reopenMemory l buf used count k =
       judgedMemory buf (reopenCauses (C .first) (length buf) used count k) (bufferAfter (reopening (C .stream) l (take used buf) count k) buf)
+
+  -- ---- rescue: what stands behind the last whole value refuses nothing
+
+  abbrev pub rescueAnswer : ℕ → List ℕ → ℕ → ℕ → Said W
+  rescueAnswer l buf used limit = judge refused (rescueCauses (C .first) (length buf) used limit) (resumed (rescuing (C .stream) l (take used buf) limit))
+
+  abbrev pub rescueMemory : ℕ → List ℕ → ℕ → ℕ → List ℕ
+  rescueMemory l buf used limit =
+      judgedMemory buf (rescueCauses (C .first) (length buf) used limit) (bufferAfter (rescuing (C .stream) l (take used buf) limit) buf)
 
 -- ---- the stream of the Gorilla paper, of 64-bit values: lossless and with a first value. No call writes it yet.
 

@@ -4,6 +4,7 @@ use mathlib.Core.Bool.{Bool, true, false}
 use mathlib.Core.List.{List, _++_}
 use Prim.Native.Nat.{ℕ, _+_, _*_, _≤_}
 use lib.ListN.{length, take, drop}
+use Rattle.bits.specs.Bits.{cutIn}
 use Rattle.models.specs.Answers.{Said, Done, answered, refused}
 use Rattle.models.specs.Refusals.{faultOf}
 use Rattle.models.specs.declared.ErrorBound.{ErrorBound}
@@ -13,7 +14,7 @@ use Rattle.stream.specs.Read as stream
 use Rattle.stream.specs.Read.{Reading, ended, Reopened, reopened, unopened}
 use Rattle.stream.specs.Calls as theory
 use Rattle.stream.specs.Calls.{valuesRead}
-use Rattle.macaque_v.specs.State.{Known, streamIn, isFirst, openingValue}
+use Rattle.macaque_v.specs.State.{Known, streamIn, writerOf, isFirst, openingValue}
 use Rattle.macaque_v.specs.Write.{coderOf}
 use Rattle.macaque_v.specs.ReadRun.{endSaid}
 use Rattle.macaque_v.specs.inner.ReadRun.{readFrom, knownIn}
@@ -54,10 +55,13 @@ pub record Right (us : List ℕ) (all : Said (List ℕ)) (j : ℕ) (old new : Li
   pub drawn-there : new ≡ drawnAt j old (answered rest)
   pub long : length new ≡ length old
 
--- ---- reopening
+-- ---- reopening and rescue
 
 abbrev pub reopening : List ℕ → ℕ → ℕ → Opening → Reopened Known
 reopening bytes count k o = theory.reopening (streamIn (isFirst o)) (openingValue o) bytes count k
+
+abbrev pub rescuing : List ℕ → ℕ → Opening → Reopened Known
+rescuing bytes limit o = theory.rescuing (streamIn (isFirst o)) (openingValue o) bytes limit
 
 abbrev pub resumed : ErrorBound → Bool → Reopened Known → Said MacaqueV
 resumed b first = theory.resumed (coderOf b first)
@@ -72,6 +76,20 @@ pub record Unopened (q : Reopened Known) (cause : Refusal) : Type 0 where
   pub opens : q ≡ unopened fault
   pub numbered : theory.faultAt fault ≡ faultOf cause
 
-abbrev pub StateSays : List ℕ → ℕ → ℕ → Opening → Walk → Type 0
-StateSays bytes count k o (OfWalk.To at t) = (reopening bytes count k o ≡ reopened (stateWith at (knownIn t))) × (at .place ≤ 8 * length bytes)
-StateSays bytes count k o (OfWalk.Refused r) = Unopened (reopening bytes count k o) r
+-- what going through the bytes found is the state q, and its place is in them
+abbrev pub OpensAs : Reopened Known → List ℕ → Walk → Type 0
+OpensAs q bytes (OfWalk.To at t) = (q ≡ reopened (stateWith at (knownIn t))) × (at .place ≤ 8 * length bytes)
+OpensAs q bytes (OfWalk.Refused r) = Unopened q r
+
+-- the writer there, and the buffer that is cut behind it
+abbrev pub EndsIn : List ℕ → Walk → Type 0
+EndsIn buf (OfWalk.To at t) = at .place ≤ 8 * length buf
+EndsIn buf (OfWalk.Refused r) = Unit
+
+abbrev pub openedBehind : ErrorBound → Bool → Walk → Said MacaqueV
+openedBehind b first (OfWalk.To at t) = answered (writerOf b first (stateWith at (knownIn t)))
+openedBehind b first (OfWalk.Refused r) = refused (faultOf r)
+
+abbrev pub cutBehind : Walk → List ℕ → List ℕ
+cutBehind (OfWalk.To at t) buf = cutIn buf (at .place)
+cutBehind (OfWalk.Refused r) buf = buf
