@@ -2,7 +2,7 @@
 use mathlib.Core.Path.{_≡_, sym, ap, _∙_}
 use mathlib.Core.Bool.{Bool}
 use mathlib.Core.List.{List}
-use Prim.Native.Nat.{ℕ, _+_, _≤_}
+use Prim.Native.Nat.{ℕ, _+_, _≤_, _<_}
 use native.Mathlib.Omega.{arith}
 use lib.ListN.{length, take}
 use lib.Seq.{length-take-le}
@@ -13,7 +13,7 @@ use Rattle.models.specs.declared.ErrorBound.{ErrorBound}
 use Rattle.models.specs.declared.Fault.{Fault}
 use Rattle.models.specs.declared.Refusal.{Refusal}
 use Rattle.stream.specs.Read.{readN, Reopened, reopened, stateRead, bufferAfter}
-use Rattle.stream.proofs.Rescue.{whole-full, whole-damaged, whole-before, never-refused-before}
+use Rattle.stream.proofs.Rescue.{whole-full, told-below, whole-damaged, whole-before, never-refused-before}
 use Rattle.macaque_v.specs.State.{Known, streamIn, isFirst, opened}
 use Rattle.macaque_v.specs.Read.{startOf}
 use Rattle.macaque_v.specs.inner.ReadRun.{readFrom, StopsBy, knownIn, Walked, WalkSays}
@@ -52,10 +52,16 @@ module _ (bytes : List ℕ) (o : Opening) (limit : ℕ) where
   -- fewer: the refusal says why
   module _ (r : Refusal) (s : StopsBy (readFrom (isFirst o) bytes (startOf o) limit) r) where
     known : StopsBy (readN (streamIn (isFirst o)) limit (opened o) (bitsOf bytes)) r
-    known = stops-known bytes o s
+    known = stops-known bytes o limit s
 
     before : (k : ℕ) → k ≡ (faultOf r) .value → 0 + k ≡ known .fault .value
     before k e = let is : known .fault .value ≡ (faultOf r) .value = ap (λ (f : Fault). f .value) (known .numbered) in omega arith
+
+    -- it names a value below the limit
+    pub few-there : (faultOf r) .value < limit
+    few-there =
+        let is : known .fault .value ≡ (faultOf r) .value = ap (λ (f : Fault). f .value) (known .numbered) in
+        omega (arith, told-below (streamIn (isFirst o)) limit (opened o) (bitsOf bytes) (known .fault) (known .stops))
 
     -- damage
     pub damage-there : ¬ ((faultOf r) .number ≡ 5) → Unopened (rescuing bytes limit o) r
@@ -78,5 +84,5 @@ module _ (bytes : List ℕ) (o : Opening) (limit : ℕ) where
       W .reads .readable .within,
     )
     cut-there five k e (OfWalk.Refused q) Q =
-        let other = stops-known bytes o Q in
+        let other = stops-known bytes o k Q in
         absurd (never-refused-before (streamIn (isFirst o)) limit (opened o) (bitsOf bytes) (known .fault) (known .stops) k (before k e) (other .fault) (other .stops))

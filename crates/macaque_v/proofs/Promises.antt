@@ -195,7 +195,7 @@ pub padding-may-read-as-a-value : (streamOf (keepRule Lossless) (streamIn false)
     × (rescueAnswer (0xFE ∷ 0x0C ∷ []) 2 1 (On one) Lossless ≡ answered (writerOf Lossless false (stateOver Lossless (On one) (above-one ∷ []))))
     × ((limit : ℕ) → 2 ≤ limit → limit ≤ mostValues
     → rescueAnswer (0xFE ∷ 0x0C ∷ []) 2 limit (On one) Lossless ≡ answered (writerOf Lossless false (stateOver Lossless (On one) (above-one ∷ above-one ∷ []))))
-unfolding rescueAnswer keepRule
+unfolding rescueAnswer keepRule boundAllowed
 padding-may-read-as-a-value = (
   padding.one-value-written gatherKnown,
   rescuing.by-the-stream (coderOf Lossless false) (coder-good Lossless false) one (0xFE ∷ 0x0C ∷ []) 2 1 _ (no-bound-refuses Lossless refl) (omega arith) (omega arith) (padding.kept-by-its-count gatherKnown) .0,

@@ -114,8 +114,8 @@ module _ (bytes : List ℕ) (o : Opening) where
   read-known {k} {us} {at} R =
       read-gathering (bare (modeOf (isFirst o))) gatherKnown k (stateAt (startOf o)) (gatherKnown .none) (bitsOf bytes) us (stateAt at) (drop (at .place) (bitsOf bytes)) (R .values)
 
-  pub stops-known : {n : ℕ} {r : Refusal} → StopsBy (readFrom (isFirst o) bytes (startOf o) n) r → StopsBy (readN (streamIn (isFirst o)) n (opened o) (bitsOf bytes)) r
-  stops-known {n} {r} s =
+  pub stops-known : (n : ℕ) {r : Refusal} → StopsBy (readFrom (isFirst o) bytes (startOf o) n) r → StopsBy (readN (streamIn (isFirst o)) n (opened o) (bitsOf bytes)) r
+  stops-known n {r} s =
       let S : Stream Unit = bare (modeOf (isFirst o)) in
       alike-stops S gatherKnown (readFrom (isFirst o) bytes (startOf o) n) (readN (streamIn (isFirst o)) n (opened o) (bitsOf bytes)) r
       (read-any S gatherKnown n (stateAt (startOf o)) (gatherKnown .none) (bitsOf bytes)) s

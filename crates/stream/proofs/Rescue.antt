@@ -102,6 +102,10 @@ module _ {A : Type 0} (S : Stream A) where
     halted : Halted S n s bs f
     halted = subst (CountedOf S n s bs) e (counted S n s bs)
 
+    -- it is one of the n
+    pub told-below : f .value < s .count + n
+    told-below = let H = halted in omega (arith, H .told, H .counted, H .wanted)
+
     pub whole-damaged : ¬ (f .no ≡ 5) → readWhole S n s bs ≡ stopped f
     whole-damaged other =
         let H = halted in
