@@ -12,5 +12,6 @@ pub mod Resume
 -- what the calls answer and leave
 pub mod Calls
 pub mod ReadCalls
+pub mod RescueCalls
 -- for the proofs of code: one value more
 pub mod Steps

@@ -86,7 +86,7 @@ module _ {A : Type 0} (S : Stream A) (good : Good (S .format)) (l : ℕ) (hl : l
       ∙ take-at (entriesIn S k f bits) (entriesIn S (n - k) m rm) (entriesFor k) number
 
   -- ys written behind them add their entries
-  entries-go-on : (rule : ℕ → ℕ → ℕ) → Keeps (S .format .width) rule → (ys : List ℕ) → Below (S .format .width) ys
+  pub entries-go-on : (rule : ℕ → ℕ → ℕ) → Keeps (S .format .width) rule → (ys : List ℕ) → Below (S .format .width) ys
       → entriesIn S (k + length ys) (fresh S l) (padded (take (m .place) bits ++ written rule S m ys))
       ≡ entriesIn S k (fresh S l) bits ++ entries S m (kept rule S m ys)
   unfolding padded

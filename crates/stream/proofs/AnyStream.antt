@@ -9,7 +9,7 @@ use lib.ListN.{length, take, length-append}
 use lib.Seq.{length-take-le}
 use Rattle.bits.specs.Bits.{bitsOf, wholeBytes, padded, laidIn, cutIn}
 use Rattle.bits.proofs.Bytes.{length-bitsOf}
-use Rattle.bits.proofs.InBytes.{cutIn-laidIn-used, take-bits}
+use Rattle.bits.proofs.InBytes.{cutIn-used, cutIn-laidIn-used, take-bits}
 use Rattle.stream.specs.Format.{Stream, State, fresh, mostValues}
 use Rattle.stream.specs.Write.{kept, Keeps, written, wrote}
 use Rattle.stream.specs.Read.{done, readAll}
@@ -22,7 +22,12 @@ use Rattle.stream.proofs.Gathered.{SeenIn, seen-read}
 use Rattle.stream.proofs.Reopen.{any-opened, goes-on}
 use Rattle.stream.proofs.Holds.{padded-back}
 
--- the bits in use where new ones are laid behind a cut within the first `used` bytes
+-- the bits in use behind a cut within the first `used` bytes, and where new ones are laid there
+pub cut-left : (used : ℕ) (buf : List ℕ) → used ≤ length buf → (p : ℕ) → p ≤ 8 * used
+    → bitsOf (take (wholeBytes p) (cutIn buf p)) ≡ padded (take p (bitsOf (take used buf)))
+cut-left used buf fits p le =
+    ap bitsOf (cutIn-used buf p (omega arith)) ∙ padded-back (take p (bitsOf buf)) ∙ ap padded (sym (take-bits buf used p fits le))
+
 pub cut-and-laid : (used : ℕ) (buf : List ℕ) → used ≤ length buf → (p : ℕ) → p ≤ 8 * used → (new : List Bool) → p + length new ≤ 8 * length buf
     → bitsOf (take (wholeBytes (p + length new)) (laidIn (cutIn buf p) p new)) ≡ padded (take p (bitsOf (take used buf)) ++ new)
 cut-and-laid used buf fits p le new room =

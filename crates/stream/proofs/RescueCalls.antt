@@ -27,7 +27,7 @@ use Rattle.stream.specs.Made.{Made, MadeBy, stateOver}
 use Rattle.stream.specs.Rescued.{ReopensWhole, Saves, Rescues, MeetsDamage}
 use Rattle.stream.specs.Needs.{GoodCoder}
 use Rattle.stream.proofs.Writing.{count-after, length-kept}
-use Rattle.stream.proofs.Holds.{padded-back}
+use Rattle.stream.proofs.AnyStream.{cut-left}
 use Rattle.stream.proofs.Reopen.{ended-inv, goes-on}
 use Rattle.stream.proofs.Made as spine
 use Rattle.stream.proofs.Broken.{place-within}
@@ -153,7 +153,7 @@ module _ {A W : Type 0} (C : Coder A W) (good : GoodCoder C) (l : ℕ) where
     -- ---- any bytes at all
 
     -- what was read, cut behind it, reads back
-    cut-reads : (buf : List ℕ) (used : ℕ) → used ≤ length buf → (vs : List ℕ) (t : State A) (r : List Bool)
+    pub cut-reads : (buf : List ℕ) (used : ℕ) → used ≤ length buf → (vs : List ℕ) (t : State A) (r : List Bool)
         → readN S (length vs) (fresh S l) (bitsOf (take used buf)) ≡ done vs t r
         → (t .place ≤ 8 * used)
         × (readAll S (length vs) (fresh S l) (bitsOf (take (wholeBytes (t .place)) (cutIn buf (t .place)))) ≡ done vs t (replicate (padding (t .place)) false))
@@ -164,8 +164,7 @@ module _ {A W : Type 0} (C : Coder A W) (good : GoodCoder C) (l : ℕ) where
         let p : ℕ = t .place in
         let at : p ≤ 8 * used = omega (arith, place-within S (good .format) l hl k bits vs t r e, bits-front used buf fits) in
         let here : bitsOf (take (wholeBytes p) (cutIn buf p)) ≡ padded (take p bits ++ []) =
-        ap bitsOf (cutIn-used buf p (omega arith)) ∙ padded-back (take p (bitsOf buf))
-        ∙ ap padded (sym (take-bits buf used p fits at) ∙ sym (append-nil (take p bits))) in
+        cut-left used buf fits p at ∙ ap padded (sym (append-nil (take p bits))) in
         let count : k ≡ k + 0 = omega arith in (
           at,
           ap (λ (i : ℕ). readAll S i (fresh S l) (bitsOf (take (wholeBytes p) (cutIn buf p)))) count ∙ ap (readAll S (k + 0) (fresh S l)) here
