@@ -176,7 +176,8 @@ impl MacaqueV {
     /// a larger limit may take the padding of the last byte for a value, or for damage.
     ///
     /// It cannot see that bytes are missing in between, or were changed, unless the codes no longer come out: let a
-    /// checksum say first that what arrived is the beginning of what was sent.
+    /// checksum say first that what arrived is the beginning of what was sent. And go on with values, not with the rest
+    /// of the old bytes, since the first bits of a value that is cut may be gone then: keep a copy where those may come.
     ///
     /// # Errors
     ///
