@@ -1,5 +1,6 @@
 /* Document 01's marked case a through the C face: three values written as a stream, and read back; their mean, from the
- * state alone; then the same stream without its last byte, and where it breaks. It is C and C++ alike.
+ * state alone; then the same stream without its last byte: where it breaks, what is rescued, and how that goes on. It is
+ * C and C++ alike.
  *
  *    cc -Iinclude examples/stream.c target/staticlib/libexports_stream.a -o stream && ./stream
  */
@@ -21,7 +22,7 @@ int main(void) {
   uint8_t buffer[MODELARDB_ROOM(COUNT)];
   uint32_t bits;
   float sum;
-  size_t used, i;
+  size_t used, kept, i;
   modelardb_fault fault;
 
   fault = modelardb_macaque_v_new(MODELARDB_LOSSLESS, 0, MODELARDB_FIRST, 0, state, MODELARDB_WRITER_WORDS);
@@ -42,5 +43,18 @@ int main(void) {
   fault = modelardb_macaque_v_grid(buffer, used - 1, COUNT, MODELARDB_FIRST, 0, out, COUNT);
   printf("without its last byte: refused %u at value %u, bit %zu\n", (unsigned)fault.number, (unsigned)fault.value,
          fault.place);
+
+  /* What arrived whole, up to the count, is kept, and the rest is written again. */
+  fault = modelardb_macaque_v_rescue(buffer, sizeof buffer, used - 1, COUNT, MODELARDB_FIRST, 0, MODELARDB_LOSSLESS, 0,
+                                     state, MODELARDB_WRITER_WORDS);
+  if (fault.number != MODELARDB_ACCEPTED) return refused(fault);
+  kept = (size_t)state[MODELARDB_WRITER_LENGTH];
+  printf("rescued %zu values in %u bits, gone on to", kept, (unsigned)state[MODELARDB_WRITER_PLACE]);
+  fault = modelardb_macaque_v_compress_values(state, MODELARDB_WRITER_WORDS, values + kept, COUNT - kept, buffer,
+                                              sizeof buffer);
+  if (fault.number != MODELARDB_ACCEPTED) return refused(fault);
+  used = (size_t)MODELARDB_BYTES(state[MODELARDB_WRITER_PLACE]);
+  for (i = 0; i < used; i++) printf(" %02X", buffer[i]);
+  printf("\n");
   return fflush(stdout) == 0 ? 0 : 1;
 }

@@ -11,8 +11,8 @@
  * A state crosses as a row of 64-bit words. A row that holds fewer words than the state has, or words that no
  * such state has, stands for none: a call that reads it is refused with 2. It is refused with 1 before that if
  * the two words of its bound (of a builder, of either bound) are there and are no allowed bound. Where a row is
- * output alone (new, open, reopen and the answers), one that is too short is 4. Words behind those of a state or
- * of an answer are not looked at, and stay.
+ * output alone (new, open, reopen, rescue and the answers), one that is too short is 4. Words behind those of a
+ * state or of an answer are not looked at, and stay.
  *
  * No call keeps anything of its own from one call to the next, so calls may run in several threads at once.
  *
@@ -136,7 +136,7 @@ modelardb_fault modelardb_maximum_allowed_deviation(uint32_t kind, uint32_t boun
  * 1, the place lies within the buffer, the length is at most 65,536 and is 0 exactly where the place is 0, and the
  * window is 255 and 0 or, at length 1 or more, has at most 31 zero bits in all. A bound in words of more than 32
  * bits is refused with 1, as any that is not allowed: a Lossless row's word 1 too, though its bits are not looked
- * at. `new` and `reopen` set that word to 0.
+ * at. `new`, `reopen` and `rescue` set that word to 0.
  *
  * The sum is what `modelardb_macaque_v_sum` answers on the stream's bytes, in f32 from the left, without reading
  * them: with a first value the write at length 0 sets it to that value, else it begins at +0. The mean is the sum
@@ -195,6 +195,22 @@ modelardb_fault modelardb_macaque_v_compress_values(uint64_t *state, size_t stat
 modelardb_fault modelardb_macaque_v_reopen(uint8_t *buffer, size_t buffer_length, size_t used, size_t count,
                                            size_t k, uint32_t mode, uint32_t opening, uint32_t kind,
                                            uint32_t bound, uint64_t *state, size_t state_length);
+
+/* state: the writer behind whatever arrived of a stream, to go on from there. Of the buffer's first `used` bytes it
+ * keeps the values whose bits are all there, up to `limit` of them, and word 9 says how many it kept. The bits behind
+ * them in the byte that they end in become 0, and no other byte changes. A value that is cut, stale bits and further
+ * bytes behind them are no refusal: there is no 5 and no 8.
+ *
+ * Give the count of the upload as the limit: then what is kept of a stream that was cut at any byte are the values
+ * that arrived whole, and the row is that of the writer behind them. Where a value is missing, every limit from the
+ * number kept on answers the same. Where none is, a larger one may take padding for a value, or for damage: on 1.0,
+ * FE 0C is one value, and with a limit above 1 two; 80 is one repeat, and with a limit above 1 refused with 6. Bytes
+ * that are missing in between, or altered, are seen only where 6 or 7 says so: compare a checksum of what arrived
+ * first. Refusals: 1; 3 (mode, or limit above 65,536); 12 (used above the buffer's length); 4 (a row under eleven
+ * words); then 6 and 7 with value and place: damage, and no cut. */
+modelardb_fault modelardb_macaque_v_rescue(uint8_t *buffer, size_t buffer_length, size_t used, size_t limit,
+                                           uint32_t mode, uint32_t opening, uint32_t kind, uint32_t bound,
+                                           uint64_t *state, size_t state_length);
 
 /* out[0] to out[count - 1]: the values of the stream. Refusals: 3 (mode, or count above 65,536); 4; then 5 to 8
  * with value and place. */
@@ -480,7 +496,8 @@ modelardb_fault modelardb_reader_last_value(const uint8_t *bytes, size_t bytes_l
 /*
  * How many entries are in use stands beside the words: none before any value, and MODELARDB_ENTRIES(count) for
  * `count` values. Words behind those in use are not looked at. Of a table lent, as many entries count as it holds
- * whole; more in use than that are refused with 12, but in a range with p = q, which looks at no table.
+ * whole; more in use than that are refused with 12, but in a rescue, which makes them anew, and in a range with p = q,
+ * which looks at no table.
  *
  * Keep the table beside the bytes and their count. It carries no checksum either: write and reopen count its
  * entries and look at none, so that wrong ones are carried on, and a range looks at one and trusts it: by a wrong
@@ -510,6 +527,17 @@ modelardb_fault modelardb_table_reopen(uint8_t *buffer, size_t buffer_length, si
                                        uint32_t mode, uint32_t opening, uint32_t kind, uint32_t bound,
                                        uint64_t *state, size_t state_length, const uint64_t *table,
                                        size_t table_length, size_t *entries);
+
+/* Rescues as modelardb_macaque_v_rescue does, and makes the table anew. Neither its words nor *entries are looked at:
+ * its first words become the entries of the values that are kept, the words behind them stay, and *entries is how many
+ * they are. Of a stream that is whole and known to be right, with its count as the limit, it is how to make a table
+ * that is missing. The table of an altered stream goes with it, and then no check sees what was altered. Refusals: 1;
+ * 3 (mode, or limit above 65,536); 12 (used above the buffer's length); 4 (a row under eleven words, or a table of
+ * fewer words than MODELARDB_TABLE_ROOM(limit), whatever arrived); then 6 and 7 with value and place. */
+modelardb_fault modelardb_table_rescue(uint8_t *buffer, size_t buffer_length, size_t used, size_t limit,
+                                       uint32_t mode, uint32_t opening, uint32_t kind, uint32_t bound,
+                                       uint64_t *state, size_t state_length, uint64_t *table, size_t table_length,
+                                       size_t *entries);
 
 /* Accepted where the entries in use are those of the stream, which is read once. Refusals: 3 (mode, or count above
  * 65,536); 12 (entries); 13 (not as many entries in use as the count asks for); then 5 to 8 with value and place;

@@ -6,10 +6,12 @@
 #include <time.h>
 
 /* A row is lent more words than a state has today, so that libraries of other days can be timed beside each other. */
-enum { STREAMS = 16, VALUES = 65536, BYTES = 6 * VALUES, ROUNDS = 9, ROW = 16, BOUNDS = 3, JOBS = 6 };
+enum { STREAMS = 16, VALUES = 65536, BYTES = 6 * VALUES, ROUNDS = 9, ROW = 16, BOUNDS = 3, JOBS = 7 };
 
-/* A library that was made before there were place tables has no such call, and then that job is left out. */
+/* A library that was made before there were place tables, or before there was a rescue, has no such call, and then that
+ * job is left out. */
 #pragma weak modelardb_table_compress_values
+#pragma weak modelardb_macaque_v_rescue
 
 static uint32_t values[STREAMS][VALUES];
 static uint8_t stored[STREAMS][BYTES];
@@ -74,10 +76,24 @@ static uint32_t reopened(int s, uint32_t kind, uint32_t bound) {
   return modelardb_macaque_v_reopen(stored[s], BYTES, used[s], VALUES, VALUES, 0, 0, kind, bound, row, ROW).number;
 }
 
+static uint32_t rescued(int s, uint32_t kind, uint32_t bound) {
+  return modelardb_macaque_v_rescue(stored[s], BYTES, used[s], VALUES, 0, 0, kind, bound, row, ROW).number;
+}
+
+typedef uint32_t (*run)(int s, uint32_t kind, uint32_t bound);
+
 static const struct job {
   const char *name;
-  uint32_t (*run)(int s, uint32_t kind, uint32_t bound);
-} jobs[JOBS] = {{"written", written}, {"fitted", fitted}, {"tabled", tabled}, {"read", read_whole}, {"summed", summed}, {"reopened", reopened}};
+  run run;
+} jobs[JOBS] = {{"written", written}, {"fitted", fitted},     {"tabled", tabled},  {"read", read_whole},
+                {"summed", summed},   {"reopened", reopened}, {"rescued", rescued}};
+
+/* Whether the library has what a job calls. */
+static int is_there(run job) {
+  if (job == tabled) return modelardb_table_compress_values != NULL;
+  if (job == rescued) return modelardb_macaque_v_rescue != NULL;
+  return 1;
+}
 
 /* The streams that the other jobs read. */
 static int store(uint32_t kind, uint32_t bound) {
@@ -98,7 +114,7 @@ int main(void) {
     if (!store(kind, bound)) return 1;
     for (int round = 0; round < ROUNDS; round++)
       for (int j = 0; j < JOBS; j++) {
-        if (jobs[j].run == tabled && !modelardb_table_compress_values) continue;
+        if (!is_there(jobs[j].run)) continue;
         double begin = now();
         for (int s = 0; s < STREAMS; s++)
           if (jobs[j].run(s, kind, bound) != 0) return 1;

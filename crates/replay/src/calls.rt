@@ -8,7 +8,7 @@ use replaying::lists::Told;
 
 // How many calls there are; they are numbered from 0 in the order of include/modelardb.h, but for those that came later
 // and have the last numbers.
-pub const CALLS: u64 = 44;
+pub const CALLS: u64 = 46;
 
 // What is answered for a line that lacks the number which a call is lent: no call answers it.
 const NO_NUMBER: u64 = 99;
@@ -56,7 +56,10 @@ pub fn answer(
     if call <= 41 {
         return of_the_table(call, x, p, v, r, u);
     }
-    of_sizes(call, x, r)
+    if call <= 43 {
+        return of_sizes(call, x, r);
+    }
+    of_rescue(call, x, p, r, u)
 }
 
 fn of_streams(call: u64, x: Numbers, p: &mut [u8], v: &mut [u32], r: &mut [u64]) -> Told {
@@ -303,6 +306,41 @@ fn of_sizes(call: u64, x: Numbers, r: &mut [u64]) -> Told {
         _ => told(exports_stream::modelardb_macaque_v_most_bytes(count, x.a, &mut most)),
     };
     r[0] = most as u64;
+    answer
+}
+
+fn of_rescue(call: u64, x: Numbers, p: &mut [u8], r: &mut [u64], u: &mut [u64]) -> Told {
+    let used = x.k as usize;
+    let limit = x.m as usize;
+    if call == 44 {
+        return told(exports_stream::modelardb_macaque_v_rescue(
+            p,
+            used,
+            limit,
+            x.a,
+            x.b,
+            x.c,
+            x.d,
+            r,
+        ));
+    }
+    if u.len() == 0 {
+        return given(NO_NUMBER);
+    }
+    let mut entries = u[0] as usize;
+    let answer = told(exports_table::modelardb_table_rescue(
+        p,
+        used,
+        limit,
+        x.a,
+        x.b,
+        x.c,
+        x.d,
+        r,
+        &mut u[1..],
+        &mut entries,
+    ));
+    u[0] = entries as u64;
     answer
 }
 

@@ -1,7 +1,7 @@
 //! The jobs, each over many lists of values or the streams that the library makes of them, and how long
 //! a side takes for one.
 
-use crate::sides::{self, Ours, Side, by_paper};
+use crate::sides::{self, Again, Ours, Side, by_paper};
 use oracle::paper::models::ErrorBound;
 use oracle::paper::rules;
 use oracle::rust::Calls;
@@ -134,26 +134,25 @@ impl<'a> Lists<'a> {
         best(&self.parts(), &mut tasks, rounds, self.values())
     }
 
-    /// The nanoseconds a value that reopening at the end takes.
-    pub fn reopening(&mut self, rounds: u32) -> f64 {
+    /// The nanoseconds a value that it takes until a writer is back.
+    pub fn coming_again(&mut self, again: Again, rounds: u32) -> f64 {
         let (parts, count, bound) = (self.parts(), self.count(), self.bound);
         let values = self.values();
         let streams = &mut self.streams;
         let mut task = |part: Range<usize>| {
             for bytes in &mut streams[part] {
-                black_box(sides::reopened(bound, bytes, count));
+                black_box(again(bound, bytes, count));
             }
         };
         best(&parts, &mut [&mut task], rounds, values)[0]
     }
 
-    /// Whether reopening at the end gives the writer that wrote the stream.
-    pub fn reopens(&mut self) -> bool {
+    /// Whether the writer that comes back is the one that wrote the stream.
+    pub fn comes_again(&mut self, again: Again) -> bool {
         let (count, bound) = (self.count(), self.bound);
         let pairs = self.rooms.iter().zip(&mut self.streams);
-        let mut same = pairs.map(|(values, bytes)| {
-            sides::reopened(bound, bytes, count) == sides::written(bound, values).0
-        });
+        let mut same = pairs
+            .map(|(values, bytes)| again(bound, bytes, count) == sides::written(bound, values).0);
         same.all(|same| same)
     }
 }

@@ -14,11 +14,11 @@ use oracle::builds::AT_HAND;
 use oracle::paper::models::ErrorBound::{self, Absolute, Lossless, Relative};
 use oracle::rust::Calls;
 use out::{put, say};
-use sides::{MOST_VALUES, Ours, Side};
+use sides::{Again, MOST_VALUES, Ours, Side};
 use std::process::ExitCode;
 
 const USAGE: &str = "usage: bench [ROUNDS [JOB]], a whole number above 0 and how a job's name begins (written, read, \
-    summed, reopened, tabled, range); or bench --quick";
+    summed, reopened, rescued, tabled, range); or bench --quick";
 
 const BOUNDS: [(&str, ErrorBound); 3] = [
     ("lossless", Lossless),
@@ -33,9 +33,13 @@ const JOBS: [(&str, Job, [f64; 3]); 3] = [
     ("summed", Job::Summed, [0.15, 0.35, 0.65]),
 ];
 
+/// How a writer comes back: reopened at the end of its stream, and rescued from what arrived, which is all of it.
+const AGAIN: [(&str, Again); 2] = [("reopened", sides::reopened), ("rescued", sides::rescued)];
+
 /// The names of the jobs that long streams are timed on.
 fn jobs() -> impl Iterator<Item = &'static str> {
-    JOBS.iter().map(|job| job.0).chain(["reopened"])
+    let again = AGAIN.iter().map(|job| job.0);
+    JOBS.iter().map(|job| job.0).chain(again)
 }
 
 /// At most this part of the text as published, in every row.
@@ -198,7 +202,7 @@ impl Bench {
         good
     }
 
-    /// The jobs and reopening at the end, a value of the longest streams beside one of short ones.
+    /// The jobs and how a writer comes back, a value of the longest streams beside one of short ones.
     fn long_streams(&self, rooms: &[Vec<f32>], nights: &[Vec<f32>]) -> bool {
         if !jobs().any(|name| self.is_wanted(name)) {
             return true;
@@ -223,31 +227,34 @@ impl Bench {
                 }
             }
         }
-        for (bound, [long, short]) in &mut pairs {
-            if self.is_wanted("reopened") {
-                good &= self.reopened(bound, long, short);
+        for (job, again) in AGAIN {
+            for (bound, [long, short]) in &mut pairs {
+                if self.is_wanted(job) {
+                    good &= self.come_again(job, again, bound, [long, short]);
+                }
             }
         }
         say!();
         good
     }
 
-    /// Reopening at the end, which gives the writer that wrote the stream.
-    fn reopened(&self, bound: &str, long: &mut Lists, short: &mut Lists) -> bool {
-        let same = long.reopens() && short.reopens();
+    /// A writer that comes back, which is the one that wrote the stream.
+    fn come_again(&self, job: &str, again: Again, bound: &str, lists: [&mut Lists; 2]) -> bool {
+        let [long, short] = lists;
+        let same = long.comes_again(again) && short.comes_again(again);
         if !same {
-            say!("reopened, {bound}: another writer than the one that wrote");
+            say!("{job}, {bound}: another writer than the one that wrote");
         }
         let mut time = || {
             in_turns(
-                || long.reopening(self.rounds),
-                || short.reopening(self.rounds),
+                || long.coming_again(again, self.rounds),
+                || short.coming_again(again, self.rounds),
             )
         };
         let (long, short) = self.until(&mut time, |(long, short)| {
             self.keeps(long / short, LONG_GOAL)
         });
-        self.long_row("reopened", bound, long, short) && same
+        self.long_row(job, bound, long, short) && same
     }
 
     fn long_row(&self, name: &str, bound: &str, long: f64, short: f64) -> bool {

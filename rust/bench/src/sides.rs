@@ -94,10 +94,19 @@ pub fn by_paper(bound: ErrorBound, values: &[f32]) -> Vec<u8> {
     buffer
 }
 
-/// The writer behind all values of a stream. The bytes stay, as a stream has no bits behind its last value.
+/// How the writer behind all values of a stream comes back. The bytes stay, as a stream has no bits behind its last
+/// value.
+pub type Again = fn(ErrorBound, &mut [u8], usize) -> MacaqueV;
+
 pub fn reopened(bound: ErrorBound, bytes: &mut [u8], count: usize) -> MacaqueV {
     let used = bytes.len();
     let writer = MacaqueV::reopen(bytes, used, count, count, Opening::First, of_library(bound));
+    writer.expect("a stream")
+}
+
+pub fn rescued(bound: ErrorBound, bytes: &mut [u8], count: usize) -> MacaqueV {
+    let used = bytes.len();
+    let writer = MacaqueV::rescue(bytes, used, count, Opening::First, of_library(bound));
     writer.expect("a stream")
 }
 

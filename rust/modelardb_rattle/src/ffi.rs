@@ -28,7 +28,7 @@ pub use segments::{
 
 pub use table::{
     ENTRY_WORDS, VALUES_PER_ENTRY, table_check, table_compress_into, table_compress_values,
-    table_range, table_reopen,
+    table_range, table_reopen, table_rescue,
 };
 
 use crate::Fault;
@@ -78,6 +78,18 @@ mod c {
             used: usize,
             count: usize,
             k: usize,
+            mode: u32,
+            opening: u32,
+            kind: u32,
+            bound: u32,
+            state: *mut u64,
+            state_len: usize,
+        ) -> Fault;
+        pub unsafe fn modelardb_macaque_v_rescue(
+            buffer: *mut u8,
+            buffer_len: usize,
+            used: usize,
+            limit: usize,
             mode: u32,
             opening: u32,
             kind: u32,
@@ -195,6 +207,26 @@ pub fn macaque_v_reopen(
     unsafe {
         c::modelardb_macaque_v_reopen(
             start, length, used, count, k, mode, opening, kind, bound, row, row_length,
+        )
+    }
+}
+
+/// `state` becomes that of the writer behind the whole values in the first `used` bytes, `limit` of them at most,
+/// and what follows them in their last byte becomes zeros.
+pub fn macaque_v_rescue(
+    buffer: &mut [u8],
+    used: usize,
+    limit: usize,
+    (mode, opening): Words,
+    (kind, bound): Words,
+    state: &mut [u64],
+) -> Fault {
+    let (row, row_length) = (state.as_mut_ptr(), state.len());
+    let (start, length) = (buffer.as_mut_ptr(), buffer.len());
+    // SAFETY: each start and length are those of a slice lent for the call, and they do not overlap.
+    unsafe {
+        c::modelardb_macaque_v_rescue(
+            start, length, used, limit, mode, opening, kind, bound, row, row_length,
         )
     }
 }

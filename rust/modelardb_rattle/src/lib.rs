@@ -9,7 +9,8 @@
 //! models and builders are no `Copy`; to keep one as it was, clone it.
 //!
 //! A [`MacaqueV`] knows the [mean](MacaqueV::mean) of what it has written, without reading it, and
-//! [how large a buffer](MacaqueV::most_bytes) any stream fits in that it writes of so many values.
+//! [how large a buffer](MacaqueV::most_bytes) any stream fits in that it writes of so many values. It goes on from any
+//! value of a stream ([`MacaqueV::reopen`]), and from whatever arrived of one ([`MacaqueV::rescue`]).
 //!
 //! [`compare::differences`] shows where two streams part. A [`TabledWriter`] keeps a [`PlaceTable`] beside its
 //! stream, which reads a range of it without the rest.

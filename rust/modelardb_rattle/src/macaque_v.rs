@@ -130,7 +130,8 @@ impl MacaqueV {
 
     /// The writer behind the first `k` of the `count` values in the buffer's first `used` bytes. The
     /// whole stream is checked first; then the bits behind those values are zeroed in the byte that
-    /// they end in. A refusal leaves the buffer as it was.
+    /// they end in. A refusal leaves the buffer as it was. Of a stream that did not arrive whole,
+    /// [`MacaqueV::rescue`] gives the writer behind what did.
     ///
     /// # Errors
     ///
@@ -142,22 +143,12 @@ impl MacaqueV {
     /// ```
     /// use modelardb_rattle::{ErrorBound, MacaqueV, Opening, Refusal};
     ///
-    /// // Of 1.0, 1.0, 2.0 six bytes arrived, and they are as they were sent.
+    /// // 1.0, 1.0, 2.0, of which the last is to be another.
     /// let (first, lossless) = (Opening::First, ErrorBound::Lossless);
-    /// let mut buffer = [0x3F, 0x80, 0x00, 0x00, 0xB0, 0x91, 0x00, 0x00];
-    /// let refused = MacaqueV::reopen(&mut buffer, 6, 3, 3, first, lossless);
-    /// assert_eq!(refused, Err(Refusal::EndsEarly { value: 2, place: 34 }));
-    /// // So two values are there, in 34 bits. The bits behind these are zeroed in the byte that they cut,
-    /// // and the upload goes on.
-    /// let (value, place) = (2, 34);
-    /// let used = usize::div_ceil(place, 8);
-    /// if place % 8 != 0 {
-    ///     buffer[used - 1] &= !(0xFF >> (place % 8));
-    /// }
-    /// let mut writer = MacaqueV::reopen(&mut buffer, used, value, value, first, lossless)?;
-    /// writer.compress_values(&[2.0], &mut buffer)?;
-    /// let case_a = [0x3F, 0x80, 0x00, 0x00, 0xB0, 0x91, 0xFE];
-    /// assert_eq!(buffer[..writer.bytes_used()], case_a);
+    /// let mut buffer = [0x3F, 0x80, 0x00, 0x00, 0xB0, 0x91, 0xFE];
+    /// let writer = MacaqueV::reopen(&mut buffer, 7, 3, 2, first, lossless)?;
+    /// assert_eq!((writer.length(), writer.place()), (2, 34));
+    /// assert_eq!(buffer[..writer.bytes_used()], [0x3F, 0x80, 0x00, 0x00, 0x80]);
     /// # Ok::<(), Refusal>(())
     /// ```
     pub fn reopen(
@@ -171,6 +162,58 @@ impl MacaqueV {
         let (opening, bound) = (opening.words(), error_bound.words());
         let mut row = [0; STATE_WORDS];
         let fault = ffi::macaque_v_reopen(buffer, used, (count, k), opening, bound, &mut row);
+        Refusal::judge(fault).map(|()| Self { row })
+    }
+
+    /// The writer behind whatever arrived of a stream, to go on from there. Of the buffer's first `used` bytes it
+    /// keeps the values whose bits are all there, `limit` of them at most; [`length`](MacaqueV::length) says how many
+    /// these are. The bits behind them are zeroed in the byte that they end in, and no other byte changes. What remains
+    /// there, a value that is cut, stale bits or further bytes, is no refusal. A refusal leaves the buffer as it was.
+    ///
+    /// **Give the count of the upload as the limit.** Then of a stream that was cut at any byte the values are kept
+    /// that arrived whole, the writer is the one that had written these, and what is written on has the bytes and the
+    /// state of one run. Where a value is missing, every limit from the number kept on answers the same. Where none is,
+    /// a larger limit may take the padding of the last byte for a value, or for damage.
+    ///
+    /// It cannot see that bytes are missing in between, or were changed, unless the codes no longer come out: let a
+    /// checksum say first that what arrived is the beginning of what was sent. And go on with values, not with the rest
+    /// of the old bytes, since the first bits of a value that is cut may be gone then: keep a copy where those may come.
+    ///
+    /// # Errors
+    ///
+    /// [`Refusal::BoundNotAllowed`]; [`Refusal::OverLimit`] for a limit above 65,536; [`Refusal::CountsDisagree`] for
+    /// a `used` above the buffer's length; then [`Refusal::NoWindow`] or [`Refusal::WindowNotAllowed`], with the place,
+    /// where the bytes hold what no writer makes: that is damage, and no cut.
+    ///
+    /// ```
+    /// use modelardb_rattle::{ErrorBound, MacaqueV, Opening, Refusal};
+    ///
+    /// // Of 1.0, 1.0, 2.0 six bytes arrived; what stands behind them is of another day.
+    /// let (first, lossless) = (Opening::First, ErrorBound::Lossless);
+    /// let mut buffer = [0x3F, 0x80, 0x00, 0x00, 0xB0, 0x91, 0x55, 0x55];
+    /// let mut writer = MacaqueV::rescue(&mut buffer, 6, 3, first, lossless)?;
+    /// // Two values are there, in 34 bits, and the third is sent again.
+    /// assert_eq!((writer.length(), writer.place()), (2, 34));
+    /// writer.compress_values(&[2.0], &mut buffer)?;
+    /// let case_a = [0x3F, 0x80, 0x00, 0x00, 0xB0, 0x91, 0xFE];
+    /// assert_eq!(buffer[..writer.bytes_used()], case_a);
+    ///
+    /// // A byte that holds one value: with a larger limit its padding is read too.
+    /// let rescue = |limit| MacaqueV::rescue(&mut [0x80], 1, limit, Opening::On(1.0), lossless);
+    /// assert_eq!(rescue(1)?.length(), 1);
+    /// assert_eq!(rescue(2), Err(Refusal::NoWindow { value: 1, place: 2 }));
+    /// # Ok::<(), Refusal>(())
+    /// ```
+    pub fn rescue(
+        buffer: &mut [u8],
+        used: usize,
+        limit: usize,
+        opening: Opening,
+        error_bound: ErrorBound,
+    ) -> Result<Self, Refusal> {
+        let (opening, bound) = (opening.words(), error_bound.words());
+        let mut row = [0; STATE_WORDS];
+        let fault = ffi::macaque_v_rescue(buffer, used, limit, opening, bound, &mut row);
         Refusal::judge(fault).map(|()| Self { row })
     }
 

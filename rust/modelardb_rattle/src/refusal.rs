@@ -50,8 +50,8 @@ pub enum Refusal {
     /// 5: the stream ends before its last value. Bytes are missing, the count is too high, or the bytes
     /// or the opening are not those of its writer: look at all three, and fetch them again. Where the bytes end
     /// too early and are right so far, the first `value` values are there, in the first `place` bits: a
-    /// [`Reader`](crate::Reader) gives them, and [`MacaqueV::reopen`](crate::MacaqueV::reopen) shows how
-    /// to write on behind them.
+    /// [`Reader`](crate::Reader) gives them, and [`MacaqueV::rescue`](crate::MacaqueV::rescue) the writer that goes
+    /// on behind them.
     EndsEarly {
         /// The value whose code is not all there.
         value: usize,

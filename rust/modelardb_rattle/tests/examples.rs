@@ -1,8 +1,10 @@
 //! The examples on the shipped readings: the shipped stream is what the library writes, an upload that is cut at
-//! any value goes on as one run, a flipped bit is often read as other values, a cut is told at the first value that
+//! any value or byte goes on as one run, a flipped bit is often read as other values, a cut is told at the first value that
 //! is missing, an hour of a night is read without the rest, no night outgrows the room for it, a bad line is named, and
 //! the README shows what they print.
 
+#[path = "../examples/cut/show.rs"]
+mod cut_upload;
 #[path = "../examples/flipped/damage.rs"]
 mod damage;
 #[path = "../examples/day/show.rs"]
@@ -19,14 +21,19 @@ mod room;
 mod store;
 #[path = "../examples/night/stored.rs"]
 mod stored;
+#[path = "../examples/shared/stream.rs"]
+mod stream;
 #[path = "../examples/morning/upload.rs"]
 mod upload;
 #[path = "../examples/upload/written.rs"]
 mod upload_file;
+#[path = "../examples/shared/words.rs"]
+mod words;
 
 use modelardb_rattle::{ErrorBound, Opening, Refusal};
 use readings::Readings;
-use upload::{cut, resumed, written};
+use stream::{resumed, written};
+use upload::cut;
 
 const STREAM: &[u8] = include_bytes!("../../../examples/morning.stream");
 
@@ -74,6 +81,61 @@ fn a_cut_at_any_value_leaves_no_trace() {
             assert_eq!(resumed(part, &values[k..]).expect("room"), whole, "at {k}");
         }
     }
+}
+
+/// Each number of bytes that may have arrived of the night, in words of the example.
+#[test]
+fn a_cut_at_any_byte_leaves_no_trace() {
+    let night = shipped("night.txt");
+    for (bound, sent) in [("lossless", 223), ("0.25", 133)] {
+        let error_bound = readings::bound(bound).expect("a bound");
+        let show = |arrived: &str| cut_upload::show(&night, error_bound, Some(arrived));
+        for used in 0..=sent {
+            let text = show(&used.to_string()).expect("so many were sent");
+            let end = "bytes and state, the sum among it, are the same as of one run\n";
+            assert!(text.ends_with(end), "{text}");
+        }
+        for word in [&(sent + 1).to_string(), "", "-1", "1.5"] {
+            let why = format!("{word:?} is no number of bytes: {sent} were sent");
+            assert_eq!(show(word), Err(why));
+        }
+    }
+}
+
+#[test]
+fn what_is_kept_of_a_cut_upload_is_told() {
+    let night = shipped("night.txt");
+    for (arrived, kept, again) in [
+        (
+            "0",
+            "0 readings, in 0 bits",
+            "421 readings from 18:00 to 08:00",
+        ),
+        (
+            "4",
+            "1 reading at 18:00, mean 20.44, in 32 bits",
+            "420 readings from 18:02 to 08:00",
+        ),
+        (
+            "223",
+            "421 readings from 18:00 to 08:00, mean 20.16, in 1778 bits",
+            "0 readings",
+        ),
+    ] {
+        let text = cut_upload::show(&night, ErrorBound::Lossless, Some(arrived));
+        let text = text.expect("so many were sent");
+        let lines: Vec<&str> = text.lines().collect();
+        assert!(lines[1].starts_with(&format!("kept: {kept}")), "{text}");
+        assert_eq!(lines[2], format!("sent again: {again}"));
+    }
+}
+
+#[test]
+fn the_readme_shows_the_cut() {
+    let night = shipped("night.txt");
+    let text = cut_upload::show(&night, ErrorBound::Lossless, Some("111"));
+    let text = text.expect("so many were sent");
+    assert!(README.contains(&text), "README lacks:\n{text}");
 }
 
 /// The documents give these figures of the example `flipped` on the shipped day.

@@ -65,7 +65,7 @@ fn every_call_that_can_be_refused_answers_a_fault() {
     });
     let calls: Vec<(&str, &str)> = calls.collect();
     assert_eq!(calls[..2], [("widen", "uint64_t"), ("narrow", "uint32_t")]);
-    assert_eq!(calls.len(), 44);
+    assert_eq!(calls.len(), 46);
     for (name, answer) in &calls[2..] {
         assert_eq!(*answer, "modelardb_fault", "{name}");
     }

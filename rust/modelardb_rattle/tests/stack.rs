@@ -58,7 +58,7 @@ fn a_range_takes_5_kib_for_each_1024_values() {
 }
 
 #[test]
-fn writing_reopening_and_checking_with_a_table_take_less_than_16_kib() {
+fn writing_reopening_rescuing_and_checking_with_a_table_take_less_than_16_kib() {
     let count = MacaqueV::MOST_VALUES;
     let entries = in_a_thread(16 << 10, move || {
         let values: Vec<f32> = (0..count).map(|number| number as f32).collect();
@@ -70,27 +70,23 @@ fn writing_reopening_and_checking_with_a_table_take_less_than_16_kib() {
         table.check(&buffer[..used], count, first)?;
         table.range(&buffer[..used], count, first, count - 12..count)?;
         let on = TabledWriter::reopen(&mut buffer, used, count, count, first, lossless, table)?;
+        let again = TabledWriter::rescue(&mut buffer, used, count, first, lossless)?;
+        assert_eq!(again, on);
         Ok::<_, Refusal>(on.table().entries())
     });
     assert_eq!(entries, Ok(PlaceTable::entries_for(count)));
 }
 
 #[test]
-fn writing_summing_and_reopening_take_less_than_16_kib() {
+fn writing_summing_reopening_and_rescuing_take_less_than_16_kib() {
     let count = MacaqueV::MOST_VALUES;
     let last = in_a_thread(16 << 10, move || {
         MacaqueV::most_bits(count, Opening::First)?;
         let mut bytes = stream(count)?;
         macaque_v::sum(&bytes, count, Opening::First)?;
-        let used = bytes.len();
-        MacaqueV::reopen(
-            &mut bytes,
-            used,
-            count,
-            count,
-            Opening::First,
-            ErrorBound::Lossless,
-        )?;
+        let (used, first, lossless) = (bytes.len(), Opening::First, ErrorBound::Lossless);
+        MacaqueV::reopen(&mut bytes, used, count, count, first, lossless)?;
+        MacaqueV::rescue(&mut bytes, used, count, first, lossless)?;
         let mut reader = macaque_v::Reader::open(&bytes, Opening::First);
         reader.next_value()?;
         macaque_v::last_value(&bytes, count, Opening::First)

@@ -2,7 +2,7 @@
 //! there.
 
 use crate::record::Record;
-use crate::table;
+use crate::{rescue, table};
 use modelardb_rattle::ffi::STATE_WORDS;
 use side_by_side::inputs::ONE;
 
@@ -100,6 +100,7 @@ impl Broken {
                 ..record
             },
             39..=41 => self.with_its_table(record),
+            44 | 45 => rescue::record(call, (self.mode, ONE), self.bytes, [used, count]),
             _ => return None,
         })
     }

@@ -9,7 +9,7 @@ use side_by_side::face::{self, choice, fit, reader, segments, table};
 
 /// Their names, and the refusals that each can give: in the order of include/modelardb.h, but for those that came later
 /// and stand at the end, so that no number ever changes.
-pub const CALLS: [(&str, &[u64]); 44] = [
+pub const CALLS: [(&str, &[u64]); 46] = [
     ("modelardb_widen", &[]),
     ("modelardb_narrow", &[]),
     ("modelardb_is_value_within_error_bound", &[1, 4]),
@@ -63,6 +63,8 @@ pub const CALLS: [(&str, &[u64]); 44] = [
     ("modelardb_table_range", &[3, 4, 5, 6, 7, 12, 13]),
     ("modelardb_macaque_v_most_bits", &[3]),
     ("modelardb_macaque_v_most_bytes", &[3]),
+    ("modelardb_macaque_v_rescue", &[1, 3, 4, 6, 7, 12]),
+    ("modelardb_table_rescue", &[1, 3, 4, 6, 7, 12]),
 ];
 
 /// What a call answers: number, value and place, or, of the two that are never refused, what they give.
@@ -87,7 +89,8 @@ fn answer(record: &mut Record) -> Told {
         26..34 => told(of_segments(record)),
         34..38 => told(of_the_reader(record)),
         38..42 => told(of_the_table(record)),
-        _ => told(of_sizes(record)),
+        42..44 => told(of_sizes(record)),
+        _ => told(of_rescue(record)),
     }
 }
 
@@ -268,7 +271,6 @@ fn of_the_reader(record: &mut Record) -> Fault {
     }
 }
 
-/// The first word of `u` is how many entries are in use.
 fn of_the_table(record: &mut Record) -> Fault {
     let Record {
         call,
@@ -281,23 +283,28 @@ fn of_the_table(record: &mut Record) -> Fault {
         ..
     } = record;
     let size = |place: usize| w[place] as usize;
-    let [used, words @ ..] = &mut u[..] else {
+    on_a_table(u, |words, entries| match call {
+        38 => table::compress_values(r, v, p, words, entries),
+        39 => {
+            let (opening, bound) = ((x[0], x[1]), (x[2], x[3]));
+            let lent = (&*words, entries);
+            table::reopen(p, size(0), (size(1), size(2)), opening, bound, r, lent)
+        }
+        40 => table::check(p, size(0), (x[0], x[1]), (words, *entries)),
+        _ => {
+            let values = size(1)..size(2);
+            table::range(p, size(0), (x[0], x[1]), (words, *entries), values, v)
+        }
+    })
+}
+
+/// A call on a table. The first word of `u` is how many entries are in use.
+fn on_a_table(u: &mut [u64], call: impl FnOnce(&mut [u64], &mut usize) -> Fault) -> Fault {
+    let [used, words @ ..] = u else {
         unreachable!("a table has a number of entries");
     };
     let mut entries = *used as usize;
-    let fault = match call {
-        38 => table::compress_values(r, v, p, words, &mut entries),
-        39 => {
-            let (opening, bound) = ((x[0], x[1]), (x[2], x[3]));
-            let lent = (&*words, &mut entries);
-            table::reopen(p, size(0), (size(1), size(2)), opening, bound, r, lent)
-        }
-        40 => table::check(p, size(0), (x[0], x[1]), (words, entries)),
-        _ => {
-            let values = size(1)..size(2);
-            table::range(p, size(0), (x[0], x[1]), (words, entries), values, v)
-        }
-    };
+    let fault = call(words, &mut entries);
     *used = entries as u64;
     fault
 }
@@ -312,4 +319,24 @@ fn of_sizes(record: &mut Record) -> Fault {
     };
     r[0] = most as u64;
     fault
+}
+
+fn of_rescue(record: &mut Record) -> Fault {
+    let Record {
+        call,
+        x,
+        w,
+        p,
+        r,
+        u,
+        ..
+    } = record;
+    let (used, limit) = (w[0] as usize, w[1] as usize);
+    let (opening, bound) = ((x[0], x[1]), (x[2], x[3]));
+    match call {
+        44 => face::rescue(p, used, limit, opening, bound, r),
+        _ => on_a_table(u, |words, entries| {
+            table::rescue(p, used, limit, opening, bound, r, (words, entries))
+        }),
+    }
 }

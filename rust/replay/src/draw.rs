@@ -2,11 +2,11 @@
 
 use crate::calls::answered;
 use crate::record::Record;
-use crate::table;
+use crate::{rescue, table};
 use modelardb_rattle::Fault;
 use modelardb_rattle::ffi::{
     MODEL_BUILDER_WORDS, PMC_MEAN_WORDS, READER_WORDS, SEGMENT_WORDS, SELECTED_MODEL_WORDS,
-    STATE_WORDS, SWING_WORDS,
+    STATE_WORDS, SWING_WORDS, Words,
 };
 use oracle::paper::macaque_v::Opening;
 use oracle::paper::{MOST_METADATA, MOST_RESIDUALS, MOST_VALUES, size};
@@ -67,9 +67,10 @@ fn within_limits(call: usize) -> Vec<Record> {
             ..record
         }],
         38..42 => table::within_limits(call),
-        42.. => [0, 1, 2, most - 1, most]
+        42 | 43 => [0, 1, 2, most - 1, most]
             .map(|count| [0, 1].map(|mode| sized(count, mode)))
             .concat(),
+        44.. => rescue::within_limits(call),
         _ => vec![],
     }
 }
@@ -98,8 +99,8 @@ fn above_limits(call: usize) -> Vec<Record> {
             record.v = vec![0; MOST_VALUES + 1];
             vec![record]
         }
-        6..=8 | 13 | 14 | 37 | 39..=41 => {
-            let place = usize::from(call == 6 || call == 39);
+        6..=8 | 13 | 14 | 37 | 39..=41 | 44 | 45 => {
+            let place = usize::from([6, 39, 44, 45].contains(&call));
             record.w[place] = MOST_VALUES as u64 + 1;
             vec![record]
         }
@@ -125,7 +126,7 @@ fn above_limits(call: usize) -> Vec<Record> {
             record.v = vec![0; MOST_RESIDUALS + 1];
             vec![record]
         }
-        42.. => [1, u64::MAX / 44, u64::MAX - MOST_VALUES as u64]
+        42 | 43 => [1, u64::MAX / 44, u64::MAX - MOST_VALUES as u64]
             .map(|above| Record {
                 w: vec![MOST_VALUES as u64 + above],
                 ..record.clone()
@@ -209,7 +210,8 @@ pub fn drawn(call: usize, inputs: &mut Inputs) -> Record {
         31..34 => of_reading(inputs),
         34..38 => of_the_reader(call, inputs),
         38..42 => table::drawn(call, inputs),
-        _ => of_sizes(inputs),
+        42..44 => of_sizes(inputs),
+        _ => rescue::drawn(call, inputs),
     };
     Record { call, ..record }
 }
@@ -232,6 +234,16 @@ pub fn opening(inputs: &mut Inputs) -> Vec<u32> {
         0 => vec![2 + inputs.below(3) as u32, value],
         _ => vec![mode, value],
     }
+}
+
+/// How a stream was opened: one in twelve in a mode that there is not.
+pub fn opened_as(inputs: &mut Inputs, (mode, value): Words) -> Vec<u32> {
+    vec![if inputs.below(12) == 0 { 2 } else { mode }, value]
+}
+
+/// So many bytes in use: one time in twelve one more.
+pub fn used_of(inputs: &mut Inputs, bytes: usize) -> u64 {
+    bytes as u64 + u64::from(inputs.below(12) == 0)
 }
 
 /// Lent memory for so many words: as many, a few more or, one time in five, fewer.
@@ -294,7 +306,7 @@ fn of_numbers(call: usize, inputs: &mut Inputs) -> Record {
 }
 
 /// A stream that was written: its opening, how many values it has, its writer's row and its bytes.
-fn stream(inputs: &mut Inputs) -> ((u32, u32), usize, Vec<u64>, Vec<u8>) {
+pub fn stream(inputs: &mut Inputs) -> (Words, usize, Vec<u64>, Vec<u8>) {
     let opening = face::opening_words(inputs.opening());
     let count = inputs.below(10) as usize;
     let values = inputs.values(count);
@@ -329,10 +341,7 @@ fn of_streams(call: usize, inputs: &mut Inputs) -> Record {
                 1 => count += inputs.below(2),
                 _ => {}
             }
-            record.x = match inputs.below(12) {
-                0 => vec![2, opened.1],
-                _ => vec![opened.0, opened.1],
-            };
+            record.x = opened_as(inputs, opened);
             record.w = vec![count];
             record.p = bytes;
             let places = if call == 7 { count as usize } else { 1 };
@@ -340,7 +349,7 @@ fn of_streams(call: usize, inputs: &mut Inputs) -> Record {
         }
     }
     if call == 6 {
-        let used = record.p.len() as u64 + u64::from(inputs.below(12) == 0);
+        let used = used_of(inputs, record.p.len());
         let k = inputs.below(count as u64 + 1) + 70_000 * u64::from(inputs.below(12) == 0);
         record.x.extend(bound(inputs));
         record.w = vec![used, record.w[0], k];
@@ -636,6 +645,9 @@ mod tests {
         assert_eq!(answers(41), [accepted; 2]);
         for call in [42, 43] {
             assert_eq!(answers(call), [accepted; 10]);
+        }
+        for call in [44, 45] {
+            assert_eq!(answers(call), [accepted; 3]);
         }
     }
 }

@@ -7,6 +7,7 @@ mod calls;
 mod draw;
 mod parting;
 mod record;
+mod rescue;
 mod table;
 
 pub use calls::{CALLS, Told};
@@ -21,7 +22,7 @@ use std::fmt::Write;
 const SEED: u64 = 1;
 
 /// How many records of a call are drawn for each of its refusals, besides those at its limits, those of broken
-/// streams and those at a bound.
+/// streams, those at a bound and those of cut ones.
 const DRAWN: usize = 25;
 
 /// The records of a call.
@@ -30,6 +31,7 @@ fn records(call: usize) -> Vec<Record> {
     let mut records = draw::at_limits(call);
     records.extend(broken::records(call));
     records.extend(parting::records(call));
+    records.extend(rescue::cuts(call));
     let count = DRAWN * (2 + CALLS[call].1.len());
     records.extend((0..count).map(|_| draw::drawn(call, &mut inputs)));
     records

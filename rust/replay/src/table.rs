@@ -1,6 +1,6 @@
 //! Inputs of the place table's calls. Most values are repeats, so that a line is short though there are entries.
 
-use crate::draw::{self, STALE, bound, handed, room};
+use crate::draw::{self, STALE, bound, handed, opened_as, room, used_of};
 use crate::record::Record;
 use modelardb_rattle::ffi::{ENTRY_WORDS, STATE_WORDS, VALUES_PER_ENTRY, Words};
 use oracle::paper::MOST_VALUES;
@@ -21,7 +21,7 @@ pub fn of_repeats(mode: u32, count: usize) -> Vec<u64> {
 }
 
 /// A list of a record: how many entries are in use, and the words.
-fn in_use(entries: usize, words: &[u64]) -> Vec<u64> {
+pub fn in_use(entries: usize, words: &[u64]) -> Vec<u64> {
     [&[entries as u64], words].concat()
 }
 
@@ -29,7 +29,7 @@ fn in_use(entries: usize, words: &[u64]) -> Vec<u64> {
 const MOST_WORDS: usize = ENTRY_WORDS * MOST_VALUES.div_ceil(VALUES_PER_ENTRY);
 
 /// A table of so many stale words.
-fn stale(entries: usize, words: usize) -> Vec<u64> {
+pub fn stale(entries: usize, words: usize) -> Vec<u64> {
     in_use(entries, &vec![STALE.into(); words])
 }
 
@@ -91,19 +91,19 @@ fn up_to_the_end(p: usize) -> Record {
 }
 
 /// A writer with its table: how its stream opens, the row, the buffer and the table's words.
-struct Begun {
-    opening: Words,
+pub struct Begun {
+    pub opening: Words,
     row: Vec<u64>,
-    bytes: Vec<u8>,
+    pub bytes: Vec<u8>,
     words: Vec<u64>,
     entries: usize,
     /// How many values are written, and those that are not.
-    count: usize,
+    pub count: usize,
     rest: Vec<u32>,
 }
 
 /// A stream of repeats but for a few values, of which some at the end are not written yet.
-fn begun(inputs: &mut Inputs, rest: usize) -> Begun {
+pub fn begun(inputs: &mut Inputs, rest: usize) -> Begun {
     let opening = face::opening_words(inputs.opening());
     let count = inputs.pick(&[0, 1, 9, 63, 64, 65, 66, 128, 129, 130]);
     let mut values = vec![inputs.value(); count + rest];
@@ -152,12 +152,6 @@ impl Begun {
     fn told(&self, inputs: &mut Inputs) -> u64 {
         self.count as u64 + u64::from(inputs.below(8) == 0)
     }
-
-    /// The mode and the opening value, one time in twelve in a mode that there is not.
-    fn opening(&self, inputs: &mut Inputs) -> Vec<u32> {
-        let (mode, value) = self.opening;
-        vec![if inputs.below(12) == 0 { 2 } else { mode }, value]
-    }
 }
 
 /// A record of a call.
@@ -175,7 +169,7 @@ pub fn drawn(call: usize, inputs: &mut Inputs) -> Record {
         38 => of_writing(&begun, inputs),
         39 => of_reopening(&begun, inputs),
         40 => Record {
-            x: begun.opening(inputs),
+            x: opened_as(inputs, begun.opening),
             w: vec![begun.told(inputs)],
             u: begun.table(inputs),
             p: begun.bytes,
@@ -200,10 +194,10 @@ fn of_writing(begun: &Begun, inputs: &mut Inputs) -> Record {
 }
 
 fn of_reopening(begun: &Begun, inputs: &mut Inputs) -> Record {
-    let used = begun.bytes.len() as u64 + u64::from(inputs.below(12) == 0);
+    let used = used_of(inputs, begun.bytes.len());
     let k = inputs.below(begun.count as u64 + 1) + 70_000 * u64::from(inputs.below(12) == 0);
     Record {
-        x: [begun.opening(inputs), bound(inputs)].concat(),
+        x: [opened_as(inputs, begun.opening), bound(inputs)].concat(),
         w: vec![used, begun.told(inputs), k],
         p: begun.bytes.clone(),
         r: room(inputs, STATE_WORDS, STALE.into()),
@@ -223,7 +217,7 @@ fn of_ranges(begun: &Begun, inputs: &mut Inputs) -> Record {
         _ => [p, q],
     };
     Record {
-        x: begun.opening(inputs),
+        x: opened_as(inputs, begun.opening),
         w: [&[count], &asked[..]].concat(),
         v: room(inputs, (q - p) as usize, STALE.into()),
         u: begun.table(inputs),

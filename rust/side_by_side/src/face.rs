@@ -12,6 +12,7 @@ use modelardb_rattle::{Fault, Refusal};
 use oracle::paper::macaque_v::{self, MacaqueV, Opening, Window};
 use oracle::paper::models::ErrorBound::{self, Absolute, Lossless, Relative};
 use oracle::paper::refusal::{BOUND, COUNTS, LIMIT, OUTPUT, STATE};
+use oracle::paper::rescue::Rescue;
 use oracle::paper::{Answer, Fault as Refused, Read, judge_count, refuse_if, size};
 
 pub fn new(bound: Words, opening: Words, row: &mut [u64]) -> Fault {
@@ -50,6 +51,38 @@ pub fn reopen(
         put(row, state);
         Ok(())
     })
+}
+
+pub fn rescue(
+    buffer: &mut [u8],
+    used: usize,
+    limit: usize,
+    opening: Words,
+    bound: Words,
+    row: &mut [u64],
+) -> Fault {
+    told(|| {
+        let rescue = rescue_in(used, limit, opening, bound)?;
+        judge_rescue(&rescue, buffer, row)?;
+        put(row, rescue.rescue(buffer)?);
+        Ok(())
+    })
+}
+
+/// What is handed to a rescue.
+fn rescue_in(used: usize, limit: usize, opening: Words, bound: Words) -> Answer<Rescue> {
+    Ok(Rescue {
+        error_bound: allowed_bound(bound)?,
+        opening: opening_in(opening)?,
+        used,
+        limit,
+    })
+}
+
+/// What is refused before the stream is read: 1 3 12, and 4 for the row.
+fn judge_rescue(rescue: &Rescue, buffer: &[u8], row: &[u64]) -> Answer<()> {
+    rescue.judge(buffer.len())?;
+    refuse_if(row.len() < STATE_WORDS, OUTPUT)
 }
 
 pub fn grid(bytes: &[u8], count: usize, opening: Words, out: &mut [u32]) -> Fault {
@@ -214,8 +247,13 @@ fn put_written(row: &mut [u64], after: MacaqueV) {
 
 /// The state's words to the front of the row.
 fn put(row: &mut [u64], state: MacaqueV) {
+    row[..STATE_WORDS].copy_from_slice(&row_of(state));
+}
+
+/// The words of a state.
+pub fn row_of(state: MacaqueV) -> [u64; STATE_WORDS] {
     let [kind, bits] = state.error_bound.row();
-    let words = [
+    [
         kind,
         bits,
         state.min_value.into(),
@@ -227,6 +265,5 @@ fn put(row: &mut [u64], state: MacaqueV) {
         state.place as u64,
         state.length as u64,
         state.sum.into(),
-    ];
-    row[..STATE_WORDS].copy_from_slice(&words);
+    ]
 }

@@ -5,6 +5,8 @@
 #[path = "../shared/readings.rs"]
 mod readings;
 mod show;
+#[path = "../shared/stream.rs"]
+mod stream;
 #[path = "../shared/told.rs"]
 mod told;
 mod upload;

@@ -1,6 +1,7 @@
 //! The readings beside what is kept of them, and the upload that is cut and resumed.
 
-use crate::upload::{cut, means, resumed, written};
+use crate::stream::{likeness, resumed, written};
+use crate::upload::{cut, means};
 use modelardb_rattle::{ErrorBound, Opening, Refusal, macaque_v};
 use std::fmt::Write;
 
@@ -22,11 +23,7 @@ pub fn show(times: &[String], values: &[f32], error_bound: ErrorBound) -> Result
     _ = writeln!(text, "in one run        {}", hex(&whole.1));
     _ = writeln!(text, "cut behind {half}      {}", hex(&part.1));
     _ = writeln!(text, "resumed behind {half}  {}", hex(&again.1));
-    let same = if again == whole {
-        "the same"
-    } else {
-        "NOT the same"
-    };
+    let same = likeness(&again, &whole);
     _ = writeln!(
         text,
         "{} readings in {} bytes; cut and resumed, bytes and state, the sum among it, are {same} as of one run",

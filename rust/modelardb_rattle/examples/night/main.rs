@@ -8,6 +8,8 @@ mod show;
 mod stored;
 #[path = "../shared/told.rs"]
 mod told;
+#[path = "../shared/words.rs"]
+mod words;
 
 use std::process::ExitCode;
 

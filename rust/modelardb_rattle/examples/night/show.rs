@@ -2,6 +2,7 @@
 
 use crate::readings::Readings;
 use crate::stored::Stored;
+use crate::words::counted;
 use modelardb_rattle::PlaceTable;
 use std::fmt::Write;
 use std::ops::Range;
@@ -51,12 +52,6 @@ pub fn show(readings: &Readings, stored: &Stored, time: &str) -> Result<String, 
         decoded.start
     );
     Ok(text)
-}
-
-/// So many of a thing, in words.
-fn counted(number: usize, thing: &str) -> String {
-    let ending = if number == 1 { "" } else { "s" };
-    format!("{number} {thing}{ending}")
 }
 
 /// The numbers of the readings from a minute on, for an hour. The times increase.

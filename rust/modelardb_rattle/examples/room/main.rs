@@ -4,6 +4,8 @@
 mod show;
 #[path = "../shared/told.rs"]
 mod told;
+#[path = "../shared/words.rs"]
+mod words;
 
 use std::process::ExitCode;
 

@@ -1,5 +1,6 @@
 //! The most bytes of a stream, by how long readings come and how far they are apart, and those of a place table.
 
+use crate::words::counted;
 use modelardb_rattle::{MacaqueV, Opening, PlaceTable};
 use std::fmt::Write;
 
@@ -85,10 +86,4 @@ fn number(word: &str, unit: &str) -> Result<usize, String> {
             u32::MAX
         )),
     }
-}
-
-/// So many of a unit, in words.
-fn counted(number: usize, unit: &str) -> String {
-    let ending = if number == 1 { "" } else { "s" };
-    format!("{number} {unit}{ending}")
 }

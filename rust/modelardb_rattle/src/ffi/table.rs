@@ -36,6 +36,21 @@ mod c {
             table_len: usize,
             entries: *mut usize,
         ) -> Fault;
+        pub unsafe fn modelardb_table_rescue(
+            buffer: *mut u8,
+            buffer_len: usize,
+            used: usize,
+            limit: usize,
+            mode: u32,
+            opening: u32,
+            kind: u32,
+            bound: u32,
+            state: *mut u64,
+            state_len: usize,
+            table: *mut u64,
+            table_len: usize,
+            entries: *mut usize,
+        ) -> Fault;
         pub unsafe fn modelardb_table_check(
             bytes: *const u8,
             bytes_len: usize,
@@ -158,6 +173,41 @@ pub fn table_reopen(
             used,
             count,
             k,
+            mode,
+            opening,
+            kind,
+            bound,
+            row,
+            row_length,
+            words,
+            words_length,
+            entries,
+        )
+    }
+}
+
+/// `state` becomes that of the writer behind the whole values in the first `used` bytes, `limit` of them at most, what
+/// follows them in their last byte becomes zeros, the front of the table their entries, and `entries` how many these
+/// are. Neither of the two is looked at.
+pub fn table_rescue(
+    buffer: &mut [u8],
+    used: usize,
+    limit: usize,
+    (mode, opening): Words,
+    (kind, bound): Words,
+    state: &mut [u64],
+    (table, entries): (&mut [u64], &mut usize),
+) -> Fault {
+    let (row, row_length) = (state.as_mut_ptr(), state.len());
+    let (start, length) = (buffer.as_mut_ptr(), buffer.len());
+    let (words, words_length) = (table.as_mut_ptr(), table.len());
+    // SAFETY: each start and length are those of a slice lent for the call, and no two overlap.
+    unsafe {
+        c::modelardb_table_rescue(
+            start,
+            length,
+            used,
+            limit,
             mode,
             opening,
             kind,

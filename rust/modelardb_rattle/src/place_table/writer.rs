@@ -98,6 +98,60 @@ impl TabledWriter {
         })
     }
 
+    /// The writer behind whatever arrived of a stream, as [`MacaqueV::rescue`] gives it, with a table that is made
+    /// anew: the entries of the values that are kept. A refusal leaves the buffer as it was.
+    ///
+    /// Of a stream that is whole, with its count as the limit, it makes a table that is missing. The table is that of
+    /// the bytes as they are: where they were changed, it goes with the change, and a [`check`](PlaceTable::check) does
+    /// not see it any more.
+    ///
+    /// # Errors
+    ///
+    /// Those of [`MacaqueV::rescue`].
+    ///
+    /// ```
+    /// use modelardb_rattle::{ErrorBound, Opening, Refusal, TabledWriter};
+    ///
+    /// let (bound, first) = (ErrorBound::Absolute(0.2), Opening::First);
+    /// let readings: Vec<f32> = (0..200).map(|number| 20.0 + (number % 13) as f32 / 4.0).collect();
+    /// let mut in_one_run = vec![0; 1200];
+    /// let mut whole = TabledWriter::new(bound, first)?;
+    /// whole.compress_values(&readings, &mut in_one_run)?;
+    ///
+    /// // 80 bytes arrived, and no table.
+    /// let mut rescued = vec![0; 1200];
+    /// rescued[..80].copy_from_slice(&in_one_run[..80]);
+    /// let mut on = TabledWriter::rescue(&mut rescued, 80, 200, first, bound)?;
+    /// let kept = on.writer().length();
+    /// assert_eq!(on.table().check(&rescued[..on.writer().bytes_used()], kept, first), Ok(()));
+    /// on.compress_values(&readings[kept..], &mut rescued)?;
+    ///
+    /// assert_eq!(on, whole);
+    /// let used = whole.writer().bytes_used();
+    /// assert_eq!(rescued[..used], in_one_run[..used]);
+    /// # Ok::<(), Refusal>(())
+    /// ```
+    pub fn rescue(
+        buffer: &mut [u8],
+        used: usize,
+        limit: usize,
+        opening: Opening,
+        error_bound: ErrorBound,
+    ) -> Result<Self, Refusal> {
+        let (opening, bound) = (opening.words(), error_bound.words());
+        // A limit of more values than a stream may have is refused before the room is looked at.
+        let room = PlaceTable::entries_for(limit.min(MacaqueV::MOST_VALUES));
+        let (mut words, mut row, mut entries) = (vec![0; ENTRY_WORDS * room], [0; STATE_WORDS], 0);
+        let lent = (&mut words[..], &mut entries);
+        let fault = ffi::table_rescue(buffer, used, limit, opening, bound, &mut row, lent);
+        Refusal::judge(fault)?;
+        words.truncate(ENTRY_WORDS * entries);
+        Ok(Self {
+            writer: MacaqueV { row },
+            table: PlaceTable::from_words(words),
+        })
+    }
+
     /// Writes the values behind those that stand in the buffer, and their entries behind those of the table. No
     /// values change nothing. A refusal leaves the writer, its table and the buffer as they were.
     ///

@@ -210,11 +210,17 @@ impl MacaqueV {
         judge_count(count)?;
         refuse_if(k > count || used > buffer.len(), refusal::COUNTS)?;
         let rows = read_all(&buffer[..used], count, opening)?;
-        let state = rows[..k].iter().fold(fresh, |state, row| {
+        Ok(fresh.behind(&rows[..k], buffer))
+    }
+
+    /// The state behind values that were read: "It zeroes the bits after the bit place ... in a byte that this
+    /// cuts, and nothing else."
+    pub(super) fn behind(self, rows: &[Row], buffer: &mut [u8]) -> Self {
+        let state = rows.iter().fold(self, |state, row| {
             state.with(row.value, row.window, row.bits)
         });
         cut(buffer, state.place);
-        Ok(state)
+        state
     }
 }
 

@@ -10,6 +10,7 @@ pub mod models;
 pub mod numbers;
 pub mod place_table;
 pub mod pmc_mean;
+pub mod rescue;
 pub mod rules;
 pub mod segments;
 pub mod size;

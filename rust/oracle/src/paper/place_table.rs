@@ -21,7 +21,7 @@ pub fn entries_for(count: usize) -> usize {
 }
 
 /// How many whole entries a lent table has room for.
-fn lent(table: &[u64]) -> usize {
+pub(super) fn lent(table: &[u64]) -> usize {
     table.len() / ENTRY_WORDS
 }
 
@@ -71,10 +71,14 @@ pub fn compress_values(
     let all = entries_for(state.length + values.len());
     refuse_if(all > lent(table), refusal::OUTPUT)?;
     let after = state.compress_values(values, buffer)?;
-    for (number, entry) in (entries..).zip(noted(state, values)) {
-        table[ENTRY_WORDS * number..][..ENTRY_WORDS].copy_from_slice(&entry);
-    }
+    put_entries(table, entries, &noted(state, values));
     Ok((after, all))
+}
+
+/// Entries to their words, behind so many others.
+pub(super) fn put_entries(table: &mut [u64], behind: usize, entries: &[Entry]) {
+    let words = entries.concat();
+    table[ENTRY_WORDS * behind..][..words.len()].copy_from_slice(&words);
 }
 
 /// More entries in use than the table lent holds are counts that do not go together: 12. Not as many as
@@ -127,9 +131,16 @@ impl Reopening {
 /// The table of a stream by reading it. Refusals: 5 to 8.
 pub fn table_in(bytes: &[u8], count: usize, opening: Opening) -> Read<Vec<Entry>> {
     let read = read_through(bytes, count, opening)?;
-    let before = read.iter().map(|(before, _)| before).step_by(EVERY);
-    let own = before.map(|before| entry(before.place, before.last_value, before.window));
-    Ok(own.collect())
+    let before: Vec<Reader> = read.into_iter().map(|(before, _)| before).collect();
+    Ok(entries_of(&before))
+}
+
+/// The entries by the readers before all values.
+pub(super) fn entries_of(before: &[Reader]) -> Vec<Entry> {
+    let noted = before.iter().step_by(EVERY);
+    noted
+        .map(|before| entry(before.place, before.last_value, before.window))
+        .collect()
 }
 
 /// "A checking call goes through the stream once and refuses a table that doesn't belong to it": 3 12, then 13

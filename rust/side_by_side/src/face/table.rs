@@ -1,6 +1,6 @@
 //! The place table by document 02, behind rows and words.
 
-use super::{allowed_bound, opening_in, put, put_written, state_in, told};
+use super::{allowed_bound, judge_rescue, opening_in, put, put_written, rescue_in, state_in, told};
 use modelardb_rattle::Fault;
 use modelardb_rattle::ffi::{STATE_WORDS, Words};
 use oracle::paper::place_table::{self, Reopening};
@@ -47,6 +47,26 @@ pub fn reopen(
         let (state, kept) = reopening.reopen(buffer, table, *entries)?;
         put(row, state);
         *entries = kept;
+        Ok(())
+    })
+}
+
+/// 4 is for the row or for the table.
+pub fn rescue(
+    buffer: &mut [u8],
+    used: usize,
+    limit: usize,
+    opening: Words,
+    bound: Words,
+    row: &mut [u64],
+    (table, entries): (&mut [u64], &mut usize),
+) -> Fault {
+    told(|| {
+        let rescue = rescue_in(used, limit, opening, bound)?;
+        judge_rescue(&rescue, buffer, row)?;
+        let (state, in_use) = rescue.with_table(buffer, table)?;
+        put(row, state);
+        *entries = in_use;
         Ok(())
     })
 }

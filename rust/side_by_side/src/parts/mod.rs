@@ -6,6 +6,7 @@ mod choice;
 mod compare;
 mod differences;
 mod library_fit;
+mod library_rescue;
 mod library_segments;
 mod library_stream;
 mod library_table;
@@ -69,6 +70,7 @@ pub const ALL: &[Part] = &[
     Part::new("library: tables of damaged streams", library_table::damaged),
     Part::new("library: tables' words", library_table::words),
     Part::new("library: tables' causes", library_table::causes),
+    Part::new("library: rescue", library_rescue::rescue),
     Part::new("parameter bytes", parameters::parameters),
     Part::new("segments", segments::segments),
     Part::new("list", list_program::list_program),

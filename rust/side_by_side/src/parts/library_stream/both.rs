@@ -20,6 +20,15 @@ pub struct At {
     pub bound: Words,
 }
 
+/// What is handed to a rescue besides its buffer.
+#[derive(Clone, Copy, Debug)]
+pub struct Arrived {
+    pub used: usize,
+    pub limit: usize,
+    pub opening: Words,
+    pub bound: Words,
+}
+
 pub fn opened(
     context: &mut Context,
     bound: Words,
@@ -74,16 +83,49 @@ pub fn reopened(context: &mut Context, buffer: &[u8], at: At, row: &[u64]) -> Le
         opening,
         bound,
     } = at;
+    into_a_row(
+        context,
+        (buffer, row),
+        |bytes, row| face::reopen(bytes, used, (count, k), opening, bound, row),
+        |bytes, row| ffi::macaque_v_reopen(bytes, used, (count, k), opening, bound, row),
+        || format!("reopened {at:X?}"),
+    )
+}
+
+pub fn rescued(context: &mut Context, buffer: &[u8], arrived: Arrived, row: &[u64]) -> Left {
+    let Arrived {
+        used,
+        limit,
+        opening,
+        bound,
+    } = arrived;
+    into_a_row(
+        context,
+        (buffer, row),
+        |bytes, row| face::rescue(bytes, used, limit, opening, bound, row),
+        |bytes, row| ffi::macaque_v_rescue(bytes, used, limit, opening, bound, row),
+        || format!("rescued {arrived:X?}"),
+    )
+}
+
+/// A call that puts a writer into a row and cuts its buffer, by the paper and by the library.
+fn into_a_row(
+    context: &mut Context,
+    (buffer, row): (&[u8], &[u64]),
+    paper: impl FnOnce(&mut [u8], &mut [u64]) -> Fault,
+    library: impl FnOnce(&mut [u8], &mut [u64]) -> Fault,
+    input: impl FnOnce() -> String,
+) -> Left {
     let (mut after, mut bytes) = (row.to_vec(), buffer.to_vec());
-    let fault = face::reopen(&mut bytes, used, (count, k), opening, bound, &mut after);
+    let fault = paper(&mut bytes, &mut after);
     let mut lent_row = Lent::new(row, WORD_GUARD);
     let mut lent_buffer = Lent::new(buffer, BYTE_GUARD);
-    let (to, state) = (lent_buffer.lend(), lent_row.lend());
-    let ours = ffi::macaque_v_reopen(to, used, (count, k), opening, bound, state);
+    let ours = library(lent_buffer.lend(), lent_row.lend());
     let left = (ours, lent_row.content(), lent_buffer.content());
     let expected = (fault, Some(after.clone()), Some(bytes.clone()));
-    let input = || format!("reopened {at:X?} of {buffer:02X?} into {row:X?}");
-    context.same("library", expected, left, input);
+    context.same("library", expected, left, || {
+        format!("{} of {buffer:02X?} into {row:X?}", input())
+    });
     (fault, after, bytes)
 }
 

@@ -1,7 +1,7 @@
 //! Lists written and read: in one go and in pieces, with room to spare, with just enough, with one
 //! byte too few.
 
-use super::{Stream, both, room_for};
+use super::{Stream, both, room_for, said};
 use crate::context::Context;
 use crate::face;
 use crate::inputs::DOZEN;
@@ -188,18 +188,7 @@ fn by_the_safe_type(context: &mut Context, bound: ErrorBound, opening: Opening, 
     let mut writer = library::MacaqueV::new(bound, opening).expect("an allowed bound");
     let answer = writer.compress_values_bits(&stream.values, &mut buffer);
     let input = || format!("safe type {bound:?} {opening:?} {:08X?}", stream.values);
-    let said = [
-        writer.min_value_bits().into(),
-        writer.max_value_bits().into(),
-        writer.last_value_bits().into(),
-        writer.last_leading_zero_bits().into(),
-        writer.last_trailing_zero_bits().into(),
-        writer.with_first().into(),
-        writer.place() as u64,
-        writer.length() as u64,
-        writer.sum_bits().into(),
-    ];
-    context.same("safe type", &stream.row[2..], &said[..], input);
+    context.same("safe type", &stream.row[2..], &said(&writer)[..], input);
     let rest = (answer, writer.error_bound(), buffer);
     context.same(
         "safe type",

@@ -9,7 +9,7 @@ mod lists;
 mod marked;
 mod older;
 pub mod reading;
-mod repeats;
+pub mod repeats;
 mod resumed;
 pub mod states;
 mod sums;
@@ -30,6 +30,7 @@ use crate::context::Context;
 use crate::face;
 use crate::lent::{STALE, STALE_WORD};
 use both::At;
+use modelardb_rattle as library;
 use modelardb_rattle::ffi::{STATE_WORDS, Words};
 use oracle::paper::macaque_v::Opening;
 use oracle::paper::models::ErrorBound;
@@ -37,6 +38,21 @@ use oracle::paper::models::ErrorBound;
 /// How many bytes any such values fit in: none takes more than 45 bits.
 pub fn room_for(count: usize) -> usize {
     (45 * count).div_ceil(8)
+}
+
+/// The words of a row behind those of its bound, as the safe type says them.
+pub fn said(writer: &library::MacaqueV) -> [u64; STATE_WORDS - 2] {
+    [
+        writer.min_value_bits().into(),
+        writer.max_value_bits().into(),
+        writer.last_value_bits().into(),
+        writer.last_leading_zero_bits().into(),
+        writer.last_trailing_zero_bits().into(),
+        writer.with_first().into(),
+        writer.place() as u64,
+        writer.length() as u64,
+        writer.sum_bits().into(),
+    ]
 }
 
 /// A stream as the library and the paper both wrote it in one go.

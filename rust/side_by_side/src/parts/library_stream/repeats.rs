@@ -29,13 +29,9 @@ const BEHIND: [&[u32]; 4] = [
 const MOST: usize = 64;
 
 pub fn repeats(context: &mut Context) {
-    for opening in [Opening::WithFirst, Opening::On(0x4120_0000)] {
-        for before in BEFORE {
-            for behind in BEHIND {
-                for run in 0..=MOST {
-                    in_a_row(context, opening, before, run, behind);
-                }
-            }
+    for run in 0..=MOST {
+        for (opening, values) in lists(run) {
+            in_a_row(context, opening, run, &values);
         }
     }
     for count in [1_000, 1_024, 1_025, 1_052, 2_048, MOST_VALUES] {
@@ -46,18 +42,30 @@ pub fn repeats(context: &mut Context) {
     }
 }
 
-fn in_a_row(context: &mut Context, opening: Opening, before: &[u32], run: usize, behind: &[u32]) {
-    let last = match (before.last(), opening) {
-        (Some(&value), _) => value,
-        (None, Opening::On(value)) => value,
-        (None, Opening::WithFirst) => 0,
-    };
-    let values = [before, &vec![last; run], behind].concat();
+/// So many repeats in a row between all that they may stand between, in both modes.
+pub fn lists(run: usize) -> Vec<(Opening, Vec<u32>)> {
+    let mut lists = vec![];
+    for opening in [Opening::WithFirst, Opening::On(0x4120_0000)] {
+        for before in BEFORE {
+            let last = match (before.last(), opening) {
+                (Some(&value), _) => value,
+                (None, Opening::On(value)) => value,
+                (None, Opening::WithFirst) => 0,
+            };
+            let repeats = vec![last; run];
+            let list = |behind: &[u32]| (opening, [before, &repeats, behind].concat());
+            lists.extend(BEHIND.map(list));
+        }
+    }
+    lists
+}
+
+fn in_a_row(context: &mut Context, opening: Opening, run: usize, values: &[u32]) {
     let bound = match run % 2 {
         0 => Lossless,
         _ => Absolute(0.5),
     };
-    let stream = Stream::new(context, bound, opening, &values);
+    let stream = Stream::new(context, bound, opening, values);
     used_as_it_is(context, &stream.bytes, stream.at(0));
     let bits = 8 * stream.bytes.len();
     for place in bits.saturating_sub(24)..bits {

@@ -4,7 +4,7 @@
 use crate::context::Context;
 use crate::face;
 use crate::lent::{BYTE_GUARD, COUNT_GUARD, Lent, VALUE_GUARD, WORD_GUARD};
-use crate::parts::library_stream::both::At;
+use crate::parts::library_stream::both::{Arrived, At};
 use modelardb_rattle::Fault;
 use modelardb_rattle::ffi::{self, Words};
 use std::ops::Range;
@@ -116,18 +116,62 @@ pub fn reopened(context: &mut Context, before: &Writer, at: At) -> (Fault, Write
         opening,
         bound,
     } = at;
+    into_a_row(
+        context,
+        before,
+        |buffer, row, (words, entries)| {
+            let to = (&*words, entries);
+            face::table::reopen(buffer, used, (count, k), opening, bound, row, to)
+        },
+        |buffer, row, (words, entries)| {
+            let to = (&*words, entries);
+            ffi::table_reopen(buffer, used, (count, k), opening, bound, row, to)
+        },
+        || format!("table reopened {at:X?}"),
+    )
+}
+
+/// The row of `before` is where the state goes, and its table where the entries go.
+pub fn rescued(context: &mut Context, before: &Writer, arrived: Arrived) -> (Fault, Writer) {
+    let Arrived {
+        used,
+        limit,
+        opening,
+        bound,
+    } = arrived;
+    into_a_row(
+        context,
+        before,
+        |buffer, row, to| face::table::rescue(buffer, used, limit, opening, bound, row, to),
+        |buffer, row, to| ffi::table_rescue(buffer, used, limit, opening, bound, row, to),
+        || format!("table rescued {arrived:X?}"),
+    )
+}
+
+/// The words of a table, and how many entries are in use.
+type Lends<'a> = (&'a mut [u64], &'a mut usize);
+
+/// A call that puts a writer into a row, by the paper and by the library.
+fn into_a_row(
+    context: &mut Context,
+    before: &Writer,
+    paper: impl FnOnce(&mut [u8], &mut [u64], Lends) -> Fault,
+    library: impl FnOnce(&mut [u8], &mut [u64], Lends) -> Fault,
+    input: impl FnOnce() -> String,
+) -> (Fault, Writer) {
     let mut left = before.clone();
     let Writer { row, buffer, table } = &mut left;
-    let to = (&table.words[..], &mut table.entries);
-    let fault = face::table::reopen(buffer, used, (count, k), opening, bound, row, to);
+    let fault = paper(buffer, row, (&mut table.words, &mut table.entries));
     let mut lent = LentWriter::new(before);
-    let to = (&*lent.words.lend(), &mut lent.entries.lend()[0]);
-    let (buffer, row) = (lent.buffer.lend(), lent.row.lend());
-    let ours = ffi::table_reopen(buffer, used, (count, k), opening, bound, row, to);
-    let (paper, library) = ((fault, left), (ours, lent.content()));
-    compared(context, before, paper, library, || {
-        format!("table reopened {at:X?}")
-    })
+    let to = (lent.words.lend(), &mut lent.entries.lend()[0]);
+    let ours = library(lent.buffer.lend(), lent.row.lend(), to);
+    compared(
+        context,
+        before,
+        (fault, left),
+        (ours, lent.content()),
+        input,
+    )
 }
 
 /// A stream's bytes, its count and how it opens.

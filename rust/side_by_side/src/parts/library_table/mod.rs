@@ -5,7 +5,7 @@ mod causes;
 mod damaged;
 mod others;
 mod ranges;
-mod resumed;
+pub mod resumed;
 mod safe;
 mod words;
 mod written;

@@ -75,7 +75,7 @@ fn chain(context: &mut Context, tabled: &Tabled) {
 }
 
 /// What is in use is that of one fresh run.
-fn in_one_run(context: &mut Context, tabled: &Tabled, mut left: Writer, how: &str) {
+pub fn in_one_run(context: &mut Context, tabled: &Tabled, mut left: Writer, how: &str) {
     left.row.truncate(STATE_WORDS);
     left.buffer.truncate(left.row[8].div_ceil(8) as usize);
     left.table.words.truncate(ENTRY_WORDS * left.table.entries);
