@@ -1,13 +1,14 @@
 // The entries of a place table, as the writer notes them: where the next one is due, and its words.
 ghost use mathlib.Core.Path.{_≡_};
 ghost use mathlib.Core.Bool.{cond};
+ghost use mathlib.Core.List.{[], _∷_};
 ghost use Prim.Native.Nat.{_+_, _-_, _/_, _≤_, _<_};
 ghost use lib.Dec.{eqb};
 ghost use lib.ListN.{length};
 ghost use Rattle.models.specs.Limits.{mostValues};
 ghost use Rattle.places.specs.Table.{spacing};
-ghost use Rattle.places.specs.Calls.{entriesLent};
-ghost use Rattle.macaque_v.specs.inner.Noting.{DueAt, notedBy};
+ghost use Rattle.places.specs.Calls.{entriesLent, laidEntries};
+ghost use Rattle.macaque_v.specs.inner.Noting.{DueAt, entryIn, notedBy};
 use crate::read_run;
 use crate::write::Pen;
 
@@ -46,12 +47,21 @@ pub fn noted(
         return to;
     }
     let last = last_before(raw, pen.last);
-    let at = WORDS * ((count + i) / SPACING);
-    table[at] = pen.place as u64;
-    table[at + 1] = last;
-    table[at + 2] = pen.lead as u64;
-    table[at + 3] = pen.trail as u64;
+    let k = (count + i) / SPACING;
+    put_entry(table, k, pen.place, last, pen.lead, pen.trail);
     read_run::smaller(i + SPACING, n)
+}
+
+// Entry k into the table: the place before its value, the last value kept there and the window.
+pub fn put_entry(table: &mut [u64], k: usize, place: usize, last: u64, lead: u32, trail: u32)
+    requires { ⌜ k < entriesLent (length (now table)) ⌝ }
+    ensures { λ _. ⌜ now (table .exit) ≡ laidEntries (now (table .entry)) k (entryIn place last lead trail ∷ []) ⌝ }
+{
+    let at = WORDS * k;
+    table[at] = place as u64;
+    table[at + 1] = last;
+    table[at + 2] = lead as u64;
+    table[at + 3] = trail as u64;
 }
 
 // The last value kept before the next one; before a raw one there is none, and 0 stands for it.

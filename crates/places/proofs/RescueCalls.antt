@@ -11,6 +11,7 @@ use lib.ListN.{length, take, drop}
 use lib.Seq.{length-take-le}
 use Rattle.bits.specs.Bits.{Below, bitsOf, wholeBytes, padded, cutIn}
 use Rattle.bits.proofs.Below.{below-nil, below-take}
+use Rattle.bits.proofs.InBytes.{length-cutIn}
 use Rattle.models.specs.Answers.{answered, refused, Cause, _when_, judge, verdict, keeping, NoneHolds}
 use Rattle.models.specs.declared.Fault.{Fault}
 use Rattle.models.proofs.Judged.{not-answered, not-refused, same-answer, same-fault, answered-only}
@@ -261,9 +262,12 @@ module _ {A W : Type 0} (C : Coder A W) (good : GoodCoder C) (l : ℕ) (hl : l <
           beside = beside-kept;
         }
 
-    pub keeps-what-arrived-with-a-table : length (tableRescueMemory C l buf j (length xs) (length words)) ≡ length buf → SavesBeside C l xs j buf words R
-    keeps-what-arrived-with-a-table size =
+    pub keeps-what-arrived-with-a-table : SavesBeside C l xs j buf words R
+    keeps-what-arrived-with-a-table =
         let w = with-a-table buf j (length xs) words (goes .0) t (goes .1) in
+        let size : length (tableRescueMemory C l buf j (length xs) (length words)) ≡ length buf =
+        ap length (w .1 ∙ plain buf j (length xs) words (goes .0) t (goes .1) .1)
+        ∙ length-cutIn buf (t .place) (omega (arith, R .here, says buf j (length xs) words (goes .0) t (goes .1) .2)) in
         record {
           answers = w .0 ∙ ap (λ (n : ℕ). answered (record { writer = C .hold t; entries = entriesFor n })) (R .counted ∙ sym firsts);
           made = made-beside;

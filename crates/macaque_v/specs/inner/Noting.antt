@@ -13,9 +13,13 @@ abbrev pub DueAt : Bool → ℕ → ℕ → ℕ → ℕ → Type 0
 DueAt true count n i due = (i ≤ due) × (due < i + spacing) × ((count + due) % spacing ≡ 0)
 DueAt false count n i due = due ≡ n
 
+-- an entry by its four words
+abbrev pub entryIn : ℕ → ℕ → ℕ → ℕ → Entry
+entryIn place last lead trail = record { place = place; last = last; win = windowIn lead trail }
+
 -- the entry of where the pen stands, before a value that is raw or not
 abbrev pub entryBy : Bool → Pen → Entry
-entryBy raw p = record { place = p .place; last = cond raw 0 (p .last); win = windowIn (p .lead) (p .trail) }
+entryBy raw p = entryIn (p .place) (cond raw 0 (p .last)) (p .lead) (p .trail)
 
 -- it stands in its four words
 abbrev pub notedBy : Bool → Pen → ℕ → List ℕ → List ℕ
