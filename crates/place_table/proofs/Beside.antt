@@ -1,6 +1,6 @@
 -- The plain calls beneath those with a table: what nothing refuses there, and what they answer. Assumes nothing.
-use mathlib.Core.Path.{_≡_, refl, sym, ap, _∙_}
-use mathlib.Core.Bool.{not}
+use mathlib.Core.Path.{_≡_, refl}
+use mathlib.Core.Bool.{Bool, not}
 use mathlib.Core.List.{List}
 use Prim.Native.Nat.{ℕ, _+_, _*_, _^_, _≤_, _<_}
 use native.Mathlib.Omega.{arith}
@@ -25,6 +25,7 @@ use Rattle.macaque_v.specs.inner.Read.{resumed}
 use Rattle.macaque_v.specs.declared.MacaqueV.{MacaqueV}
 use Rattle.macaque_v.proofs.Accepting as plain
 use Rattle.place_table.specs.Calls.{tableWriteCauses}
+use Rattle.place_table.specs.inner.Rescue.{besideSaid}
 
 -- ---- writing
 
@@ -47,14 +48,8 @@ accepted m xs buf words entries free =
       lent = ltb-false (entriesLent words) (entriesFor (m .length + length xs)) (last .0);
     }
 
--- ---- reopening
+-- ---- a writer that is opened, and its entries
 
-module _ (b : ErrorBound) (first : _) where
-  pub unopened-beside : (q : Reopened Known) (f : Fault) → refused f ≡ resumed b first q → refused f ≡ theory.resumedBeside (coderOf b first) q
-  unopened-beside (reopened s) f e = absurd (not-answered e)
-  unopened-beside (unopened r) f e = ap refused (same-fault e)
-
-  pub opened-beside : (q : Reopened Known) (m : MacaqueV) → answered m ≡ resumed b first q
-      → _≡_ {A = Said (Beside MacaqueV)} (answered (record { writer = m; entries = entriesFor (m .length) })) (theory.resumedBeside (coderOf b first) q)
-  opened-beside (reopened s) m e = ap (λ (w : MacaqueV). answered (record { writer = w; entries = entriesFor (w .length) })) (same-answer e)
-  opened-beside (unopened r) m e = absurd (not-refused e)
+pub beside-resumed : (b : ErrorBound) (first : Bool) (q : Reopened Known) → besideSaid (resumed b first q) ≡ theory.resumedBeside (coderOf b first) q
+beside-resumed b first (reopened s) = refl
+beside-resumed b first (unopened r) = refl

@@ -50,12 +50,16 @@ one-entry S (suc k) s bs vs t r h m lo hi =
 
 -- ---- the loop
 
--- n values were read from the start, and the entries before them were compared
-pub record Along (first : Bool) (bytes : List ℕ) (from : Cursor) (table : List ℕ) (count n : ℕ) (at : Cursor) (same : Bool) : Type 0 where
+-- n values were read from the start, and reading stands before an entry or behind all values
+pub record Gone (first : Bool) (bytes : List ℕ) (from : Cursor) (count n : ℕ) (at : Cursor) : Type 0 where
   pub values : List ℕ
   pub reads : Reads first bytes from n values at
   pub few : n ≤ count
   pub onEntry : n < count → n % spacing ≡ 0
+
+-- and the entries before them were compared
+pub record Along (first : Bool) (bytes : List ℕ) (from : Cursor) (table : List ℕ) (count n : ℕ) (at : Cursor) (same : Bool) : Type 0 where
+  pub gone : Gone first bytes from count n at
   pub is : same ≡ sameEntries (tableIn table (entriesFor n)) (entriesIn (bare (modeOf first)) n (stateAt from) (ahead bytes from))
 
 -- a cursor from which a stream is read holds 0 as last value where the next one is raw
@@ -77,43 +81,68 @@ opens-still first bytes from zero vs at z o R =
     same e = cc
 opens-still first bytes from (suc n) vs at z o R = ap (λ (b : Bool). cond b 0 (at .last)) (not-raw (modeOf first) (at .count) (omega (arith, R .counted)))
 
-module _ (first : Bool) (bytes : List ℕ) (from : Cursor) (zero-count : from .count ≡ 0) (opens-from : Opens first from) (table : List ℕ) (count : ℕ) where
-  pub along-start : ReadableAt bytes from → Along first bytes from table count 0 from true
-  unfolding entriesIn tableIn
-  along-start h = record { values = []; reads = reads-none first bytes from h; few = omega arith; onEntry = λ e. refl; is = refl }
+module _ (first : Bool) (bytes : List ℕ) (from : Cursor) (zero-count : from .count ≡ 0) (opens-from : Opens first from) (count : ℕ) where
+  pub gone-start : ReadableAt bytes from → Gone first bytes from count 0 from
+  gone-start h = record { values = []; reads = reads-none first bytes from h; few = omega arith; onEntry = λ e. refl }
 
-  module _ (n : ℕ) (at : Cursor) (same : Bool) (L : Along first bytes from table count n at same) (more : n < count) where
+  module _ (n : ℕ) (at : Cursor) (G : Gone first bytes from count n at) where
+    abbrev here : List Entry
+    here = entriesIn (bare (modeOf first)) n (stateAt from) (ahead bytes from)
+
     counted : at .count ≡ n
-    counted = omega (arith, L .reads .counted)
+    counted = omega (arith, G .reads .counted)
 
-    -- the number of the entry for where reading stands
-    pub entry-number : at .count / spacing ≡ entriesFor n
-    entry-number = omega (arith, counted, L .onEntry more)
+    -- how many entries they have
+    pub gone-number : length here ≡ entriesFor n
+    gone-number =
+        let S : Stream Unit = bare (modeOf first) in
+        let E : Entered S n (stateAt from) (ahead bytes from) (stateAt at) (ahead bytes at) = subst (EnteredIn S n (stateAt from) (ahead bytes from)) (G .reads .values) (entered S n (stateAt from) (ahead bytes from)) in
+        omega (arith, E .number, zero-count, counted)
 
-    pub along-more : (k : ℕ) (vs : List ℕ) (to : Cursor) → 0 < k → k ≤ spacing → n + k ≤ count → (n + k < count → k ≡ spacing)
+    module _ (more : n < count) where
+      -- the number of the entry for where reading stands
+      pub entry-number : at .count / spacing ≡ entriesFor n
+      entry-number = omega (arith, counted, G .onEntry more)
+
+      -- up to 64 values more
+      module _ (k : ℕ) (vs : List ℕ) (to : Cursor) (lo : 0 < k) (hi : k ≤ spacing) (le : n + k ≤ count) (full : n + k < count → k ≡ spacing) (R : Reads first bytes at k vs to) where
+        pub gone-more : Gone first bytes from count (n + k) to
+        gone-more = record { values = G .values ++ vs; reads = reads-then first bytes (G .reads) R; few = le; onEntry = λ lt. omega (arith, G .onEntry more, full lt) }
+
+        -- they have one entry, that of where reading stood
+        pub gone-entries : entriesIn (bare (modeOf first)) (n + k) (stateAt from) (ahead bytes from) ≡ here ++ (hereOf at ∷ [])
+        gone-entries =
+            let S : Stream Unit = bare (modeOf first) in
+            let E : Entered S n (stateAt from) (ahead bytes from) (stateAt at) (ahead bytes at) = subst (EnteredIn S n (stateAt from) (ahead bytes from)) (G .reads .values) (entered S n (stateAt from) (ahead bytes from)) in
+            let last : lastBefore S (stateAt at) ≡ at .last = opens-still first bytes from n (G .values) at zero-count opens-from (G .reads) in
+            let plain : entryOf S (stateAt at) ≡ hereOf at = λ i. record { place = at .place; last = last i; win = windowIn (at .lead) (at .trail) } in
+            E .onward k ∙ ap (λ (z : List Entry). here ++ z) (one-entry S k (stateAt at) (ahead bytes at) vs (stateAt to) (ahead bytes to) (R .values) (ap (λ (m : ℕ). m % spacing) counted ∙ G .onEntry more) lo hi
+            ∙ ap (λ (x : Entry). x ∷ []) plain)
+
+        pub one-more-entry : entriesFor (n + k) ≡ suc (entriesFor n)
+        one-more-entry = omega (arith, G .onEntry more, lo, hi)
+
+  -- ---- beside its table
+
+  module _ (table : List ℕ) where
+    pub along-start : ReadableAt bytes from → Along first bytes from table count 0 from true
+    unfolding entriesIn tableIn
+    along-start h = record { gone = gone-start h; is = refl }
+
+    pub along-more : (n : ℕ) (at : Cursor) (same : Bool) (L : Along first bytes from table count n at same) (more : n < count)
+        → (k : ℕ) (vs : List ℕ) (to : Cursor) → 0 < k → k ≤ spacing → n + k ≤ count → (n + k < count → k ≡ spacing)
         → Reads first bytes at k vs to → (said : Bool) → said ≡ sameEntry (entryAt table (at .count / spacing)) (hereOf at)
         → Along first bytes from table count (n + k) to (same && said)
     unfolding tableIn
-    along-more k vs to lo hi le full R said e =
-        let S : Stream Unit = bare (modeOf first) in
-        let E : Entered S n (stateAt from) (ahead bytes from) (stateAt at) (ahead bytes at) = subst (EnteredIn S n (stateAt from) (ahead bytes from)) (L .reads .values) (entered S n (stateAt from) (ahead bytes from)) in
-        let here : List Entry = entriesIn S n (stateAt from) (ahead bytes from) in
-        let last : lastBefore S (stateAt at) ≡ at .last = opens-still first bytes from n (L .values) at zero-count opens-from (L .reads) in
-        let plain : entryOf S (stateAt at) ≡ hereOf at = λ i. record { place = at .place; last = last i; win = windowIn (at .lead) (at .trail) } in
-        let up : entriesFor (n + k) ≡ suc (entriesFor n) = omega (arith, L .onEntry more, lo, hi) in
-        let next : entriesIn S (n + k) (stateAt from) (ahead bytes from) ≡ here ++ (hereOf at ∷ []) =
-        E .onward k ∙ ap (λ (z : List Entry). here ++ z) (one-entry S k (stateAt at) (ahead bytes at) vs (stateAt to) (ahead bytes to) (R .values) (ap (λ (m : ℕ). m % spacing) counted ∙ L .onEntry more) lo hi
-        ∙ ap (λ (x : Entry). x ∷ []) plain) in
-        let long : length (tableIn table (entriesFor n)) ≡ length here = omega (arith, table-length table (entriesFor n), E .number, zero-count, counted) in
+    along-more n at same L more k vs to lo hi le full R said e =
+        let G = L .gone in
+        let es : List Entry = here n at G in
         record {
-          values = L .values ++ vs;
-          reads = reads-then first bytes (L .reads) R;
-          few = le;
-          onEntry = λ lt. omega (arith, L .onEntry more, full lt);
+          gone = gone-more n at G more k vs to lo hi le full R;
           is =
-              ap₂ (λ (x y : Bool). x && y) (L .is) (e ∙ ap (λ (i : ℕ). sameEntry (entryAt table i) (hereOf at)) entry-number)
-              ∙ sym (same-more (tableIn table (entriesFor n)) here (entryAt table (entriesFor n)) (hereOf at) long)
-              ∙ ap₂ (λ (x y : List Entry). sameEntries x y) (sym (ap (tableIn table) up)) (sym next);
+              ap₂ (λ (x y : Bool). x && y) (L .is) (e ∙ ap (λ (i : ℕ). sameEntry (entryAt table i) (hereOf at)) (entry-number n at G more))
+              ∙ sym (same-more (tableIn table (entriesFor n)) es (entryAt table (entriesFor n)) (hereOf at) (table-length table (entriesFor n) ∙ sym (gone-number n at G)))
+              ∙ ap₂ (λ (x y : List Entry). sameEntries x y) (sym (ap (tableIn table) (one-more-entry n at G more k vs to lo hi le full R))) (sym (gone-entries n at G more k vs to lo hi le full R));
         }
 
 -- ---- what the check says
@@ -129,7 +158,7 @@ by-values same (stopped f) = refl
 
 module _ (bytes : List ℕ) (o : Opening) (count : ℕ) (table : List ℕ) where
   -- the entries do not depend on what is gathered
-  own-entries : entriesIn (bare (modeOf (isFirst o))) count (stateAt (startOf o)) (bitsOf bytes) ≡ entriesIn (streamIn (isFirst o)) count (opened o) (bitsOf bytes)
+  pub own-entries : entriesIn (bare (modeOf (isFirst o))) count (stateAt (startOf o)) (bitsOf bytes) ≡ entriesIn (streamIn (isFirst o)) count (opened o) (bitsOf bytes)
   own-entries = entries-any (bare (modeOf (isFirst o))) gatherKnown count (stateAt (startOf o)) (gatherKnown .none) (bitsOf bytes)
 
   said-by : (q : Said (List ℕ)) → valuesIn bytes count o ≡ q
@@ -142,13 +171,13 @@ module _ (bytes : List ℕ) (o : Opening) (count : ℕ) (table : List ℕ) where
   pub stops-early : (n k : ℕ) (at : Cursor) (same : Bool) → Along (isFirst o) bytes (startOf o) table count n at same → n + k ≤ count → (r : Refusal) → StopsBy (readFrom (isFirst o) bytes at k) r
       → refused (faultOf r) ≡ compared bytes count o table
   stops-early n k at same L le r s =
-      sym (said-by (refused (faultOf r)) (values-wrong bytes o count r (ends-early (then-stops (isFirst o) bytes (L .reads) k s count le))))
+      sym (said-by (refused (faultOf r)) (values-wrong bytes o count r (ends-early (then-stops (isFirst o) bytes (L .gone .reads) k s count le))))
 
   module _ (at : Cursor) (same : Bool) (L : Along (isFirst o) bytes (startOf o) table count count at same) where
     -- something follows its last value
     pub stops-late : (r : Refusal) → refused (faultOf r) ≡ endSaid bytes at → refused (faultOf r) ≡ compared bytes count o table
-    stops-late r e = sym (said-by (refused (faultOf r)) (values-wrong bytes o count r (ends-wrong (L .reads) e)))
+    stops-late r e = sym (said-by (refused (faultOf r)) (values-wrong bytes o count r (ends-wrong (L .gone .reads) e)))
 
     -- it is accepted, and the entries decide
     pub decides : endSaid bytes at ≡ answered tt → cond same (answered tt) noMatch ≡ compared bytes count o table
-    decides e = ap (λ (b : Bool). cond b (answered tt) noMatch) (L .is) ∙ sym (said-by (answered (L .values)) (values-right bytes o (L .reads) e))
+    decides e = ap (λ (b : Bool). cond b (answered tt) noMatch) (L .is) ∙ sym (said-by (answered (L .gone .values)) (values-right bytes o (L .gone .reads) e))

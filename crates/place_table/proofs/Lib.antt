@@ -2,6 +2,7 @@
 pub mod Promises
 pub mod Sums
 pub mod Comparing
+pub mod Anew
 pub mod Ranging
 pub mod Beside
 pub mod Causes

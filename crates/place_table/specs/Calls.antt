@@ -9,6 +9,7 @@ use Rattle.models.specs.Causes.{boundCauses}
 use Rattle.models.specs.declared.ErrorBound.{ErrorBound}
 use Rattle.stream.specs.Format.{macaque}
 use Rattle.places.specs.Calls as tables
+use Rattle.places.specs.Rescue as rescues
 pub use Rattle.places.specs.Calls.{Beside, tableCauses, checkCauses}
 use Rattle.macaque_v.specs.State.{streamIn, stateOf, isFirst, openingValue}
 use Rattle.macaque_v.specs.Write.{coderOf, coderBy}
@@ -70,6 +71,20 @@ open-told (OfOpen.Refused r) = ap OfOpen.Refused (refusal-told r)
 
 pub saysTableOpen-injective : Injective saysTableOpen
 saysTableOpen-injective = told-apart saysTableOpen (unsaid (λ (a : Beside MacaqueV). OfOpen.Opened (a .writer) (a .entries)) OfOpen.Refused) open-told
+
+-- ---- rescue with a table
+
+abbrev pub tableRescueCauses : ErrorBound → ℕ → ℕ → ℕ → ℕ → List Cause
+tableRescueCauses b = rescues.tableRescueCauses (boundCauses b)
+
+unfoldable pub tableRescueAnswer : List ℕ → ℕ → ℕ → Opening → ErrorBound → ℕ → Said (Beside MacaqueV)
+tableRescueAnswer buf used limit o b words = rescues.tableRescueAnswer (coderOf b (isFirst o)) (openingValue o) buf used limit words
+
+unfoldable pub tableRescueMemory : List ℕ → ℕ → ℕ → Opening → ErrorBound → ℕ → List ℕ
+tableRescueMemory buf used limit o b words = rescues.tableRescueMemory (coderOf b (isFirst o)) (openingValue o) buf used limit words
+
+unfoldable pub tableRescueTable : List ℕ → ℕ → ℕ → Opening → ErrorBound → List ℕ → List ℕ
+tableRescueTable buf used limit o b words = rescues.tableRescueTable (coderOf b (isFirst o)) (openingValue o) buf used limit words
 
 -- ---- the check
 

@@ -11,8 +11,11 @@ ghost use Rattle.stream.specs.Format.{macaque};
 ghost use Rattle.places.specs.Table.{entriesFor, mayStart};
 ghost use Rattle.places.specs.Calls.{tableIn, tableCauses, checkCauses};
 ghost use Rattle.stream.specs.Calls.{lentBytes};
+ghost use Rattle.macaque_v.specs.Read.{saysOpen};
 ghost use Rattle.place_table.specs.Calls.{tableWriteCauses, saysTableWrite, tableWriteAnswer, tableWriteMemory, tableWriteTable};
 ghost use Rattle.place_table.specs.Calls.{tableReopenCauses, saysTableOpen, tableReopenAnswer, tableReopenMemory};
+ghost use Rattle.place_table.specs.Calls.{tableRescueCauses, tableRescueAnswer, tableRescueMemory, tableRescueTable};
+ghost use Rattle.place_table.specs.inner.Rescue.{besideSaid};
 ghost use Rattle.place_table.specs.Calls.{saysCheck, checkAnswer, rangeCauses, rangeAnswer, rangeMemory};
 use macaque_v::MacaqueV;
 use macaque_v::Opening;
@@ -97,13 +100,45 @@ pub fn reopen(
     ) {
         Verdict::Refused(r) => TableOpenAnswer::Refused(r),
         Verdict::Passed => {
-            match MacaqueV::reopen(buffer, used, count, k, opening, error_bound) {
-                OpenAnswer::Refused(r) => TableOpenAnswer::Refused(r),
-                OpenAnswer::Opened(m) => {
-                    let kept = m.length;
-                    TableOpenAnswer::Opened(m, entry::entries_for(kept))
-                }
-            }
+            let opened = MacaqueV::reopen(buffer, used, count, k, opening, error_bound);
+            with_entries(opened)
+        }
+    }
+}
+
+// The writer behind the values that arrived whole, as `MacaqueV::rescue` opens it, and their table: it is made anew in the lent words, whatever these held.
+// There has to be room for the entries of as many values as the limit.
+pub fn rescue(
+    buffer: &mut [u8],
+    used: usize,
+    limit: usize,
+    opening: Opening,
+    error_bound: ErrorBound,
+    table: &mut [u64],
+) -> TableOpenAnswer
+    ensures answer { λ r. ⌜ saysTableOpen r ≡ tableRescueAnswer (now (buffer .entry)) used limit opening «error_bound» (length (now (table .entry))) ⌝ }
+    ensures bytes { λ r. ⌜ now (buffer .exit) ≡ tableRescueMemory (now (buffer .entry)) used limit opening «error_bound» (length (now (table .entry))) ⌝ }
+    ensures words { λ r. ⌜ now (table .exit) ≡ tableRescueTable (now (buffer .entry)) used limit opening «error_bound» (now (table .entry)) ⌝ }
+{
+    match judge_rescue(error_bound, buffer.len(), used, limit, table.len()) {
+        Verdict::Refused(r) => TableOpenAnswer::Refused(r),
+        Verdict::Passed => {
+            let found = macaque_v::rescue::arrived(&buffer[..used], limit, opening);
+            walk::note_found(&buffer[..used], found, opening, table);
+            with_entries(read::open_behind(buffer, found, opening, error_bound))
+        }
+    }
+}
+
+// A writer that was opened, and how many entries its values ask for.
+fn with_entries(opened: OpenAnswer) -> TableOpenAnswer
+    ensures { λ r. ⌜ saysTableOpen r ≡ besideSaid (saysOpen opened) ⌝ }
+{
+    match opened {
+        OpenAnswer::Refused(r) => TableOpenAnswer::Refused(r),
+        OpenAnswer::Opened(m) => {
+            let kept = m.length;
+            TableOpenAnswer::Opened(m, entry::entries_for(kept))
         }
     }
 }
@@ -218,6 +253,25 @@ pub fn judge_reopen(
     match read::judge_reopen(error_bound, room, used, count, k) {
         Verdict::Refused(r) => Verdict::Refused(r),
         Verdict::Passed => judge_table(words, entries, count),
+    }
+}
+
+pub fn judge_rescue(
+    error_bound: ErrorBound,
+    room: usize,
+    used: usize,
+    limit: usize,
+    words: usize,
+) -> Verdict
+    ensures { λ r. ⌜ saysVerdict r ≡ verdict (tableRescueCauses «error_bound» room used limit words) ⌝ }
+{
+    match macaque_v::rescue::judge_rescue(error_bound, room, used, limit) {
+        Verdict::Refused(r) => Verdict::Refused(r),
+        Verdict::Passed => models::when(
+            Refusal::OutputTooShort,
+            words / noting::WORDS < entry::entries_for(limit),
+            Verdict::Passed,
+        ),
     }
 }
 

@@ -1,22 +1,21 @@
 -- `place_table::reopen` meets its contract: refused by the first cause that holds, else what the plain call says. Assumes nothing.
 use borrow.Author.Needs.{needs}
-use mathlib.Core.Path.{_≡_, sym, ap, ap₂, _∙_}
+use mathlib.Core.Path.{_≡_, sym, ap, _∙_}
 use mathlib.Core.List.{List}
 use Prim.Native.Nat.{ℕ}
 use lib.ListN.{length, take}
-use Rattle.models.specs.Answers.{answered, refused, keeping, NoneHolds}
+use Rattle.models.specs.Answers.{refused, keeping, NoneHolds}
 use Rattle.models.specs.declared.ErrorBound.{ErrorBound}
 use Rattle.models.proofs.Judged.{none-holds, when-passed, when-refused}
 use Rattle.models.proofs.Judged as judging
 use Rattle.stream.specs.Read.{bufferAfter}
-use Rattle.places.specs.Calls.{Beside}
 use Rattle.macaque_v.specs.State.{isFirst}
-use Rattle.macaque_v.specs.Read.{reopenCauses, reopenAnswer, reopenMemory, saysOpen}
+use Rattle.macaque_v.specs.Read.{reopenCauses, reopenAnswer, reopenMemory}
 use Rattle.macaque_v.specs.inner.Read.{reopening, resumed}
-use Rattle.macaque_v.specs.declared.MacaqueV.{MacaqueV}
 use Rattle.macaque_v.specs.declared.Opening.{Opening}
 use Rattle.place_table.specs.Calls.{tableReopenCauses, tableReopenAnswer, tableReopenMemory}
-use Rattle.place_table.proofs.Beside.{unopened-beside, opened-beside}
+use Rattle.place_table.specs.inner.Rescue.{besideSaid}
+use Rattle.place_table.proofs.Beside.{beside-resumed}
 use Rattle.place_table.proofs.reopen.Statement.{statement}
 use Rattle.place_table.proofs.reopen.Tie as tie
 
@@ -39,28 +38,14 @@ returns c =
 returns-2 : tie.Need-returns-2
 unfolding tableReopenAnswer tableReopenMemory
 returns-2 c =
-    let a = c .before .before .before .before .before .before .before .before .before .before .before .before .args in
+    let a = c .before .before .before .before .before .before .before .before .before .before .args in
     let causes = tableReopenCauses (a .error-bound) (length (a .buffer .now)) (a .used) (a .count) (a .k) (length (a .table .now)) (a .entries) in
-    let says = c .before .before .before .before .before .before .before .before .before .judge-reopen .ensures in
-    let ok = c .before .before .before .before .before .before .before .enum-told .given .1 in
+    let says = c .before .before .before .before .before .before .before .judge-reopen .ensures in
+    let ok = c .before .before .before .before .before .enum-told .given .1 in
     let p = plainly (a .buffer .now) (a .used) (a .count) (a .k) (a .opening) (a .error-bound) (length (a .table .now)) (a .entries) (none-holds causes _ says ok) in
-    let r = c .before .before .before .before .before .reopen .ensures in (
-      unopened-beside (a .error-bound) (isFirst (a .opening)) (reopening (take (a .used) (a .buffer .now)) (a .count) (a .k) (a .opening)) _ (ap saysOpen (sym (c .before .r2 .given .1)) ∙ r .0 ∙ p .0) ∙ when-passed causes _ says refused _ ok,
-      r .1 ∙ p .1 ∙ when-passed causes _ says (keeping (a .buffer .now)) _ ok,
-    )
-
-returns-3 : tie.Need-returns-3
-unfolding tableReopenAnswer tableReopenMemory
-returns-3 c =
-    let a = c .before .before .before .before .before .before .before .before .before .before .before .before .before .args in
-    let causes = tableReopenCauses (a .error-bound) (length (a .buffer .now)) (a .used) (a .count) (a .k) (length (a .table .now)) (a .entries) in
-    let says = c .before .before .before .before .before .before .before .before .before .before .judge-reopen .ensures in
-    let ok = c .before .before .before .before .before .before .before .before .enum-told .given .1 in
-    let p = plainly (a .buffer .now) (a .used) (a .count) (a .k) (a .opening) (a .error-bound) (length (a .table .now)) (a .entries) (none-holds causes _ says ok) in
-    let r = c .before .before .before .before .before .before .reopen .ensures in
-    let m = c .before .before .m .given .0 .0 in (
-      ap (λ (n : ℕ). answered (record { writer = m; entries = n })) (c .entries-for .ensures)
-          ∙ opened-beside (a .error-bound) (isFirst (a .opening)) (reopening (take (a .used) (a .buffer .now)) (a .count) (a .k) (a .opening)) m (ap saysOpen (sym (c .before .before .m .given .1)) ∙ r .0 ∙ p .0)
+    let r = c .before .before .before .reopen .ensures in (
+      c .with-entries .ensures ∙ ap besideSaid (r .0 ∙ p .0)
+          ∙ beside-resumed (a .error-bound) (isFirst (a .opening)) (reopening (take (a .used) (a .buffer .now)) (a .count) (a .k) (a .opening))
           ∙ when-passed causes _ says refused _ ok,
       r .1 ∙ p .1 ∙ when-passed causes _ says (keeping (a .buffer .now)) _ ok,
     )
@@ -73,11 +58,7 @@ reopen-spec =
     (λ c. search needs)
     (λ c. search needs)
     (λ c κs. search needs)
-    (λ c. search needs)
-    (λ c. search needs)
     (λ c κs. search needs)
     returns
     (λ c. search needs)
-    returns-2
-    (λ c. search needs)
-    returns-3)
+    returns-2)

@@ -39,7 +39,7 @@ loop-holds : tie.Need-loop-holds Inv-loop μ-loop
 loop-holds c =
     let a = c .before .before .before .before .args in
     let s = starts (a .bytes .now) (a .opening) (c .start .result) (c .start .ensures) in
-    (refl, along-start (c .before .is-first .result) (a .bytes .now) (c .start .result) (s .1) (subst (λ (first : Bool). Opens first (c .start .result)) (sym (c .before .is-first .ensures)) (subst (Opens (isFirst (a .opening))) (sym (c .start .ensures .0)) (opens (a .opening)))) (a .table .now) (a .count) (s .0))
+    (refl, along-start (c .before .is-first .result) (a .bytes .now) (c .start .result) (s .1) (subst (λ (first : Bool). Opens first (c .start .result)) (sym (c .before .is-first .ensures)) (subst (Opens (isFirst (a .opening))) (sym (c .start .ensures .0)) (opens (a .opening)))) (a .count) (a .table .now) (s .0))
 
 says-requires : tie.Need-says-requires Inv-loop μ-loop
 says-requires c κs =
@@ -48,15 +48,15 @@ says-requires c κs =
     let L = l .inv .1 in
     let p = c .before .before .before .before .before .before .pre in
     let more : l .done < a .count = c .loop-test .taken in
-    let here : l .at .count / spacing ≡ entriesFor (l .done) = entry-number _ (a .bytes .now) _ (none-before (c .before)) (begins (c .before)) (a .table .now) (a .count) (l .done) (l .at) (l .same) L more in
-    let used : l .at .count / spacing < entriesLent (length (a .table .now)) = omega (arith, here, p .1, L .onEntry more) in
-    (omega (arith, L .reads .counted, none-before (c .before), p .0), used)
+    let here : l .at .count / spacing ≡ entriesFor (l .done) = entry-number _ (a .bytes .now) _ (none-before (c .before)) (begins (c .before)) (a .count) (l .done) (l .at) (L .gone) more in
+    let used : l .at .count / spacing < entriesLent (length (a .table .now)) = omega (arith, here, p .1, L .gone .onEntry more) in
+    (omega (arith, L .gone .reads .counted, none-before (c .before), p .0), used)
 
 fill-requires : tie.Need-fill-requires Inv-loop μ-loop
 fill-requires c κs =
     let l = c .before .before .before .before .loop in
     let L = l .inv .1 in
-    (L .reads .readable, omega (arith, L .reads .counted, none-before (c .before .before .before .before), c .before .before .before .before .before .before .before .before .before .pre .0), omega (arith, l .inv .0))
+    (L .gone .reads .readable, omega (arith, L .gone .reads .counted, none-before (c .before .before .before .before), c .before .before .before .before .before .before .before .before .before .pre .0), omega (arith, l .inv .0))
 
 -- from the start that the opening says
 along : (c : tie.At-loop Inv-loop μ-loop)
@@ -86,14 +86,14 @@ loop-again c =
     let more : l .done < a .count = c .before .before .before .before .before .before .before .before .loop-test .taken in
     let says = subst (λ (q : Run). FillSays first (a .bytes .now) (l .at) k (l .values) (f .last .1 .1 .1 .1 .0) q) (c .before .to .given .1) (f .ensures) in (
       says .1 ∙ l .inv .0,
-      along-more first (a .bytes .now) _ (none-before (c .before .before .before .before .before .before .before .before .before)) (begins (c .before .before .before .before .before .before .before .before .before)) (a .table .now) (a .count) (l .done) (l .at) (l .same) (l .inv .1) more k (take k (f .last .1 .1 .1 .1 .0)) (c .before .to .given .0 .0)
+      along-more first (a .bytes .now) _ (none-before (c .before .before .before .before .before .before .before .before .before)) (begins (c .before .before .before .before .before .before .before .before .before)) (a .count) (a .table .now) (l .done) (l .at) (l .same) (l .inv .1) more k (take k (f .last .1 .1 .1 .1 .0)) (c .before .to .given .0 .0)
           (omega arith) (omega arith) (omega arith) (λ lt. omega arith) (says .0) (c .before .before .before .before .before .before .before .says .result) (c .before .before .before .before .before .before .before .says .ensures),
     )
 
 judge-end-requires : tie.Need-judge-end-requires Inv-loop μ-loop
 judge-end-requires c κs =
     let L = c .before .loop .inv .1 in
-    (L .reads .readable, omega (arith, L .reads .counted, L .few, none-before (c .before), c .before .before .before .before .before .before .pre .0))
+    (L .gone .reads .readable, omega (arith, L .gone .reads .counted, L .gone .few, none-before (c .before), c .before .before .before .before .before .before .pre .0))
 
 -- behind the loop all values were read
 all : (c : tie.After-loop Inv-loop μ-loop)
@@ -101,7 +101,7 @@ all : (c : tie.After-loop Inv-loop μ-loop)
 all c =
     let a = c .before .before .before .before .before .before .args in
     let l = c .before .loop in
-    let e : l .done ≡ a .count = omega (arith, l .inv .1 .few, c .loop-test .left) in
+    let e : l .done ≡ a .count = omega (arith, l .inv .1 .gone .few, c .loop-test .left) in
     subst (λ (n : ℕ). Along (isFirst (a .opening)) (a .bytes .now) (startOf (a .opening)) (a .table .now) (a .count) n (l .at) (l .same)) e (along (c .before))
 
 returns-2 : tie.Need-returns-2 Inv-loop μ-loop
