@@ -6,7 +6,7 @@ use mathlib.Core.Logic.{inl}
 use Prim.Native.Nat.{ℕ, _*_, _≤_}
 use lib.Dec.{leb}
 use lib.ListN.{length}
-use Rattle.models.specs.Answers.{Said, Done, answered, refused, SaidOn, answeredOn, refusedOn, stateless, verdict, keeping, itself}
+use Rattle.models.specs.Answers.{Said, Done, answered, refused, SaidOn, answeredOn, refusedOn, stateless, Cause, judge, judgedMemory, verdict, keeping, itself}
 use Rattle.models.specs.Bound.{boundAllowed}
 use Rattle.models.specs.Refusals.{faultOf}
 use Rattle.models.specs.Calls.{saysVerdict}
@@ -30,6 +30,7 @@ use Rattle.exports_stream.specs.Row.{writerLength, writerRow, standsForS
 use Rattle.exports_stream.proofs.Words.{no-state}
 use Rattle.exports_stream.specs.Calls.{openingOf, newCauses, newFault, newRow}
 use Rattle.exports_stream.specs.Calls.{reopenFaceCauses, reopenSaid, reopenLeft, reopenFault, reopenRow, reopenBuffer}
+use Rattle.exports_stream.specs.Rescue.{rescueFaceCauses, rescueSaid, rescueLeft, rescueFault, rescueRow, rescueBuffer}
 
 -- ---- new, by the verdict on its causes
 
@@ -47,7 +48,19 @@ module _ (kind bound mode opening : ℕ) (row : List ℕ) (v : Verdict) (says : 
       let causes = newCauses (boundOf kind bound) mode (length row) in
       (ap plainFault q ∙ when-passed causes v says itself _ e, ap (rowIn writerRow row) q ∙ when-passed causes v says (keeping row) _ e)
 
--- ---- reopen, by the verdict on its causes
+-- ---- a state that is handed out, by the verdict on the causes of a call, and what the call behind says and leaves of the buffer
+
+module _ (buf row : List ℕ) (causes : List Cause) (v : Verdict) (says : saysVerdict v ≡ verdict causes) where
+  pub opening-refused : (q : Said MacaqueV) (left : List ℕ) (r : Refusal) → v ≡ Refused r
+      → (faultOf r ≡ judge itself causes (plainFault q)) × (row ≡ judgedMemory row causes (rowIn writerRow row q)) × (buf ≡ judgedMemory buf causes left)
+  opening-refused q left r e = (when-refused causes v says itself _ r e, when-refused causes v says (keeping row) _ r e, when-refused causes v says (keeping buf) _ r e)
+
+  pub opening-passed : (said q : Said MacaqueV) (left : List ℕ) → said ≡ q → v ≡ Passed
+      → (plainFault said ≡ judge itself causes (plainFault q)) × (rowIn writerRow row said ≡ judgedMemory row causes (rowIn writerRow row q)) × (left ≡ judgedMemory buf causes left)
+  opening-passed said q left is e =
+      (ap plainFault is ∙ when-passed causes v says itself _ e, ap (rowIn writerRow row) is ∙ when-passed causes v says (keeping row) _ e, when-passed causes v says (keeping buf) _ e)
+
+-- ---- reopen and rescue
 
 module _ (buf : List ℕ) (used count k mode opening kind bound : ℕ) (row : List ℕ) (v : Verdict) (says : saysVerdict v ≡ verdict (reopenFaceCauses buf used count k mode kind bound row)) where
   pub reopen-refused : (r : Refusal) → v ≡ Refused r
@@ -55,21 +68,33 @@ module _ (buf : List ℕ) (used count k mode opening kind bound : ℕ) (row : Li
       × (row ≡ reopenRow buf used count k mode opening kind bound row)
       × (buf ≡ reopenBuffer buf used count k mode opening kind bound row)
   unfolding reopenFault reopenRow reopenBuffer
-  reopen-refused r e =
-      let causes = reopenFaceCauses buf used count k mode kind bound row in
-      (when-refused causes v says itself _ r e, when-refused causes v says (keeping row) _ r e, when-refused causes v says (keeping buf) _ r e)
+  reopen-refused =
+      opening-refused buf row (reopenFaceCauses buf used count k mode kind bound row) v says (reopenSaid buf used count k mode opening kind bound) (reopenLeft buf used count k mode opening kind bound)
 
   pub reopen-passed : (said : Said MacaqueV) → said ≡ reopenSaid buf used count k mode opening kind bound → v ≡ Passed
       → (plainFault said ≡ reopenFault buf used count k mode opening kind bound row)
       × (rowIn writerRow row said ≡ reopenRow buf used count k mode opening kind bound row)
       × (reopenLeft buf used count k mode opening kind bound ≡ reopenBuffer buf used count k mode opening kind bound row)
   unfolding reopenFault reopenRow reopenBuffer
-  reopen-passed said q e =
-      let causes = reopenFaceCauses buf used count k mode kind bound row in (
-        ap plainFault q ∙ when-passed causes v says itself _ e,
-        ap (rowIn writerRow row) q ∙ when-passed causes v says (keeping row) _ e,
-        when-passed causes v says (keeping buf) _ e,
-      )
+  reopen-passed said =
+      opening-passed buf row (reopenFaceCauses buf used count k mode kind bound row) v says said (reopenSaid buf used count k mode opening kind bound) (reopenLeft buf used count k mode opening kind bound)
+
+module _ (buf : List ℕ) (used limit mode opening kind bound : ℕ) (row : List ℕ) (v : Verdict) (says : saysVerdict v ≡ verdict (rescueFaceCauses buf used limit mode kind bound row)) where
+  pub rescue-refused : (r : Refusal) → v ≡ Refused r
+      → (faultOf r ≡ rescueFault buf used limit mode opening kind bound row)
+      × (row ≡ rescueRow buf used limit mode opening kind bound row)
+      × (buf ≡ rescueBuffer buf used limit mode opening kind bound row)
+  unfolding rescueFault rescueRow rescueBuffer
+  rescue-refused =
+      opening-refused buf row (rescueFaceCauses buf used limit mode kind bound row) v says (rescueSaid buf used limit mode opening kind bound) (rescueLeft buf used limit mode opening kind bound)
+
+  pub rescue-passed : (said : Said MacaqueV) → said ≡ rescueSaid buf used limit mode opening kind bound → v ≡ Passed
+      → (plainFault said ≡ rescueFault buf used limit mode opening kind bound row)
+      × (rowIn writerRow row said ≡ rescueRow buf used limit mode opening kind bound row)
+      × (rescueLeft buf used limit mode opening kind bound ≡ rescueBuffer buf used limit mode opening kind bound row)
+  unfolding rescueFault rescueRow rescueBuffer
+  rescue-passed said =
+      opening-passed buf row (rescueFaceCauses buf used limit mode kind bound row) v says said (rescueSaid buf used limit mode opening kind bound) (rescueLeft buf used limit mode opening kind bound)
 
 -- ---- a state that is handed out, in a row that holds its words
 

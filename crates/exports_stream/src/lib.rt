@@ -14,6 +14,7 @@ ghost use Rattle.exports_stream.specs.Row.{writerLength, writerRow, writ
 ghost use Rattle.exports_stream.specs.Calls.{openingOf, countIn, newCauses, reopenCausesWith};
 ghost use Rattle.exports_stream.specs.Calls.{newFault, newRow};
 ghost use Rattle.exports_stream.specs.Calls.{reopenFault, reopenRow, reopenBuffer, gridFault, gridOut, sumFault, sumOut};
+ghost use Rattle.exports_stream.specs.Rescue.{rescueFault, rescueRow, rescueBuffer};
 ghost use Rattle.macaque_v.specs.Size.{saysSize};
 ghost use Rattle.exports_stream.specs.Size.{numberAfter, mostBitsFault, mostBitsNumber, mostBytesFault, mostBytesNumber};
 ghost use Rattle.exports_stream.specs.Tabled.{tableWriteFault, tableWriteRow, tableWriteBuffer, tableWriteWords, tableWriteEntries};
@@ -131,6 +132,34 @@ pub extern "C" fn modelardb_macaque_v_reopen(
     }
 }
 
+// The writer behind the values that arrived whole in the buffer's first `used` bytes, `limit` at most, into the row, whose length says
+// how many they are; the bits behind them in the byte that they end in are zeroed.
+#[no_mangle]
+pub extern "C" fn modelardb_macaque_v_rescue(
+    buffer: &mut [u8],
+    used: usize,
+    limit: usize,
+    mode: u32,
+    opening: u32,
+    kind: u32,
+    bound: u32,
+    state: &mut [u64],
+) -> Fault
+    ensures fault { λ r. ⌜ r ≡ rescueFault (now (buffer .entry)) used limit mode opening kind bound (now (state .entry)) ⌝ }
+    ensures row { λ r. ⌜ now (state .exit) ≡ rescueRow (now (buffer .entry)) used limit mode opening kind bound (now (state .entry)) ⌝ }
+    ensures bytes { λ r. ⌜ now (buffer .exit) ≡ rescueBuffer (now (buffer .entry)) used limit mode opening kind bound (now (state .entry)) ⌝ }
+{
+    let b = exports::bound_of(kind, bound);
+    let n = count_in(mode, limit);
+    match judge_reopen(b, buffer.len(), used, n, n, state.len()) {
+        Verdict::Refused(r) => models::fault_of(r),
+        Verdict::Passed => {
+            let writer = MacaqueV::rescue(buffer, used, n, opening_of(mode, opening), b);
+            put_opened(writer, state)
+        }
+    }
+}
+
 // ---- the reading calls
 
 // The values of a stream, `count` of them, into the first places of `out`.
@@ -239,7 +268,7 @@ fn judge_new(error_bound: ErrorBound, mode: u32, words: usize) -> Verdict
     )
 }
 
-// What is judged before the buffer is touched.
+// What is judged before the buffer is touched; of a rescue what is of a reopening at its limit.
 fn judge_reopen(
     error_bound: ErrorBound,
     room: usize,
