@@ -7,6 +7,7 @@ ghost use mathlib.Core.Path.{_≡_};
 ghost use Rattle.models.specs.Answers.{verdict};
 ghost use Rattle.models.specs.Calls.{saysVerdict};
 ghost use Rattle.exports_table.specs.Calls.{tableReopenCausesWith, tableReopenFault, tableReopenRow, tableReopenBuffer, tableReopenEntries};
+ghost use Rattle.exports_table.specs.Rescue.{tableRescueCausesWith, tableRescueFault, tableRescueRow, tableRescueBuffer, tableRescueWords, tableRescueEntries};
 ghost use Rattle.exports_table.specs.Calls.{tableCheckFault, tableRangeFault, tableRangeOut};
 use exports_stream::row;
 use macaque_v::read::OpenAnswer;
@@ -18,7 +19,7 @@ use models::Verdict;
 use place_table::CheckAnswer;
 use place_table::TableOpenAnswer;
 
-// ---- the writer's call
+// ---- the writer's calls
 
 // The writer behind the first k of the `count` values in the buffer's first `used` bytes into the row, and how many
 // entries of their table are of these into `entries`. The table's words are neither read nor changed.
@@ -52,6 +53,44 @@ pub extern "C" fn modelardb_table_reopen(
                 TableOpenAnswer::Refused(r) => models::fault_of(r),
                 TableOpenAnswer::Opened(m, stay) => {
                     *entries = stay;
+                    exports_stream::put_opened(OpenAnswer::Opened(m), state)
+                }
+            }
+        }
+    }
+}
+
+// The writer behind the values that arrived whole in the buffer's first `used` bytes, `limit` at most, into the row, and the table of them, made anew, into
+// the words; how many entries it has into `entries`. Neither the words nor the number that were there are looked at.
+#[no_mangle]
+pub extern "C" fn modelardb_table_rescue(
+    buffer: &mut [u8],
+    used: usize,
+    limit: usize,
+    mode: u32,
+    opening: u32,
+    kind: u32,
+    bound: u32,
+    state: &mut [u64],
+    table: &mut [u64],
+    entries: &mut usize,
+) -> Fault
+    ensures fault { λ r. ⌜ r ≡ tableRescueFault (now (buffer .entry)) used limit mode opening kind bound (now (state .entry)) (now (table .entry)) ⌝ }
+    ensures row { λ r. ⌜ now (state .exit) ≡ tableRescueRow (now (buffer .entry)) used limit mode opening kind bound (now (state .entry)) (now (table .entry)) ⌝ }
+    ensures bytes { λ r. ⌜ now (buffer .exit) ≡ tableRescueBuffer (now (buffer .entry)) used limit mode opening kind bound (now (state .entry)) (now (table .entry)) ⌝ }
+    ensures words { λ r. ⌜ now (table .exit) ≡ tableRescueWords (now (buffer .entry)) used limit mode opening kind bound (now (state .entry)) (now (table .entry)) ⌝ }
+    ensures number { λ r. ⌜ now (entries .exit) ≡ tableRescueEntries (now (buffer .entry)) used limit mode opening kind bound (now (state .entry)) (now (table .entry)) (now (entries .entry)) ⌝ }
+{
+    let b = exports::bound_of(kind, bound);
+    let n = exports_stream::count_in(mode, limit);
+    match judge_rescue(b, buffer.len(), used, n, table.len(), state.len()) {
+        Verdict::Refused(r) => models::fault_of(r),
+        Verdict::Passed => {
+            let o = exports_stream::opening_of(mode, opening);
+            match place_table::rescue(buffer, used, n, o, b, table) {
+                TableOpenAnswer::Refused(r) => models::fault_of(r),
+                TableOpenAnswer::Opened(m, kept) => {
+                    *entries = kept;
                     exports_stream::put_opened(OpenAnswer::Opened(m), state)
                 }
             }
@@ -105,7 +144,27 @@ pub extern "C" fn modelardb_table_range(
     }
 }
 
-// ---- the causes of refusal of a reopening: the row has to hold the state
+// ---- the causes of refusal of a reopening and of a rescue: the row has to hold the state
+
+fn judge_rescue(
+    error_bound: ErrorBound,
+    room: usize,
+    used: usize,
+    limit: usize,
+    words: usize,
+    row_words: usize,
+) -> Verdict
+    ensures { λ r. ⌜ saysVerdict r ≡ verdict (tableRescueCausesWith «error_bound» room used limit words «row_words») ⌝ }
+{
+    match place_table::judge_rescue(error_bound, room, used, limit, words) {
+        Verdict::Refused(r) => Verdict::Refused(r),
+        Verdict::Passed => models::when(
+            Refusal::OutputTooShort,
+            row_words < row::WORDS,
+            Verdict::Passed,
+        ),
+    }
+}
 
 // What is judged before the buffer is touched.
 fn judge_reopen(
