@@ -7,6 +7,7 @@ pub mod Promises
 pub mod Sums
 pub mod Kept
 pub mod Room
+pub mod Rescue
 pub mod Turns
 pub mod Broken
 pub mod Causes

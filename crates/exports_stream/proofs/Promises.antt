@@ -12,7 +12,7 @@ use lib.ListN.{length, take, drop, getD}
 use lib.Seq.{length-take-le}
 use Rattle.bits.specs.Bits.{Below, wholeBytes}
 use Rattle.bits.proofs.Below.{below-nil, below-take}
-use Rattle.models.specs.Answers.{fault, noFault, Said, answered, SaidOn, answeredOn, refusedOn, refusing, stateless, Cause, _when_, judge, itself, keeping, NoneHolds}
+use Rattle.models.specs.Answers.{fault, noFault, Said, answered, SaidOn, answeredOn, refusedOn, refusing, stateless, Cause, _when_, judge, judgedMemory, itself, keeping, NoneHolds}
 use Rattle.models.specs.declared.Fault.{Fault}
 use Rattle.models.specs.Limits.{mostValues}
 use Rattle.models.specs.Bound.{boundAllowed, BoundHeld}
@@ -236,6 +236,22 @@ reopening-row-keeps-the-length buf used count k mode value kind bound row hl =
     as-long buf _ (reopenFaceCauses buf used count k mode kind bound row) (λ free. call.reopening-keeps-the-length (boundOf kind bound) (openingOf mode value) hl buf used (countIn mode count) k)
 
 -- where the call behind answers a writer and the row has eleven words: nothing is refused, the row begins with the writer's words, and the buffer is what that call leaves
+module _ (buf row : List ℕ) (words : writerLength ≤ length row) (causes : List Cause) (none : NoneHolds causes) where
+  held : ltb (length row) writerLength ≡ false
+  held = le-ltb (length row) writerLength words
+
+  abbrev with-the-row : List Cause
+  with-the-row = causes ++ (4 when ltb (length row) writerLength ∷ [])
+
+  pub opened-fault : (said : Said MacaqueV) (now : MacaqueV) → said ≡ answered now → judge itself with-the-row (plainFault said) ≡ noFault
+  opened-fault said now opens = one-more itself (plainFault said) causes 4 (ltb (length row) writerLength) none held ∙ ap plainFault opens
+
+  pub opened-row : (said : Said MacaqueV) (now : MacaqueV) → said ≡ answered now → judgedMemory row with-the-row (rowIn writerRow row said) ≡ writerRow now ++ drop (length (writerRow now)) row
+  opened-row said now opens = one-more (keeping row) (rowIn writerRow row said) causes 4 (ltb (length row) writerLength) none held ∙ ap (rowIn writerRow row) opens
+
+  pub opened-buffer : (left : List ℕ) → judgedMemory buf with-the-row left ≡ left
+  opened-buffer left = one-more (keeping buf) left causes 4 (ltb (length row) writerLength) none held
+
 module _ (kind bound mode value : ℕ) (row : List ℕ) (mode-is : mode ≤ 1) (words : writerLength ≤ length row) (buf : List ℕ) (used n k : ℕ) (now : MacaqueV)
     (opens : reopenAnswer buf used n k (openingOf mode value) (boundOf kind bound) ≡ answered now) where
   abbrev said : Said MacaqueV
@@ -247,20 +263,17 @@ module _ (kind bound mode value : ℕ) (row : List ℕ) (mode-is : mode ≤ 1) (
   none : NoneHolds causes
   none = reopened-free buf used n k (openingOf mode value) (boundOf kind bound) now opens
 
-  held : ltb (length row) writerLength ≡ false
-  held = le-ltb (length row) writerLength words
-
   pub reopened-fault : reopenFault buf used n k mode value kind bound row ≡ noFault
   unfolding reopenFault
-  reopened-fault = rw (le-leb mode 1 mode-is) (one-more itself (plainFault said) causes 4 (ltb (length row) writerLength) none held ∙ ap plainFault opens)
+  reopened-fault = rw (le-leb mode 1 mode-is) (opened-fault buf row words causes none said now opens)
 
   pub reopened-row : reopenRow buf used n k mode value kind bound row ≡ writerRow now ++ drop (length (writerRow now)) row
   unfolding reopenRow
-  reopened-row = rw (le-leb mode 1 mode-is) (one-more (keeping row) (rowIn writerRow row said) causes 4 (ltb (length row) writerLength) none held ∙ ap (rowIn writerRow row) opens)
+  reopened-row = rw (le-leb mode 1 mode-is) (opened-row buf row words causes none said now opens)
 
   pub reopened-buffer : reopenBuffer buf used n k mode value kind bound row ≡ reopenMemory buf used n k (openingOf mode value) (boundOf kind bound)
   unfolding reopenBuffer
-  reopened-buffer = rw (le-leb mode 1 mode-is) (one-more (keeping buf) (reopenMemory buf used n k (openingOf mode value) (boundOf kind bound)) causes 4 (ltb (length row) writerLength) none held)
+  reopened-buffer = rw (le-leb mode 1 mode-is) (opened-buffer buf row words causes none (reopenMemory buf used n k (openingOf mode value) (boundOf kind bound)))
 
 module _ (kind bound mode value : ℕ) (row : List ℕ) {xs buf : List ℕ} {m : MacaqueV} (M : Made (boundOf kind bound) (openingOf mode value) xs buf m)
     (hl : openingValue (openingOf mode value) < 2 ^ 32) (bx : Below 32 xs) (ok : boundAllowed (boundOf kind bound) ≡ true)
