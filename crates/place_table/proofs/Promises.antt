@@ -1,7 +1,7 @@
 -- The promises of the calls with a place table, in bytes and words: start reading here. `tableWriteAnswer`, `tableReopenAnswer`, `checkAnswer`, `rangeAnswer`, ..
 -- are what the contracts of the calls say that they answer and leave in lent memory. Each is a promise of the theory's calls (proofs/Calls and
 -- ReadCalls of `places`), in MacaqueV's words. Assumes nothing.
-use mathlib.Core.Path.{_≡_, sym, ap, _∙_, subst}
+use mathlib.Core.Path.{_≡_, refl, sym, ap, _∙_, subst}
 use mathlib.Core.Bool.{Bool, true}
 use mathlib.Core.Logic.{_⊎_}
 use mathlib.Core.List.{List, [], _∷_, _++_}
@@ -10,7 +10,7 @@ use Prim.Native.Nat.{ℕ, _+_, _-_, _*_, _^_, _≤_, _<_}
 use native.Mathlib.Omega.{arith}
 use lib.ListN.{length, take, drop, getElem?, length-append}
 use Rattle.bits.specs.Bits.{Below, bitsOf, wholeBytes}
-use Rattle.models.specs.Answers.{fault, answered, refused, answeredOn, refusedOn, keeping, NoneHolds}
+use Rattle.models.specs.Answers.{fault, answered, refused, answeredOn, refusedOn, verdict, keeping, NoneHolds}
 use Rattle.models.proofs.Judged.{accepted}
 use Rattle.models.specs.Limits.{mostValues}
 use Rattle.models.specs.Bound.{boundAllowed}
@@ -20,6 +20,7 @@ use Rattle.models.specs.declared.Fault.{Fault}
 use Rattle.stream.specs.Format.{macaque, opening, rawNext, State, isRaw}
 use Rattle.stream.specs.Read.{StreamRefusal, done, stopped, readN, readAll}
 use Rattle.stream.specs.Calls.{lentBytes, faultAt, drawn, drawnIn}
+use Rattle.stream.specs.Rescued as rescued
 use Rattle.places.specs.Table.{spacing, Entry, entryOf, entriesFor, entriesIn, noMatch, entryBefore, readsFrom, readsInAll, stateFrom, without, rangeFrom}
 use Rattle.places.specs.Calls.{wordsEach, entriesLent, entryAt, tableIn, MayStart, Beside, MadeByBeside, OwnTable, OwnEntry, RangeAnswers}
 use Rattle.places.proofs.Entries.{asked-for}
@@ -27,19 +28,22 @@ use Rattle.places.proofs.Made.{entry-of-run, run-number}
 use Rattle.places.proofs.Any.{few-before, raw-at-entry}
 use Rattle.places.proofs.Calls as calls
 use Rattle.places.proofs.ReadCalls as reads
+use Rattle.places.proofs.RescueCalls as rescues
 use Rattle.coding.specs.Keep.{keepRule}
 use Rattle.macaque_v.specs.State.{Known, modeOf, streamIn, stateOf, writerOf, isFirst, openingValue, opened}
 use Rattle.macaque_v.specs.Write.{coderOf, coderBy}
 use Rattle.macaque_v.specs.Calls.{newAnswer, writeAnswer, writeMemory}
-use Rattle.macaque_v.specs.Read.{valuesIn, reopenAnswer, reopenMemory}
+use Rattle.macaque_v.specs.Read.{valuesIn, reopenAnswer, reopenMemory, rescueAnswer, rescueMemory}
 use Rattle.macaque_v.specs.Made.{stateOver, keptOf}
+use Rattle.macaque_v.specs.Rescued.{Saves}
 use Rattle.macaque_v.specs.Size.{mostOf}
 use Rattle.macaque_v.specs.declared.MacaqueV.{MacaqueV}
 use Rattle.macaque_v.specs.declared.Opening.{Opening}
 use Rattle.macaque_v.proofs.Accepting as writer
 use Rattle.macaque_v.proofs.Room.{a-stream-has-room}
-use Rattle.place_table.specs.Calls.{tableWriteAnswer, tableWriteMemory, tableWriteTable, tableReopenAnswer, tableReopenMemory, checkAnswer, rangeCauses, rangeAnswer, rangeMemory}
+use Rattle.place_table.specs.Calls.{tableWriteAnswer, tableWriteMemory, tableWriteTable, tableReopenAnswer, tableReopenMemory, tableRescueCauses, tableRescueAnswer, tableRescueMemory, tableRescueTable, checkAnswer, rangeCauses, rangeAnswer, rangeMemory}
 use Rattle.place_table.specs.Made.{tableOver, MadeBeside, writerOver, over, WritesBeside, ReopensBeside, TableResumesAsOne, TableResumes}
+use Rattle.place_table.specs.Rescued.{RescuesBeside, SavesBeside}
 
 -- ---- the table of a stream's inputs
 
@@ -400,3 +404,54 @@ any-table-resumes b o n k used buf words entries ok hl le fits h =
     let r =
     reads.any-table-resumes (coderOf b (isFirst o)) (writer.coder-good b (isFirst o)) (openingValue o) hl n k used buf words entries (writer.no-bound-refuses b ok) le fits h in
     record { writer = writerOf b (isFirst o) (r .state); opens = r .opens; accepts = r .accepts; checks = r .checks }
+
+-- ---- rescue with a table: it is made anew of what arrived
+
+-- what a rescue keeps, as the theory of streams has it
+kept-in-theory : {b : ErrorBound} {o : Opening} {xs : List ℕ} {j : ℕ} {buf : List ℕ} (R : Saves b o xs j buf)
+    → (T : rescued.Saves (coderOf b (isFirst o)) (openingValue o) xs j buf) × (T .number ≡ R .number)
+unfolding writeAnswer writeMemory rescueAnswer rescueMemory
+kept-in-theory {b} {o} R = (
+  record {
+    number = R .number;
+    few = R .few;
+    here = R .here;
+    missing = R .missing;
+    most = R .most;
+    counted = R .counted;
+    answers = R .answers;
+    made = writer.in-theory (R .made);
+    accepts = R .accepts;
+    goesOn = λ ys n h. writer.in-theory (R .goesOn ys n h);
+    anyLimit = R .anyLimit;
+  },
+  refl,
+)
+
+-- of a stream that a fresh writer made and whose first bytes arrived: `Saves` says which inputs are kept (proofs/Promises of `macaque_v`), and beside them stands
+-- the table of one fresh run over these, whatever words are lent for it, if they have room for the entries of all inputs
+pub rescue-keeps-what-arrived-with-a-table : {b : ErrorBound} {o : Opening} {xs : List ℕ} {j : ℕ} {buf : List ℕ} (R : Saves b o xs j buf) → Below 32 xs → openingValue o < 2 ^ 32
+    → boundAllowed b ≡ true → (words : List ℕ) → entriesFor (length xs) ≤ entriesLent (length words) → SavesBeside b o xs j buf words (R .number)
+unfolding tableWriteAnswer tableWriteMemory tableWriteTable tableRescueAnswer tableRescueMemory tableRescueTable
+rescue-keeps-what-arrived-with-a-table {b} {o} {xs} {j} {buf} R bx hl ok words lent =
+    let T = kept-in-theory R in
+    let r = rescues.keeps-what-arrived-with-a-table (coderOf b (isFirst o)) (writer.coder-good b (isFirst o)) (openingValue o) hl (T .0) bx (writer.no-bound-refuses b ok) words lent in
+    subst (SavesBeside b o xs j buf words) (T .1)
+    (record { answers = r .answers; made = by-theory b o (r .made); accepts = r .accepts; goesOn = λ ys n h. by-theory b o (r .goesOn ys n h); anyLimit = r .anyLimit })
+
+-- of any bytes at all
+pub what-is-rescued-with-a-table : (b : ErrorBound) (o : Opening) → openingValue o < 2 ^ 32 → (buf : List ℕ) (used limit : ℕ) (words : List ℕ) (r : Beside MacaqueV)
+    → tableRescueAnswer buf used limit o b (length words) ≡ answered r → RescuesBeside b o limit used buf words r
+unfolding rescueAnswer rescueMemory tableRescueAnswer tableRescueMemory tableRescueTable checkAnswer
+what-is-rescued-with-a-table b o hl buf used limit words r h =
+    let R = rescues.what-is-rescued-with-a-table (coderOf b (isFirst o)) (writer.coder-good b (isFirst o)) (openingValue o) hl buf used limit words r h in
+    record { plain = R .plain; bytes = R .bytes; number = R .number; lent = R .lent; long = R .long; behind = R .behind; checks = R .checks }
+
+-- what is refused: by its causes, or as the plain call refuses the bytes; buffer and words are as they were
+pub a-refused-rescue-changes-nothing : (b : ErrorBound) (o : Opening) → openingValue o < 2 ^ 32 → (buf : List ℕ) (used limit : ℕ) (words : List ℕ) (f : Fault)
+    → tableRescueAnswer buf used limit o b (length words) ≡ refused f
+    → (tableRescueMemory buf used limit o b (length words) ≡ buf) × (tableRescueTable buf used limit o b words ≡ words)
+    × ((verdict (tableRescueCauses b (length buf) used limit (length words)) ≡ refused f)
+    ⊎ ((verdict (tableRescueCauses b (length buf) used limit (length words)) ≡ answered tt) × (rescueAnswer buf used limit o b ≡ refused f)))
+unfolding rescueAnswer tableRescueAnswer tableRescueMemory tableRescueTable
+a-refused-rescue-changes-nothing b o hl = rescues.what-is-refused-with-a-table (coderOf b (isFirst o)) (writer.coder-good b (isFirst o)) (openingValue o) hl
