@@ -148,11 +148,11 @@ a-rescue-told buf used limit o b =
         numbered (inr e) = omega (arith, e, z)
 
 -- the words of the place and of the length
-place-in : (m : MacaqueV) (rest : List ℕ) → placeWord (writerRow m ++ rest) ≡ m .place
+pub place-in : (m : MacaqueV) (rest : List ℕ) → placeWord (writerRow m ++ rest) ≡ m .place
 unfolding writerRow
 place-in m rest = refl
 
-length-in : (m : MacaqueV) (rest : List ℕ) → lengthWord (writerRow m ++ rest) ≡ m .length
+pub length-in : (m : MacaqueV) (rest : List ℕ) → lengthWord (writerRow m ++ rest) ≡ m .length
 unfolding writerRow
 length-in m rest = refl
 

@@ -3,4 +3,5 @@ pub mod Faces
 pub mod Told
 pub mod Promises
 pub mod Sums
+pub mod Rescue
 pub mod Causes

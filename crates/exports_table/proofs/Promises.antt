@@ -252,7 +252,7 @@ module _ (kind bound mode value : ℕ) (row : List ℕ) {xs buf : List ℕ} {m :
       record { opens = r .0; keeps = r .1; accepts = zero; made = a-row-goes-on-with-its-table (r .2) hl ys by (ap (λ (f : Fault). f .number) zero) }
 
 -- "leaves lent memory and state as they were": a refused reopening changes neither the row nor the buffer nor the number; the words never change
-refused-keeps : {X : Type 0} (before after : X) (causes : List Cause) (q : Said (Beside MacaqueV)) → ((f : Fault) → q ≡ refused f → after ≡ before)
+pub refused-keeps : {X : Type 0} (before after : X) (causes : List Cause) (q : Said (Beside MacaqueV)) → ((f : Fault) → q ≡ refused f → after ≡ before)
     → ((judge itself causes (plainFault q)) .number ≡ 0 → ⊥) → judge (keeping before) causes after ≡ before
 unfolding judge
 refused-keeps before after [] (answered r) same h = absurd (h refl)
