@@ -5,8 +5,10 @@ use mathlib.Core.List.{List, [], _∷_, _++_}
 use Prim.Native.Nat.{ℕ}
 use lib.Dec.{ltb}
 use lib.ListN.{length, take}
-use Rattle.models.specs.Answers.{Said, Cause, _when_, judge, judgedMemory, keeping, itself, noFault}
+use Rattle.models.specs.Answers.{Said, Cause, _when_, judge, judgedMemory, verdict, keeping, itself, noFault}
+use Rattle.models.specs.Calls.{saysVerdict}
 use Rattle.models.specs.declared.Fault.{Fault}
+use Rattle.models.specs.declared.Verdict.{Verdict}
 use Rattle.models.specs.declared.ErrorBound.{ErrorBound}
 use Rattle.places.specs.Calls.{Beside}
 use Rattle.places.specs.Table.{entriesFor}
@@ -22,6 +24,10 @@ use Rattle.exports_stream.specs.Tabled.{entriesAfter, tableWriteFault, tableWri
 -- the words of a state as it is handed out
 abbrev pub besideRow : Beside MacaqueV → List ℕ
 besideRow a = writerRow (a .writer)
+
+-- a verdict on some causes, and behind them 4 for a row that cannot hold a state
+abbrev pub RowJudged : Verdict → ℕ → Verdict → Type 0
+RowJudged judged rowWords r = (causes : List Cause) → saysVerdict judged ≡ verdict causes → saysVerdict r ≡ verdict (causes ++ (4 when ltb rowWords writerLength ∷ []))
 
 -- ---- reopen: 1, 3, 12, 13, then 4 for the row, and only then what the stream gives. Till then the buffer is untouched.
 

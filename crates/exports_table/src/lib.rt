@@ -6,7 +6,7 @@
 ghost use mathlib.Core.Path.{_≡_};
 ghost use Rattle.models.specs.Answers.{verdict};
 ghost use Rattle.models.specs.Calls.{saysVerdict};
-ghost use Rattle.exports_table.specs.Calls.{tableReopenCausesWith, tableReopenFault, tableReopenRow, tableReopenBuffer, tableReopenEntries};
+ghost use Rattle.exports_table.specs.Calls.{RowJudged, tableReopenCausesWith, tableReopenFault, tableReopenRow, tableReopenBuffer, tableReopenEntries};
 ghost use Rattle.exports_table.specs.Rescue.{tableRescueCausesWith, tableRescueFault, tableRescueRow, tableRescueBuffer, tableRescueWords, tableRescueEntries};
 ghost use Rattle.exports_table.specs.Calls.{tableCheckFault, tableRangeFault, tableRangeOut};
 use exports_stream::row;
@@ -156,14 +156,8 @@ fn judge_rescue(
 ) -> Verdict
     ensures { λ r. ⌜ saysVerdict r ≡ verdict (tableRescueCausesWith «error_bound» room used limit words «row_words») ⌝ }
 {
-    match place_table::judge_rescue(error_bound, room, used, limit, words) {
-        Verdict::Refused(r) => Verdict::Refused(r),
-        Verdict::Passed => models::when(
-            Refusal::OutputTooShort,
-            row_words < row::WORDS,
-            Verdict::Passed,
-        ),
-    }
+    let judged = place_table::judge_rescue(error_bound, room, used, limit, words);
+    judge_row(judged, row_words)
 }
 
 // What is judged before the buffer is touched.
@@ -179,7 +173,15 @@ fn judge_reopen(
 ) -> Verdict
     ensures { λ r. ⌜ saysVerdict r ≡ verdict (tableReopenCausesWith «error_bound» room used count k words entries «row_words») ⌝ }
 {
-    match place_table::judge_reopen(error_bound, room, used, count, k, words, entries) {
+    let judged = place_table::judge_reopen(error_bound, room, used, count, k, words, entries);
+    judge_row(judged, row_words)
+}
+
+// Behind the causes that were judged: the words of the row.
+fn judge_row(judged: Verdict, row_words: usize) -> Verdict
+    ensures { λ r. ⌜ RowJudged judged «row_words» r ⌝ }
+{
+    match judged {
         Verdict::Refused(r) => Verdict::Refused(r),
         Verdict::Passed => models::when(
             Refusal::OutputTooShort,
