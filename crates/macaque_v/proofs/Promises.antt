@@ -30,7 +30,7 @@ use Rattle.macaque_v.specs.Write.{coderOf, coderBy}
 use Rattle.macaque_v.specs.Calls.{newAnswer, writeAnswer, writeMemory}
 use Rattle.macaque_v.specs.Read.{valuesIn, gridAnswer, gridMemory, reopenAnswer, reopenMemory, rescueCauses, rescueAnswer, rescueMemory}
 use Rattle.macaque_v.specs.Made.{stateOver, keptOf, Made, ResumesAsOne, Resumes}
-use Rattle.macaque_v.specs.Rescued.{writerBehind, Saves, Rescues}
+use Rattle.macaque_v.specs.Rescued.{writerBehind, Saves, ReopensWhole, Rescues}
 use Rattle.macaque_v.specs.declared.MacaqueV.{MacaqueV}
 use Rattle.macaque_v.specs.declared.Opening.{Opening}
 use Rattle.macaque_v.specs.declared.Opening.the-variants.{On}
@@ -177,6 +177,24 @@ pub rescued-as-one-run : {b : ErrorBound} {o : Opening} {xs : List ℕ} {j : ℕ
     → (writeAnswer (writerBehind b o xs (R .number)) ys (rescueMemory buf j (length xs) o b) ≡ answeredOn (writerOf b (isFirst o) (stateOver b o (take (R .number) xs ++ ys))))
     × Made b o (take (R .number) xs ++ ys) (writeMemory (writerBehind b o xs (R .number)) ys (rescueMemory buf j (length xs) o b)) (writerOf b (isFirst o) (stateOver b o (take (R .number) xs ++ ys)))
 rescued-as-one-run R ys few room = let a = R .accepts ys few room in (a, R .goesOn ys _ a)
+
+-- of any accepted stream, even one that this writer would not write, it is reopening the whole one at the last value that arrived
+pub rescue-reopens-what-arrived : (b : ErrorBound) (o : Opening) → boundAllowed b ≡ true → openingValue o < 2 ^ 32 → (n : ℕ) (all vs : List ℕ) → valuesIn all n o ≡ answered vs → n ≤ mostValues
+    → (j : ℕ) → j ≤ length all → (buf : List ℕ) → take j buf ≡ take j all → ReopensWhole b o n all j buf
+unfolding rescueAnswer reopenAnswer
+rescue-reopens-what-arrived b o ok hl n all vs h few j within buf same =
+    let r = rescuing.reopens-what-arrived (coderOf b (isFirst o)) (coder-good b (isFirst o)) (openingValue o) hl n all vs h (no-bound-refuses b ok) few j within buf same in
+    record {
+      number = r .number;
+      writer = writerOf b (isFirst o) (r .state);
+      few = r .few;
+      counted = r .counted;
+      answers = r .answers;
+      opens = r .opens;
+      here = r .here;
+      most = r .most;
+      anyLimit = r .anyLimit;
+    }
 
 -- the limit matters only to an upload that arrived whole: where an input is missing, every limit from the number kept on gives the same
 pub any-limit-where-a-value-is-missing : {b : ErrorBound} {o : Opening} {xs : List ℕ} {j : ℕ} {buf : List ℕ} (R : Saves b o xs j buf) → R .number < length xs

@@ -41,6 +41,19 @@ pub record Saves (b : ErrorBound) (o : Opening) (xs : List ℕ) (j : ℕ) (buf :
   pub anyLimit : number < length xs → (i : ℕ) → number ≤ i → i ≤ mostValues
       → (rescueAnswer buf j i o b ≡ rescueAnswer buf j (length xs) o b) × (rescueMemory buf j i o b ≡ rescueMemory buf j (length xs) o b)
 
+-- Of an accepted stream of n values, `all`, whoever wrote it, the first j bytes arrived, and stand at the front of buf. The writer is the one that reopening the
+-- whole stream at the last value that arrived answers. Where a value is missing, so it is with every limit from the number kept on.
+pub record ReopensWhole (b : ErrorBound) (o : Opening) (n : ℕ) (all : List ℕ) (j : ℕ) (buf : List ℕ) : Type 0 where
+  pub number : ℕ
+  pub writer : MacaqueV
+  pub few : number ≤ n
+  pub counted : writer .length ≡ number
+  pub answers : rescueAnswer buf j n o b ≡ answered writer
+  pub opens : reopenAnswer all (length all) n number o b ≡ answered writer
+  pub here : writer .place ≤ 8 * j
+  pub most : (k : ℕ) → k ≤ n → (m : MacaqueV) → reopenAnswer all (length all) n k o b ≡ answered m → m .place ≤ 8 * j → k ≤ number
+  pub anyLimit : number < n → (i : ℕ) → number ≤ i → i ≤ mostValues → rescueAnswer buf j i o b ≡ answered writer
+
 -- Of any bytes at all: m is answered where the first `used` bytes of buf are rescued. `values` were read in them, as many as the limit or up to where the bytes
 -- end inside the next one. What is left reads as these, and reopened at their number it answers the same writer, and stays as it is: so all that is promised
 -- of an accepted stream that is reopened holds of it.

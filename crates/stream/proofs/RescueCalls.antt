@@ -9,7 +9,7 @@ use native.Mathlib.Omega.{arith}
 use borrow.Author.Tests.{le-ltb, ltb-false}
 use lib.Dec.{ltb}
 use lib.ListN.{length, take, replicate, length-take}
-use lib.Seq.{length-take-le, take-take}
+use lib.Seq.{length-take-le, take-take, take-all}
 use Rattle.bits.specs.Bits.{Below, bitsOf, bytesOf, wholeBytes, padding, padded, cutIn}
 use Rattle.bits.proofs.Below.{below-nil, below-take}
 use Rattle.bits.proofs.Bytes.{bits-front}
@@ -24,11 +24,11 @@ use Rattle.stream.specs.Read.{StreamRefusal, Reading, done, stopped, rea
 use Rattle.stream.specs.Rescue.{readWhole, rescue}
 use Rattle.stream.specs.Calls.{Coder, faultAt, valuesRead, valuesIn, reopening, rescuing, writeAnswer, writeMemory, reopenCauses, reopenAnswer, reopenMemory, resumed, rescueCauses, rescueAnswer, rescueMemory}
 use Rattle.stream.specs.Made.{Made, MadeBy, stateOver}
-use Rattle.stream.specs.Rescued.{ReopensWhole, Saves, Rescues, MeetsDamage}
+use Rattle.stream.specs.Rescued.{ReopensWhole, ReopensWholeBy, Saves, Rescues, MeetsDamage}
 use Rattle.stream.specs.Needs.{GoodCoder}
 use Rattle.stream.proofs.Writing.{count-after, length-kept}
 use Rattle.stream.proofs.AnyStream.{cut-left}
-use Rattle.stream.proofs.Reopen.{ended-inv, goes-on}
+use Rattle.stream.proofs.Reopen.{ended-inv, any-opened, goes-on}
 use Rattle.stream.proofs.Made as spine
 use Rattle.stream.proofs.Broken.{place-within}
 use Rattle.stream.proofs.Rescue.{Arrived, ArrivedOf, arrived, damaged, rescue-whole, cut-off}
@@ -149,6 +149,45 @@ module _ {A W : Type 0} (C : Coder A W) (good : GoodCoder C) (l : ℕ) where
                     let q = by-the-stream buf j i (reopened t) free most fits (finds i (K .anyLimit lt i le)) in
                     (q .0 ∙ sym (r .0), q .1 ∙ sym (r .1));
               }
+
+    -- ---- an accepted stream, whoever wrote it, of which the first j bytes arrived
+
+    pub reopens-what-arrived : (n : ℕ) (all vs : List ℕ) → valuesIn S l all n ≡ answered vs → NoneHolds (C .first) → n ≤ mostValues
+        → (j : ℕ) → j ≤ length all → (buf : List ℕ) → take j buf ≡ take j all → ReopensWholeBy C l n all j buf
+    reopens-what-arrived n all vs h free few j within buf same =
+        let w = read-whole (readAll S n (fresh S l) (bitsOf all)) vs h in
+        go (cut-off S (good .format) l hl n all vs (w .0) (w .1) (w .2) j within)
+      where
+        whole : take (length all) all ≡ all
+        whole = take-all (length all) all (omega arith)
+
+        lent : j ≤ length buf
+        lent = omega (arith, ap length same, length-take j buf, length-take-le j all within)
+
+        opens-at : (k : ℕ) → k ≤ n → (t : State A) → reopen S n k (fresh S l) (bitsOf all) ≡ reopened t → reopenAnswer C l all (length all) n k ≡ answered (C .hold t)
+        opens-at k le t e =
+            opens-on C good l all (length all) n k t free few le (omega arith) (ap (λ (z : List ℕ). reopen S n k (fresh S l) (bitsOf z)) whole ∙ e) .0
+
+        go : ReopensWhole S l n all j → ReopensWholeBy C l n all j buf
+        go K =
+            let finds : (i : ℕ) → rescue S i (fresh S l) (bitsOf (take j all)) ≡ reopened (K .state) → rescuing S l (take j buf) i ≡ reopened (K .state) =
+            λ i e. ap (λ (z : List ℕ). rescue S i (fresh S l) (bitsOf z)) same ∙ e in
+            record {
+              number = K .number;
+              state = K .state;
+              few = K .few;
+              counted = K .counted;
+              answers = by-the-stream buf j n (reopened (K .state)) free few lent (finds n (K .answers)) .0;
+              opens = opens-at (K .number) (K .few) (K .state) (K .opens);
+              here = K .here;
+              most = λ k le m e at.
+                  let w = read-whole (readAll S n (fresh S l) (bitsOf all)) vs h in
+                  let o = any-opened S (good .format) l hl n k le (bitsOf all) vs (w .0) (w .1) (w .2) in
+                  let is : C .hold (o .state) ≡ m = same-answer (sym (opens-at k le (o .state) (o .opens)) ∙ e) in
+                  let held : C .state m ≡ o .state = ap (C .state) (sym is) ∙ good .holds (o .state) in
+                  K .most k le (o .state) (o .opens) (subst (λ (z : State A). z .place ≤ 8 * j) held at);
+              anyLimit = λ lt i le most. by-the-stream buf j i (reopened (K .state)) free most lent (finds i (K .anyLimit lt i le)) .0;
+            }
 
     -- ---- any bytes at all
 

@@ -27,6 +27,19 @@ pub record ReopensWhole {A : Type 0} (S : Stream A) (l n : ℕ) (all : List ℕ)
   pub most : (k : ℕ) → k ≤ n → (t : State A) → reopen S n k (fresh S l) (bitsOf all) ≡ reopened t → t .place ≤ 8 * j → k ≤ number
   pub anyLimit : number < n → (i : ℕ) → number ≤ i → rescue S i (fresh S l) (bitsOf (take j all)) ≡ reopened state
 
+-- The same of the call: of an accepted stream of n values, `all`, the first j bytes arrived, and stand at the front of buf. The writer is the one that reopening the
+-- whole stream at the last value that arrived answers, with the same bound.
+pub record ReopensWholeBy {A W : Type 0} (C : Coder A W) (l n : ℕ) (all : List ℕ) (j : ℕ) (buf : List ℕ) : Type 0 where
+  pub number : ℕ
+  pub state : State A
+  pub few : number ≤ n
+  pub counted : state .count ≡ number
+  pub answers : rescueAnswer C l buf j n ≡ answered (C .hold state)
+  pub opens : reopenAnswer C l all (length all) n number ≡ answered (C .hold state)
+  pub here : state .place ≤ 8 * j
+  pub most : (k : ℕ) → k ≤ n → (m : W) → reopenAnswer C l all (length all) n k ≡ answered m → (C .state m) .place ≤ 8 * j → k ≤ number
+  pub anyLimit : number < n → (i : ℕ) → number ≤ i → i ≤ mostValues → rescueAnswer C l buf j i ≡ answered (C .hold state)
+
 -- Of a stream that a fresh writer made of xs the first j bytes arrived, and stand at the front of buf. Rescued with the number of its inputs for a limit:
 -- `number` inputs are kept, those whose bits all arrived, and no others; the writer is the one that had written just these, and the bytes in use are those
 -- of one fresh run over them. Any further list that room and count limit allow is accepted, and goes on as that run would. Where an input is missing, every
