@@ -4,7 +4,7 @@ use mathlib.Core.Path.{_≡_, refl, sym, ap, ap₂, _∙_, subst}
 use mathlib.Core.Bool.{true, false}
 use mathlib.Core.List.{List, [], _∷_, _++_}
 use mathlib.Core.Logic.{_⊎_, inl, inr}
-use Prim.Native.Nat.{ℕ, _+_, _*_, _^_, _≤_, _<_}
+use Prim.Native.Nat.{ℕ, _+_, _^_, _≤_, _<_}
 use native.Mathlib.Omega.{arith}
 use borrow.Author.Tests.{le-leb, lt-leb, ltb-false}
 use lib.Dec.{ltb}
@@ -12,13 +12,12 @@ use lib.ListN.{length, take, drop}
 use lib.Seq.{length-take-le}
 use Rattle.bits.specs.Bits.{Below, bitsOf, wholeBytes}
 use Rattle.bits.proofs.Below.{below-take, below-append}
-use Rattle.models.specs.Answers.{fault, noFault, Said, answered, refused, answeredOn, Cause, _when_, judge, itself, keeping, NoneHolds}
+use Rattle.models.specs.Answers.{fault, noFault, Said, answered, refused, Cause, _when_, judge, itself, keeping, NoneHolds}
 use Rattle.models.specs.declared.Fault.{Fault}
 use Rattle.models.specs.Limits.{mostValues}
 use Rattle.models.specs.Bound.{boundAllowed}
 use Rattle.models.specs.declared.ErrorBound.{ErrorBound}
 use Rattle.models.proofs.Judged.{answered-only}
-use Rattle.models.proofs.Judged as judging
 use Rattle.stream.specs.Format.{Stream}
 use Rattle.stream.specs.Read.{Reading, done, stopped, stateRead}
 use Rattle.stream.specs.Rescue.{readWhole}
@@ -30,7 +29,7 @@ use Rattle.macaque_v.specs.State.{Known, streamIn, writerOf, isFirst, openingVa
 use Rattle.macaque_v.specs.Write.{coderOf}
 use Rattle.macaque_v.specs.Calls.{writeAnswer}
 use Rattle.macaque_v.specs.Read.{valuesIn, rescueCauses, rescueAnswer, rescueMemory}
-use Rattle.macaque_v.specs.Made.{stateOver, Made}
+use Rattle.macaque_v.specs.Made.{Made}
 use Rattle.macaque_v.specs.Rescued.{writerBehind, Saves, Rescues}
 use Rattle.macaque_v.specs.declared.MacaqueV.{MacaqueV}
 use Rattle.macaque_v.specs.declared.Opening.{Opening}
@@ -38,7 +37,7 @@ use Rattle.macaque_v.proofs.Promises as call
 use Rattle.exports.specs.Face.{boundOf, plainFault, rowIn, stepFault}
 use Rattle.exports.proofs.Back.{bound-of-held}
 use Rattle.exports_stream.specs.Row.{writerLength, writerRow, writerIn, placeWord, lengthWord}
-use Rattle.exports_stream.specs.Calls.{openingOf, countIn, writeFault, reopenFault, reopenRow, reopenBuffer, gridFault, gridOut, RowMade, RowSumsAsTheCall}
+use Rattle.exports_stream.specs.Calls.{openingOf, countIn, reopenFault, reopenRow, reopenBuffer, gridFault, gridOut, RowMade, RowSumsAsTheCall}
 use Rattle.exports_stream.specs.Rescue.{rescueFaceCauses, rescueSaid, rescueFault, rescueRow, rescueBuffer, RowSaves, RowRescues}
 use Rattle.exports_stream.proofs.Numbers.{judged-so}
 use Rattle.exports_stream.proofs.Promises.{row-made, made-row, length-word, a-row-goes-on, opened-fault, opened-row, opened-buffer, reopened-fault, reopened-row, reopened-buffer}

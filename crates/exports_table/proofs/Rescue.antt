@@ -3,7 +3,7 @@ use mathlib.Core.Path.{_≡_, refl, sym, ap, ap₂, _∙_, subst}
 use mathlib.Core.Bool.{true, false}
 use mathlib.Core.List.{List, _++_}
 use mathlib.Core.Logic.{_⊎_, inl, inr}
-use Prim.Native.Nat.{ℕ, _+_, _*_, _^_, _≤_, _<_}
+use Prim.Native.Nat.{ℕ, _+_, _^_, _≤_, _<_}
 use native.Mathlib.Omega.{arith}
 use borrow.Author.Tests.{le-ltb, le-leb, lt-leb, ltb-false}
 use lib.Dec.{ltb}
@@ -11,8 +11,7 @@ use lib.ListN.{length, take, drop}
 use lib.Seq.{length-take-le}
 use Rattle.bits.specs.Bits.{Below, bitsOf, wholeBytes}
 use Rattle.bits.proofs.Below.{below-take, below-append}
-use Rattle.models.specs.Answers.{fault, noFault, Said, answered, refused, SaidOn, Cause, _when_, judge, itself, keeping, NoneHolds}
-use Rattle.models.specs.declared.Fault.{Fault}
+use Rattle.models.specs.Answers.{fault, noFault, Said, answered, refused, Cause, judge, itself, keeping, NoneHolds}
 use Rattle.models.specs.Limits.{mostValues}
 use Rattle.models.specs.Bound.{boundAllowed}
 use Rattle.models.specs.declared.ErrorBound.{ErrorBound}
@@ -30,15 +29,15 @@ use Rattle.macaque_v.specs.Rescued.{Saves}
 use Rattle.macaque_v.specs.declared.MacaqueV.{MacaqueV}
 use Rattle.macaque_v.specs.declared.Opening.{Opening}
 use Rattle.macaque_v.proofs.Promises.{rescue-keeps-what-arrived}
-use Rattle.place_table.specs.Calls.{tableWriteAnswer, tableRescueCauses, tableRescueAnswer, tableRescueMemory, tableRescueTable, checkAnswer}
-use Rattle.place_table.specs.Made.{MadeBeside, writerOver, over}
+use Rattle.place_table.specs.Calls.{tableWriteAnswer, tableRescueCauses, tableRescueAnswer, tableRescueMemory, tableRescueTable}
+use Rattle.place_table.specs.Made.{MadeBeside, over}
 use Rattle.place_table.specs.Rescued.{RescuesBeside, SavesBeside}
 use Rattle.place_table.proofs.Promises as call
 use Rattle.exports.specs.Face.{boundOf, plainFault, rowIn, stepFault}
 use Rattle.exports.proofs.Back.{bound-of-held}
 use Rattle.exports_stream.specs.Row.{writerLength, writerRow, placeWord, lengthWord}
-use Rattle.exports_stream.specs.Calls.{openingOf, countIn, RowMade}
-use Rattle.exports_stream.specs.Tabled.{entriesAfter, tableWriteFault}
+use Rattle.exports_stream.specs.Calls.{openingOf, countIn}
+use Rattle.exports_stream.specs.Tabled.{entriesAfter}
 use Rattle.exports_stream.proofs.Numbers.{judged-so}
 use Rattle.exports_stream.proofs.Promises.{row-made, one-more}
 use Rattle.exports_stream.proofs.Rescue.{place-in, length-in, rescued-fault, rescued-row, rescued-buffer}

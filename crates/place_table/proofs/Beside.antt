@@ -1,23 +1,21 @@
 -- The plain calls beneath those with a table: what nothing refuses there, and what they answer. Assumes nothing.
 use mathlib.Core.Path.{_≡_, refl}
-use mathlib.Core.Bool.{Bool, not}
+use mathlib.Core.Bool.{Bool}
 use mathlib.Core.List.{List}
 use Prim.Native.Nat.{ℕ, _+_, _*_, _^_, _≤_, _<_}
-use native.Mathlib.Omega.{arith}
 use borrow.Author.Tests.{ltb-false, eqb-true, not-false}
-use lib.Dec.{ltb, eqb}
+use lib.Dec.{ltb}
 use lib.ListN.{length}
-use Rattle.models.specs.Answers.{Said, answered, refused, NoneHolds, verdict}
+use Rattle.models.specs.Answers.{NoneHolds}
 use Rattle.models.specs.Limits.{mostValues}
 use Rattle.models.specs.declared.ErrorBound.{ErrorBound}
-use Rattle.models.specs.declared.Fault.{Fault}
-use Rattle.models.proofs.Judged.{passed, not-answered, not-refused, same-answer, same-fault}
+use Rattle.models.proofs.Judged.{passed}
 use Rattle.models.proofs.Tests.{neither}
 use Rattle.stream.specs.Calls.{lentBytes}
 use Rattle.stream.specs.Read.{Reopened, reopened, unopened}
 use Rattle.places.specs.Table.{entriesFor}
 use Rattle.places.specs.Calls as theory
-use Rattle.places.specs.Calls.{Beside, entriesLent}
+use Rattle.places.specs.Calls.{entriesLent}
 use Rattle.macaque_v.specs.State.{Known}
 use Rattle.macaque_v.specs.Write.{wroteBy, coderOf}
 use Rattle.macaque_v.specs.Calls.{writeCauses}

@@ -22,12 +22,12 @@ use Rattle.stream.specs.Read.{done, readN, readAll, Reopened, reopened, unopene
 use Rattle.stream.specs.Calls.{Coder, rescuing, rescueCauses, rescueAnswer, rescueMemory, resumed}
 use Rattle.stream.specs.Made.{MadeBy, stateOver}
 use Rattle.stream.specs.Rescued.{Saves, Rescues}
-use Rattle.stream.specs.Needs.{Good, GoodCoder}
+use Rattle.stream.specs.Needs.{GoodCoder}
 use Rattle.stream.proofs.AnyStream.{cut-left}
 use Rattle.stream.proofs.Calls.{split, joined, in-theory}
 use Rattle.stream.proofs.RescueCalls.{rescue-says, by-the-stream, cut-reads, what-is-rescued}
 use Rattle.places.specs.Table.{Entry, entriesFor, entries, entriesIn, MadeBeside, tableOf}
-use Rattle.places.specs.Calls.{wordsEach, entriesLent, tableIn, laidEntries, Beside, resumedBeside, tableWriteAnswer, tableWriteMemory, tableWriteTable, checkAnswer, MadeByBeside, OwnTable, over}
+use Rattle.places.specs.Calls.{wordsEach, entriesLent, tableIn, laidEntries, Beside, resumedBeside, checkAnswer, MadeByBeside, OwnTable, over}
 use Rattle.places.specs.Rescue.{tableRescueCauses, tableAnew, tableRescueAnswer, tableRescueMemory, tableRescueTable, RescuesBeside, SavesBeside}
 use Rattle.places.proofs.Entries.{own-number}
 use Rattle.places.proofs.Words.{laid-behind, laid-table, laid-length}

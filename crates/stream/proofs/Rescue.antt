@@ -3,19 +3,19 @@
 use mathlib.Core.Path.{_≡_, refl, sym, ap, _∙_, subst}
 use mathlib.Core.Logic.{_⊎_, inl, inr, ⊎-elim}
 use mathlib.Core.Bool.{Bool, true, false, cond}
-use mathlib.Core.List.{List, [], _∷_, _++_, append-nil}
+use mathlib.Core.List.{List, [], _++_, append-nil}
 use Prim.Native.Nat.{ℕ, zero, suc, _+_, _-_, _*_, _^_, _≤_, _<_}
 use native.Mathlib.Nat.{eq-or-lt-of-le}
 use native.Mathlib.Omega.{arith}
 use borrow.Author.Tests.{eqb-true, eqb-false, ne-eqb}
 use lib.Dec.{eqb}
-use lib.ListN.{length, take, drop, length-append, take-append-drop}
+use lib.ListN.{length, take, drop, take-append-drop}
 use lib.Seq.{take-append-le}
 use Rattle.bits.specs.Bits.{bitsOf}
-use Rattle.bits.proofs.Bytes.{bits-append, bits-front, length-bitsOf}
+use Rattle.bits.proofs.Bytes.{bits-append, bits-front}
 use Rattle.models.proofs.Tests.{never}
-use Rattle.stream.specs.Format.{Window, Stream, State, fresh, isRaw, advance}
-use Rattle.stream.specs.Read.{Step, got, halt, StreamRefusal, Reading, done, stopped, push, follow, stepAt, readN, ended, readAll, Reopened, reopened, unopened, stateRead, checked, reopen}
+use Rattle.stream.specs.Format.{Stream, State, fresh, isRaw, advance}
+use Rattle.stream.specs.Read.{Step, got, halt, StreamRefusal, Reading, done, stopped, push, follow, stepAt, readN, ended, readAll, reopened, unopened, stateRead, checked, reopen}
 use Rattle.stream.specs.Rescue.{endsBefore, followWhole, readWhole, rescue}
 use Rattle.stream.specs.Rescued.{ReopensWhole}
 use Rattle.stream.specs.Needs.{Good}

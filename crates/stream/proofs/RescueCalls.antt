@@ -14,24 +14,23 @@ use Rattle.bits.specs.Bits.{Below, bitsOf, bytesOf, wholeBytes, padding, padded
 use Rattle.bits.proofs.Below.{below-nil, below-take}
 use Rattle.bits.proofs.Bytes.{bits-front}
 use Rattle.bits.proofs.InBytes.{length-cutIn, cutIn-used, cutIn-again, take-bits}
-use Rattle.models.specs.Answers.{Said, answered, refused, answeredOn, Cause, _when_, judge, verdict, keeping, NoneHolds}
+use Rattle.models.specs.Answers.{answered, refused, Cause, _when_, judge, verdict, keeping, NoneHolds}
 use Rattle.models.specs.declared.Fault.{Fault}
-use Rattle.models.proofs.Judged.{not-answered, not-refused, same-answer, same-fault, answered-only, passed}
+use Rattle.models.proofs.Judged.{not-answered, not-refused, same-answer, same-fault, answered-only}
 use Rattle.models.proofs.Judged as judging
 use Rattle.stream.specs.Format.{Format, Stream, State, fresh, mostValues}
-use Rattle.stream.specs.Write.{keptFrom, kept, encode, after, streamOf}
-use Rattle.stream.specs.Read.{StreamRefusal, Reading, done, stopped, readN, readAll, Reopened, reopened, unopened, stateRead, checked, reopen, bufferAfter}
+use Rattle.stream.specs.Write.{keptFrom, kept, encode, after}
+use Rattle.stream.specs.Read.{Reading, done, stopped, readN, readAll, Reopened, reopened, unopened, stateRead, checked, reopen, bufferAfter}
 use Rattle.stream.specs.Rescue.{readWhole, rescue}
-use Rattle.stream.specs.Calls.{Coder, faultAt, valuesRead, valuesIn, reopening, rescuing, writeAnswer, writeMemory, reopenCauses, reopenAnswer, reopenMemory, resumed, rescueCauses, rescueAnswer, rescueMemory}
+use Rattle.stream.specs.Calls.{Coder, faultAt, valuesRead, valuesIn, reopening, rescuing, reopenCauses, reopenAnswer, reopenMemory, resumed, rescueCauses, rescueAnswer, rescueMemory}
 use Rattle.stream.specs.Made.{Made, MadeBy, stateOver}
 use Rattle.stream.specs.Rescued.{ReopensWhole, ReopensWholeBy, Saves, Rescues, MeetsDamage}
 use Rattle.stream.specs.Needs.{GoodCoder}
-use Rattle.stream.proofs.Writing.{count-after, length-kept}
 use Rattle.stream.proofs.AnyStream.{cut-left}
 use Rattle.stream.proofs.Reopen.{ended-inv, any-opened, goes-on}
 use Rattle.stream.proofs.Made as spine
 use Rattle.stream.proofs.Broken.{place-within}
-use Rattle.stream.proofs.Rescue.{Arrived, ArrivedOf, arrived, damaged, rescue-whole, cut-off}
+use Rattle.stream.proofs.Rescue.{ArrivedOf, arrived, damaged, rescue-whole, cut-off}
 use Rattle.stream.proofs.Calls.{split, joined, read-whole, in-theory, by-theory, opens-on, a-write-goes-on, a-write-is-accepted}
 
 -- the causes of a rescue are those of a reopening at the limit

@@ -1,12 +1,9 @@
 -- `exports_table::judge_row` meets its contract. Assumes nothing.
 use borrow.Author.Needs.{needs}
 use mathlib.Core.Path.{sym, ap, _∙_}
-use mathlib.Core.List.{[], _∷_}
-use lib.Dec.{ltb}
 use Rattle.models.specs.Answers.{_when_, judge}
 use Rattle.models.specs.Calls.{saysVerdict}
 use Rattle.models.proofs.Judged.{refused-first, passed-first}
-use Rattle.exports_stream.specs.Row.{writerLength}
 use Rattle.exports_table.proofs.judge_row.Statement.{statement}
 use Rattle.exports_table.proofs.judge_row.Tie as tie
 
