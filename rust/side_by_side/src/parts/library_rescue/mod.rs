@@ -4,6 +4,7 @@
 mod causes;
 mod cuts;
 mod damaged;
+mod others;
 mod safe;
 mod upload;
 
@@ -21,6 +22,7 @@ use oracle::paper::rescue::Rescue;
 pub fn rescue(context: &mut Context) {
     cuts::cuts(context);
     damaged::damaged(context);
+    others::others(context);
     causes::causes(context);
 }
 
