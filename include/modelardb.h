@@ -201,13 +201,14 @@ modelardb_fault modelardb_macaque_v_reopen(uint8_t *buffer, size_t buffer_length
  * them in the byte that they end in become 0, and no other byte changes. A value that is cut, stale bits and further
  * bytes behind them are no refusal: there is no 5 and no 8.
  *
- * Give the count of the upload as the limit: then what is kept of a stream that was cut at any byte are the values
- * that arrived whole, and the row is that of the writer behind them. Where a value is missing, every limit from the
+ * used is how many bytes arrived, not the buffer's length: zeros behind them would be read as values. Give as the
+ * limit how many values the bytes that were sent hold: then what is kept of a stream that was cut at any byte are the
+ * values that arrived whole, and the row is that of the writer behind them. Where a value is missing, every limit from the
  * number kept on answers the same. Where none is, a larger one may take padding for a value, or for damage: on 1.0,
  * FE 0C is one value, and with a limit above 1 two; 80 is one repeat, and with a limit above 1 refused with 6. Bytes
  * that are missing in between, or altered, are seen only where 6 or 7 says so: compare a checksum of what arrived
  * first. Refusals: 1; 3 (mode, or limit above 65,536); 12 (used above the buffer's length); 4 (a row under eleven
- * words); then 6 and 7 with value and place: damage, and no cut. */
+ * words); then 6 and 7 with value and place: damage, or a limit above the count. */
 modelardb_fault modelardb_macaque_v_rescue(uint8_t *buffer, size_t buffer_length, size_t used, size_t limit,
                                            uint32_t mode, uint32_t opening, uint32_t kind, uint32_t bound,
                                            uint64_t *state, size_t state_length);

@@ -170,20 +170,22 @@ impl MacaqueV {
     /// these are. The bits behind them are zeroed in the byte that they end in, and no other byte changes. What remains
     /// there, a value that is cut, stale bits or further bytes, is no refusal. A refusal leaves the buffer as it was.
     ///
-    /// **Give the count of the upload as the limit.** Then of a stream that was cut at any byte the values are kept
-    /// that arrived whole, the writer is the one that had written these, and what is written on has the bytes and the
+    /// `used` is how many bytes arrived, not how long the buffer is: zeros behind them would be read as values.
+    /// **Give as the limit how many values the bytes that were sent hold**, not how many the night will have. Then
+    /// of a stream that was cut at any byte the values are kept that arrived whole, the writer is the one that had written these, and what is written on has the bytes and the
     /// state of one run. Where a value is missing, every limit from the number kept on answers the same. Where none is,
     /// a larger limit may take the padding of the last byte for a value, or for damage.
     ///
     /// It cannot see that bytes are missing in between, or were changed, unless the codes no longer come out: let a
-    /// checksum say first that what arrived is the beginning of what was sent. And go on with values, not with the rest
-    /// of the old bytes, since the first bits of a value that is cut may be gone then: keep a copy where those may come.
+    /// checksum say first that what arrived is the beginning of what was sent. And go on with the values as they were
+    /// measured, not with the rest of the old bytes, since the first bits of a value that is cut may be gone then: keep
+    /// a copy where those may come.
     ///
     /// # Errors
     ///
     /// [`Refusal::BoundNotAllowed`]; [`Refusal::OverLimit`] for a limit above 65,536; [`Refusal::CountsDisagree`] for
     /// a `used` above the buffer's length; then [`Refusal::NoWindow`] or [`Refusal::WindowNotAllowed`], with the place,
-    /// where the bytes hold what no writer makes: that is damage, and no cut.
+    /// where the bytes hold what no writer makes: damage, or a limit above the count.
     ///
     /// ```
     /// use modelardb_rattle::{ErrorBound, MacaqueV, Opening, Refusal};
@@ -326,7 +328,8 @@ impl MacaqueV {
         self.row[8] as usize
     }
 
-    /// How many bytes of the buffer the stream takes.
+    /// How many bytes of the buffer the stream takes. While it is written only the first `place() / 8` of them are
+    /// final: the next value still changes the one behind them.
     pub fn bytes_used(&self) -> usize {
         self.place().div_ceil(8)
     }

@@ -59,8 +59,8 @@ pub enum Refusal {
         place: usize,
     },
     /// 6: the stream keeps a window before any was set, which none that is written does: the bytes or
-    /// the opening are not those of its writer, or the count is too high. Look at all three, and fetch
-    /// them again.
+    /// the opening are not those of its writer, or the count, in a rescue the limit, is too high. Look at
+    /// all three, and fetch them again.
     NoWindow {
         /// The value whose code keeps the window.
         value: usize,

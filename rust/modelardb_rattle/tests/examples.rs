@@ -96,7 +96,7 @@ fn a_cut_at_any_byte_leaves_no_trace() {
             assert!(text.ends_with(end), "{text}");
         }
         for word in [&(sent + 1).to_string(), "", "-1", "1.5"] {
-            let why = format!("{word:?} is no number of bytes: {sent} were sent");
+            let why = format!("{word} bytes cannot have arrived: {sent} were sent");
             assert_eq!(show(word), Err(why));
         }
     }

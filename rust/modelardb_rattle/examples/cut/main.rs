@@ -19,7 +19,7 @@ fn main() -> ExitCode {
     told::told(match words.as_slice() {
         [file, bound] => shown(file, bound, None),
         [file, bound, bytes] => shown(file, bound, Some(bytes)),
-        _ => Err("usage: cut FILE BOUND [BYTES], as night.txt lossless 100".to_string()),
+        _ => Err("usage: cut FILE BOUND [BYTES], as night.txt lossless 100 (without BYTES half of them arrive)".to_string()),
     })
 }
 

@@ -77,5 +77,5 @@ fn span(names: &[String]) -> String {
 /// A number of bytes, no more than were sent.
 fn number(word: &str, sent: usize) -> Result<usize, String> {
     let number = word.parse().ok().filter(|&number| number <= sent);
-    number.ok_or_else(|| format!("{word:?} is no number of bytes: {sent} were sent"))
+    number.ok_or_else(|| format!("{word} bytes cannot have arrived: {sent} were sent"))
 }
