@@ -201,7 +201,7 @@ modelardb_fault modelardb_macaque_v_reopen(uint8_t *buffer, size_t buffer_length
  * them in the byte that they end in become 0, and no other byte changes. A value that is cut, stale bits and further
  * bytes behind them are no refusal: there is no 5 and no 8.
  *
- * used is how many bytes arrived, not the buffer's length: zeros behind them would be read as values. Give as the
+ * used is how many bytes arrived, not the buffer's length: zeros behind them may be read as values. Give as the
  * limit how many values the bytes that were sent hold: then what is kept of a stream that was cut at any byte are the
  * values that arrived whole, and the row is that of the writer behind them. Where a value is missing, every limit from the
  * number kept on answers the same. Where none is, a larger one may take padding for a value, or for damage: on 1.0,

@@ -170,11 +170,12 @@ impl MacaqueV {
     /// these are. The bits behind them are zeroed in the byte that they end in, and no other byte changes. What remains
     /// there, a value that is cut, stale bits or further bytes, is no refusal. A refusal leaves the buffer as it was.
     ///
-    /// `used` is how many bytes arrived, not how long the buffer is: zeros behind them would be read as values.
+    /// `used` is how many bytes arrived, not how long the buffer is: zeros behind them may be read as values.
     /// **Give as the limit how many values the bytes that were sent hold**, not how many the night will have. Then
-    /// of a stream that was cut at any byte the values are kept that arrived whole, the writer is the one that had written these, and what is written on has the bytes and the
-    /// state of one run. Where a value is missing, every limit from the number kept on answers the same. Where none is,
-    /// a larger limit may take the padding of the last byte for a value, or for damage.
+    /// of a stream that was cut at any byte the values are kept that arrived whole, the writer is the one that had
+    /// written these, and what is written on has the bytes and the state of one run. Where a value is missing, every
+    /// limit from the number kept on answers the same. Where none is, a larger limit may take the padding of the last
+    /// byte for a value, or for damage.
     ///
     /// It cannot see that bytes are missing in between, or were changed, unless the codes no longer come out: let a
     /// checksum say first that what arrived is the beginning of what was sent. And go on with the values as they were
