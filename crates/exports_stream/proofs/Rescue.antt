@@ -12,7 +12,7 @@ use lib.ListN.{length, take, drop}
 use lib.Seq.{length-take-le}
 use Rattle.bits.specs.Bits.{Below, bitsOf, wholeBytes}
 use Rattle.bits.proofs.Below.{below-take, below-append}
-use Rattle.models.specs.Answers.{fault, noFault, Said, answered, refused, Cause, _when_, judge, itself, keeping, NoneHolds}
+use Rattle.models.specs.Answers.{fault, noFault, Said, answered, refused, Cause, _when_, judge, verdict, itself, keeping, NoneHolds}
 use Rattle.models.specs.declared.Fault.{Fault}
 use Rattle.models.specs.Limits.{mostValues}
 use Rattle.models.specs.Bound.{boundAllowed}
@@ -204,6 +204,7 @@ module _ (mode value kind bound limit used : ℕ) (buf row : List ℕ) (mode-is 
         draws = λ out room.
             let g = call.what-is-rescued-is-drawn R most out (subst (λ (i : ℕ). i ≤ length out) count room) in
             rw (le-leb mode 1 mode-is, count, place, buffer-is) (ap plainFault (g .0), g .1);
+        leaves = λ small. rw (place, buffer-is) (R .leaves small);
         reopens = rw (count, place, buffer-is) (reopened-fault kind bound mode value row mode-is words mem u n n m again);
         sameRow = rw (count, place, buffer-is) (reopened-row kind bound mode value row mode-is words mem u n n m again) ∙ sym row-is;
         sameBuffer = rw (count, place, buffer-is) (reopened-buffer kind bound mode value row mode-is words mem u n n m again ∙ R .stays);
@@ -245,6 +246,22 @@ pub no-mode-is-3-in-a-rescue : (buf : List ℕ) (used limit mode value kind boun
     → rescueFault buf used limit mode value kind bound row ≡ fault 3
 unfolding rescueFault judge
 no-mode-is-3-in-a-rescue buf used limit mode value kind bound row ok h = rw (ok, lt-leb mode 1 h)
+
+-- a fault tells the first cause that holds, or what the call behind says: its number, value and place
+pub fault-tells : {A : Type 0} (causes : List Cause) (q : Said A) → ((judge itself causes (plainFault q)) .number ≡ 0 → ⊥)
+    → (verdict causes ≡ refused (judge itself causes (plainFault q))) ⊎ ((verdict causes ≡ answered tt) × (q ≡ refused (judge itself causes (plainFault q))))
+unfolding judge
+fault-tells [] (answered m) z = absurd (z refl)
+fault-tells [] (refused f) z = inr (refl, refl)
+fault-tells (n when true ∷ causes) q z = inl refl
+fault-tells (n when false ∷ causes) q z = fault-tells causes q z
+
+-- so it is 1, 3, 12 or 4 by the causes of the row, else the 6 or 7 that the call behind meets (`what-rescue-refuses`)
+pub what-a-rescued-row-refuses : (buf : List ℕ) (used limit mode value kind bound : ℕ) (row : List ℕ) → ((rescueFault buf used limit mode value kind bound row) .number ≡ 0 → ⊥)
+    → (verdict (rescueFaceCauses buf used limit mode kind bound row) ≡ refused (rescueFault buf used limit mode value kind bound row))
+    ⊎ ((verdict (rescueFaceCauses buf used limit mode kind bound row) ≡ answered tt) × (rescueSaid buf used limit mode value kind bound ≡ refused (rescueFault buf used limit mode value kind bound row)))
+unfolding rescueFault
+what-a-rescued-row-refuses buf used limit mode value kind bound row = fault-tells (rescueFaceCauses buf used limit mode kind bound row) (rescueSaid buf used limit mode value kind bound)
 
 -- a refusal leaves the row and the buffer as they were
 pub a-refused-rescue-changes-nothing : (buf : List ℕ) (used limit mode value kind bound : ℕ) (row : List ℕ) → ((rescueFault buf used limit mode value kind bound row) .number ≡ 0 → ⊥)

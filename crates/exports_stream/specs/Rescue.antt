@@ -9,6 +9,7 @@ use Rattle.models.specs.Answers.{Said, Cause, _when_, judge, judgedMemory, itse
 use Rattle.models.specs.Limits.{mostValues}
 use Rattle.models.specs.declared.ErrorBound.{ErrorBound}
 use Rattle.models.specs.declared.Fault.{Fault}
+use Rattle.stream.specs.Made.{Rewritten}
 use Rattle.macaque_v.specs.Read.{rescueCauses, rescueAnswer, rescueMemory}
 use Rattle.macaque_v.specs.Made.{stateOver}
 use Rattle.macaque_v.specs.Rescued.{Saves, Rescues}
@@ -72,6 +73,7 @@ pub record RowRescuesAs (mode value kind bound limit used : ℕ) (buf row after 
   pub draws : (out : List ℕ) → lengthWord after ≤ length out
       → (gridFault (bytesInUse after left) (lengthWord after) mode value out ≡ noFault)
       × (gridOut (bytesInUse after left) (lengthWord after) mode value out ≡ rescues .values ++ drop (length (rescues .values)) out)
+  pub leaves : Below 8 buf → Rewritten buf left (placeWord after) []
   pub reopens : reopenFault left (wholeBytes (placeWord after)) (lengthWord after) (lengthWord after) mode value kind bound row ≡ noFault
   pub sameRow : reopenRow left (wholeBytes (placeWord after)) (lengthWord after) (lengthWord after) mode value kind bound row ≡ after
   pub sameBuffer : reopenBuffer left (wholeBytes (placeWord after)) (lengthWord after) (lengthWord after) mode value kind bound row ≡ left

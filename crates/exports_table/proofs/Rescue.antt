@@ -11,7 +11,7 @@ use lib.ListN.{length, take, drop}
 use lib.Seq.{length-take-le}
 use Rattle.bits.specs.Bits.{Below, bitsOf, wholeBytes}
 use Rattle.bits.proofs.Below.{below-take, below-append}
-use Rattle.models.specs.Answers.{fault, noFault, Said, answered, refused, Cause, judge, itself, keeping, NoneHolds}
+use Rattle.models.specs.Answers.{fault, noFault, Said, answered, refused, Cause, judge, itself, keeping, NoneHolds, verdict}
 use Rattle.models.specs.Limits.{mostValues}
 use Rattle.models.specs.Bound.{boundAllowed}
 use Rattle.models.specs.declared.ErrorBound.{ErrorBound}
@@ -40,7 +40,7 @@ use Rattle.exports_stream.specs.Calls.{openingOf, countIn}
 use Rattle.exports_stream.specs.Tabled.{entriesAfter}
 use Rattle.exports_stream.proofs.Numbers.{judged-so}
 use Rattle.exports_stream.proofs.Promises.{row-made, one-more}
-use Rattle.exports_stream.proofs.Rescue.{place-in, length-in, rescued-fault, rescued-row, rescued-buffer}
+use Rattle.exports_stream.proofs.Rescue.{fault-tells, place-in, length-in, rescued-fault, rescued-row, rescued-buffer}
 use Rattle.exports_stream.proofs.Sums.{none-of-them}
 use Rattle.exports_table.specs.Calls.{besideRow, tableCheckFault, RowMadeBeside}
 use Rattle.exports_table.specs.Rescue.{tableRescueFaceCauses, tableRescueSaid, tableRescueFault, tableRescueRow, tableRescueBuffer, tableRescueWords, tableRescueEntries, Afterwards, rescuedInto, RowSavesBeside, RowRescuesBeside}
@@ -139,6 +139,17 @@ module _ (kind bound mode value : ℕ) (row : List ℕ) (mode-is : mode ≤ 1) (
             ∙ ap (λ (z : List ℕ). tableWriteAnswer (now .writer) ys z (is .words) (is .entries)) buffer-now
             ∙ ap₂ (λ (z : List ℕ) (n : ℕ). tableWriteAnswer (now .writer) ys (tableRescueMemory buf j (length xs) o b (length words)) z n) words-now number-now ∙ B .accepts ys few room more);
         goesOn = λ ys by zero. a-row-goes-on-with-its-table made hl ys (below-append 32 (take (R .number) xs) ys (below-take 32 (R .number) xs bx) by) zero;
+        anyLimit = λ lt i le few held other.
+            let a = B .anyLimit lt i le few held in
+            let answers = a .0 ∙ B .answers in
+            let same-row = row-is kind bound mode value row mode-is long-row buf j i words other now answers ∙ sym row-now in
+            let same-buffer = buffer-is kind bound mode value row mode-is long-row buf j i words other now answers ∙ a .1 ∙ sym buffer-now in
+            let same-words = words-are kind bound mode value row mode-is long-row buf j i words other now answers ∙ a .2 ∙ sym words-now in
+            let same-number = number-is kind bound mode value row mode-is long-row buf j i words other now answers
+            ∙ sym (number-is kind bound mode value row mode-is long-row buf j (length xs) words in-use now (B .answers)) in (
+              fault-is kind bound mode value row mode-is long-row buf j i words other now answers,
+              rw (same-row, same-buffer, same-words, same-number) refl,
+            );
       }
 
 -- ---- any bytes at all
@@ -205,6 +216,15 @@ module _ (mode value kind bound limit used : ℕ) (buf row words : List ℕ) (in
       }
 
 -- ---- what is refused
+
+-- what is refused: by the causes of the row, or as the call behind refuses it, its number, value and place
+pub what-a-rescued-row-refuses : (buf : List ℕ) (used limit mode value kind bound : ℕ) (row words : List ℕ) → ((tableRescueFault buf used limit mode value kind bound row words) .number ≡ 0 → ⊥)
+    → (verdict (tableRescueFaceCauses buf used limit mode kind bound row words) ≡ refused (tableRescueFault buf used limit mode value kind bound row words))
+    ⊎ ((verdict (tableRescueFaceCauses buf used limit mode kind bound row words) ≡ answered tt)
+    × (tableRescueSaid buf used limit mode value kind bound words ≡ refused (tableRescueFault buf used limit mode value kind bound row words)))
+unfolding tableRescueFault
+what-a-rescued-row-refuses buf used limit mode value kind bound row words =
+    fault-tells (tableRescueFaceCauses buf used limit mode kind bound row words) (tableRescueSaid buf used limit mode value kind bound words)
 
 -- a refusal leaves the row, the buffer, the words and the number as they were
 pub a-refused-rescue-changes-nothing : (buf : List ℕ) (used limit mode value kind bound : ℕ) (row words : List ℕ) (in-use : ℕ) → openingValue (openingOf mode value) < 2 ^ 32

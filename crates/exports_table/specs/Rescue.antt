@@ -1,7 +1,7 @@
 -- Rescue with a place table through a row: what the call answers and leaves, and what is said of it. Assumes nothing.
 use mathlib.Core.Path.{_≡_}
 use mathlib.Core.List.{List, [], _∷_, _++_}
-use Prim.Native.Nat.{ℕ, _+_, _*_, _≤_}
+use Prim.Native.Nat.{ℕ, _+_, _*_, _≤_, _<_}
 use lib.Dec.{ltb}
 use lib.ListN.{length, take, drop}
 use Rattle.bits.specs.Bits.{Below}
@@ -93,6 +93,8 @@ pub record RowSavesBesideAs (mode value kind bound : ℕ) (xs : List ℕ) (j : �
       → RowMadeBeside (boundOf kind bound) (openingOf mode value) (take (saves .number) xs ++ ys) (tableWriteBuffer (is .row) ys (is .buffer) (is .words) (is .entries))
       (tableWriteRow (is .row) ys (is .buffer) (is .words) (is .entries)) (tableWriteWords (is .row) ys (is .buffer) (is .words) (is .entries))
       (tableWriteEntries (is .row) ys (is .buffer) (is .words) (is .entries))
+  pub anyLimit : saves .number < length xs → (i : ℕ) → saves .number ≤ i → i ≤ mostValues → entriesFor i ≤ entriesLent (length words) → (in-use : ℕ)
+      → (tableRescueFault buf j i mode value kind bound row words ≡ noFault) × (rescuedInto buf j i mode value kind bound row words in-use ≡ is)
 
 abbrev pub RowSavesBeside : ℕ → ℕ → ℕ → ℕ → List ℕ → ℕ → List ℕ → List ℕ → List ℕ → ℕ → Type 0
 RowSavesBeside mode value kind bound xs j buf row words entries =

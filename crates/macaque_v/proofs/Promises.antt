@@ -253,6 +253,8 @@ what-is-rescued-reads-back b o hl buf used limit m h =
       ends = r .ends;
       readsBack = ap (λ (n : ℕ). valuesIn (take used′ left) n o) (r .counted) ∙ r .readsBack;
       reopens = ap (λ (n : ℕ). reopenAnswer left used′ n n o b) (r .counted) ∙ r .reopens ∙ ap answered (r .held);
+      within = r .within;
+      leaves = r .leaves;
       stays = ap (λ (n : ℕ). reopenMemory left used′ n n o b) (r .counted) ∙ r .stays;
     })
 

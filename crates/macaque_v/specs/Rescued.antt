@@ -1,15 +1,16 @@
 -- What is said of rescue, in MacaqueV's words: of a stream that a fresh writer made and whose first bytes arrived, and of any bytes at all. Assumes nothing.
 use mathlib.Core.Path.{_≡_}
 use mathlib.Core.Bool.{Bool}
-use mathlib.Core.List.{List, _++_}
+use mathlib.Core.List.{List, [], _++_}
 use mathlib.Core.Logic.{_⊎_}
 use Prim.Native.Nat.{ℕ, suc, _+_, _*_, _≤_, _<_}
 use lib.ListN.{length, take}
-use Rattle.bits.specs.Bits.{bitsOf, wholeBytes}
+use Rattle.bits.specs.Bits.{Below, bitsOf, wholeBytes}
 use Rattle.models.specs.Answers.{answered, answeredOn}
 use Rattle.models.specs.Limits.{mostValues}
 use Rattle.models.specs.declared.ErrorBound.{ErrorBound}
 use Rattle.stream.specs.Read.{halt, done, stepAt, readN}
+use Rattle.stream.specs.Made.{Rewritten}
 use Rattle.macaque_v.specs.State.{streamIn, stateOf, writerOf, isFirst, opened}
 use Rattle.macaque_v.specs.Calls.{writeAnswer, writeMemory}
 use Rattle.macaque_v.specs.Read.{valuesIn, reopenAnswer, reopenMemory, rescueAnswer, rescueMemory}
@@ -66,4 +67,7 @@ pub record Rescues (b : ErrorBound) (o : Opening) (limit used : ℕ) (buf : List
   pub ends : (length values ≡ limit) ⊎ (stepAt (streamIn (isFirst o)) (stateOf m) rest ≡ halt 5)
   pub readsBack : valuesIn (take (wholeBytes (m .place)) (rescueMemory buf used limit o b)) (m .length) o ≡ answered values
   pub reopens : reopenAnswer (rescueMemory buf used limit o b) (wholeBytes (m .place)) (m .length) (m .length) o b ≡ answered m
+  -- the cut is within the bytes that arrived; of the buffer it changes the rest of its byte, and nothing else
+  pub within : m .place ≤ 8 * used
+  pub leaves : Below 8 buf → Rewritten buf (rescueMemory buf used limit o b) (m .place) []
   pub stays : reopenMemory (rescueMemory buf used limit o b) (wholeBytes (m .place)) (m .length) (m .length) o b ≡ rescueMemory buf used limit o b

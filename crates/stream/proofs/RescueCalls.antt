@@ -23,12 +23,13 @@ use Rattle.stream.specs.Write.{keptFrom, kept, encode, after}
 use Rattle.stream.specs.Read.{Reading, done, stopped, readN, readAll, Reopened, reopened, unopened, stateRead, checked, reopen, bufferAfter}
 use Rattle.stream.specs.Rescue.{readWhole, rescue}
 use Rattle.stream.specs.Calls.{Coder, faultAt, valuesRead, valuesIn, reopening, rescuing, reopenCauses, reopenAnswer, reopenMemory, resumed, rescueCauses, rescueAnswer, rescueMemory}
-use Rattle.stream.specs.Made.{Made, MadeBy, stateOver}
+use Rattle.stream.specs.Made.{Made, MadeBy, stateOver, Rewritten}
 use Rattle.stream.specs.Rescued.{ReopensWhole, ReopensWholeBy, Saves, Rescues, MeetsDamage}
 use Rattle.stream.specs.Needs.{GoodCoder}
 use Rattle.stream.proofs.AnyStream.{cut-left}
 use Rattle.stream.proofs.Reopen.{ended-inv, any-opened, goes-on}
 use Rattle.stream.proofs.Made as spine
+use Rattle.stream.proofs.Promises.{reopening-changes-only-the-cut-bits}
 use Rattle.stream.proofs.Broken.{place-within}
 use Rattle.stream.proofs.Rescue.{ArrivedOf, arrived, damaged, rescue-whole, cut-off}
 use Rattle.stream.proofs.Calls.{split, joined, read-whole, in-theory, by-theory, opens-on, a-write-goes-on, a-write-is-accepted}
@@ -246,6 +247,8 @@ module _ {A W : Type 0} (C : Coder A W) (good : GoodCoder C) (l : ℕ) where
               ends = a .ends;
               readsBack = ap (λ (z : List ℕ). valuesIn S l (take (wholeBytes p) z) k) (on .1) ∙ ap valuesRead (back .1);
               reopens = ap (λ (z : List ℕ). reopenAnswer C l z (wholeBytes p) k k) (on .1) ∙ opens .0 ∙ i;
+              within = back .0;
+              leaves = λ small. subst (λ (z : List ℕ). Rewritten buf z p []) (sym (on .1)) (reopening-changes-only-the-cut-bits buf p small (omega (arith, free .2, back .0)));
               stays =
                   ap (λ (z : List ℕ). reopenMemory C l z (wholeBytes p) k k) (on .1) ∙ opens .1 ∙ cutIn-again buf p (omega (arith, free .2, back .0)) ∙ sym (on .1);
             }

@@ -1,18 +1,18 @@
 -- What is said of rescue: of any accepted stream of which the first bytes arrived, of one that a fresh writer made, and of any bytes at all. Assumes nothing.
 use mathlib.Core.Path.{_≡_}
 use mathlib.Core.Bool.{Bool}
-use mathlib.Core.List.{List, _++_}
+use mathlib.Core.List.{List, [], _++_}
 use mathlib.Core.Logic.{_⊎_}
 use Prim.Native.Nat.{ℕ, suc, _+_, _*_, _≤_, _<_}
 use lib.ListN.{length, take}
-use Rattle.bits.specs.Bits.{bitsOf, wholeBytes}
+use Rattle.bits.specs.Bits.{Below, bitsOf, wholeBytes}
 use Rattle.models.specs.Answers.{answered, answeredOn}
 use Rattle.models.specs.declared.Fault.{Fault}
 use Rattle.stream.specs.Format.{Stream, State, fresh, mostValues}
 use Rattle.stream.specs.Read.{halt, StreamRefusal, done, stopped, stepAt, readN, reopened, reopen}
 use Rattle.stream.specs.Rescue.{rescue}
 use Rattle.stream.specs.Calls.{Coder, faultAt, valuesIn, writeAnswer, writeMemory, reopenAnswer, reopenMemory, rescueAnswer, rescueMemory}
-use Rattle.stream.specs.Made.{MadeBy, stateOver}
+use Rattle.stream.specs.Made.{MadeBy, stateOver, Rewritten}
 
 -- Of an accepted stream of n values, even one that this writer would not write, the first j bytes arrived: rescue is reopening the whole stream at the
 -- last value whose bits are all among them. Where a value is missing, so it is with every limit from the number kept on.
@@ -74,6 +74,9 @@ pub record Rescues {A W : Type 0} (C : Coder A W) (l limit used : ℕ) (buf : Li
   pub ends : (length values ≡ limit) ⊎ (stepAt (C .stream) state rest ≡ halt 5)
   pub readsBack : valuesIn (C .stream) l (take (wholeBytes (state .place)) (rescueMemory C l buf used limit)) (length values) ≡ answered values
   pub reopens : reopenAnswer C l (rescueMemory C l buf used limit) (wholeBytes (state .place)) (length values) (length values) ≡ answered m
+  -- the cut is within the bytes that arrived; of the buffer it changes the rest of its byte, and nothing else
+  pub within : state .place ≤ 8 * used
+  pub leaves : Below 8 buf → Rewritten buf (rescueMemory C l buf used limit) (state .place) []
   pub stays : reopenMemory C l (rescueMemory C l buf used limit) (wholeBytes (state .place)) (length values) (length values) ≡ rescueMemory C l buf used limit
 
 -- What is refused in the bytes themselves: what a reading of so many values refuses, with its value and place, and it is 6 or 7. So a cut is no refusal, nor
