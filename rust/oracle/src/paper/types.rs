@@ -3,6 +3,7 @@
 use super::models::{ErrorBound, maximum_bits, minimum_bits};
 use super::numbers::canonical;
 use super::pmc_mean::PMCMean;
+use super::rules::{self, Rules};
 use super::swing::Swing;
 use super::{
     Answer, MOST_VALUES, judge_count, judge_metadata, judge_times, refusal, refuse_if,
@@ -76,9 +77,8 @@ impl ModelBuilder {
         refuse_if(!follows, refusal::TIMES)
     }
 
-    /// "Choice: M / PMC length against (M + 1) / Swing length, in f32; the smaller wins and PMC wins
-    /// a tie. Added: where Swing wins with a finite first and a non-finite last value (both as f32),
-    /// PMC's model is taken." Refusals: 1 2 3 11.
+    /// The choice, by [`swing_wins`]. "Added: where Swing wins with a finite first and a non-finite last
+    /// value (both as f32), PMC's model is taken." Refusals: 1 2 3 11.
     pub fn finish(self, m: u32) -> Answer<Model> {
         self.pmc_mean.error_bound.judge()?;
         self.swing.error_bound.judge()?;
@@ -90,15 +90,10 @@ impl ModelBuilder {
 
         let pmc_mean = self.pmc_mean_model(m)?;
         let swing = self.swing_model(m)?;
-        let swing_wins =
-            f32::from_bits(swing.bytes_per_value) < f32::from_bits(pmc_mean.bytes_per_value);
+        let wins = swing_wins(m, pmc_mean.length, swing.length);
         let runs_off = f32::from_bits(swing.first_value).is_finite()
             && !f32::from_bits(swing.last_value).is_finite();
-        Ok(if swing_wins && !runs_off {
-            swing
-        } else {
-            pmc_mean
-        })
+        Ok(if wins && !runs_off { swing } else { pmc_mean })
     }
 
     fn pmc_mean_model(self, m: u32) -> Answer<Model> {
@@ -131,6 +126,26 @@ impl ModelBuilder {
         row.push(u64::from(self.swing_could_fit_all));
         row
     }
+}
+
+/// Whether Swing wins, by M and how many values each model stands for.
+pub fn swing_wins(m: u32, pmc_mean: usize, swing: usize) -> bool {
+    match rules::in_force() {
+        Rules::First => wins_by_costs(m, pmc_mean, swing),
+        Rules::Today => wins_by_products(m, pmc_mean, swing),
+    }
+}
+
+/// First: "M / PMC length against (M + 1) / Swing length, in f32; the smaller wins and PMC wins a tie."
+pub fn wins_by_costs(m: u32, pmc_mean: usize, swing: usize) -> bool {
+    (m as f32 + 1.0) / (swing as f32) < m as f32 / pmc_mean as f32
+}
+
+/// Today: "Swing wins exactly if (M + 1) × PMC length is less than M × Swing length. An equal product goes
+/// to PMC" (02, W8). No product is above 2^32.
+pub fn wins_by_products(m: u32, pmc_mean: usize, swing: usize) -> bool {
+    let (m, pmc_mean, swing) = (u64::from(m), pmc_mean as u64, swing as u64);
+    (m + 1) * pmc_mean < m * swing
 }
 
 /// The rule as one call: a fresh builder stepped until both models have failed or the list ends,
