@@ -1,8 +1,9 @@
 //! Inputs: a small seeded generator, special floats, bounds, times and lists of values.
 
-use oracle::paper::MOST_VALUES;
 use oracle::paper::macaque_v::Opening;
 use oracle::paper::models::ErrorBound::{self, Absolute, Lossless, Relative};
+use oracle::paper::types::{wins_by_costs, wins_by_products};
+use oracle::paper::{MOST_METADATA, MOST_VALUES};
 
 /// Values by their bits.
 pub const ONE: u32 = 0x3F80_0000;
@@ -68,6 +69,15 @@ pub const DOZEN: [u32; 12] = [
     0x7FC1_2345,
     0xFFFF_FFFF,
 ];
+
+/// M, and how many values PMC-Mean and Swing stand for.
+pub type Lengths = (u32, [usize; 2]);
+
+/// Whole numbers from 0 on, and the bound under which PMC-Mean takes so many of them, two or more; Swing takes all.
+pub fn whole_numbers([pmc_mean, swing]: [usize; 2]) -> (Vec<u32>, ErrorBound) {
+    let values = (0..swing).map(|number| (number as f32).to_bits());
+    (values.collect(), Absolute((pmc_mean - 1) as f32 / 2.0))
+}
 
 /// A generator of inputs (splitmix64).
 pub struct Inputs {
@@ -260,6 +270,29 @@ impl Inputs {
             times[at] = self.pick(&[other, other - 1, i64::MIN, i64::MAX]);
         }
         times
+    }
+
+    /// Lengths up to `most`, of Swing about that from which on it wins: the last that loses, the first that wins and the
+    /// next. Half of PMC-Mean's are a multiple of M or a little less, where the costs in f32 tie or nearly do.
+    pub fn edge(&mut self, most: usize) -> Lengths {
+        let most = most as u64;
+        let m = 1 + self.below(most.min(MOST_METADATA.into()));
+        let multiple = m * (1 + self.below(most / m));
+        let (any, less) = (1 + self.below(most), self.below(multiple.min(32)));
+        let pmc_mean = self.pick(&[any, multiple - less]);
+        let swing = pmc_mean + pmc_mean / m + self.below(3);
+        let lengths = [pmc_mean, swing.min(most)];
+        (m as u32, lengths.map(|length| length as usize))
+    }
+
+    /// Lengths up to `most` at which the choice by the products and that by the costs part.
+    pub fn parting_edge(&mut self, most: usize) -> Lengths {
+        loop {
+            let (m, [pmc_mean, swing]) = self.edge(most);
+            if wins_by_products(m, pmc_mean, swing) != wins_by_costs(m, pmc_mean, swing) {
+                return (m, [pmc_mean, swing]);
+            }
+        }
     }
 
     /// A list of values: constant, a line, steps or a walk with a little noise, or anything.

@@ -1,13 +1,14 @@
 //! The choice between PMC-Mean and Swing, over lists and over any handed-in builder.
 
 use crate::context::Context;
+use crate::inputs::whole_numbers;
 use crate::parts::{pmc_mean, swing};
-use oracle::paper::MOST_METADATA;
 use oracle::paper::models::ErrorBound::{self, Lossless};
 use oracle::paper::numbers::canonical;
 use oracle::paper::refusal;
 use oracle::paper::rules;
 use oracle::paper::types::{Extremes, Model, ModelBuilder, PMC_MEAN_ID, SWING_ID, choose_model};
+use oracle::paper::{Answer, MOST_METADATA, MOST_VALUES};
 use oracle::rust::{Calls, Chosen};
 
 pub fn choice(context: &mut Context) {
@@ -27,6 +28,20 @@ pub fn choice(context: &mut Context) {
         if fits {
             choose(context, next, m);
         }
+    }
+}
+
+/// Lengths about that from which on Swing wins, handed in and of lists.
+pub fn edges(context: &mut Context) {
+    for _ in 0..context.rounds(300_000) {
+        let (builder, m) = at_the_edge(context);
+        choose(context, builder, m);
+    }
+    for _ in 0..context.rounds(8) {
+        let (m, lengths) = context.inputs.parting_edge(1 << 14);
+        let (values, bound) = whole_numbers(lengths);
+        let times: Vec<i64> = (0..values.len() as i64).collect();
+        over_list(context, (&times, &values), bound, m);
     }
 }
 
@@ -95,8 +110,14 @@ fn zero(builder: ModelBuilder) -> bool {
 }
 
 pub fn choose(context: &mut Context, builder: ModelBuilder, m: u32) {
-    let paper = builder.finish(m);
+    let ask = || builder.finish(m);
+    let today = ask();
+    let paper = context.first(&today, ask);
     let input = || format!("choice of {:X?}, M {m}", builder.row());
+    // "Wherever the old rule chose Swing, the new one does."
+    let is_swing = |answer: Answer<Model>| answer.is_ok_and(|model| model.id == SWING_ID);
+    let by_the_first_alone = is_swing(paper) && !is_swing(today);
+    context.same("the first rule", false, by_the_first_alone, input);
     // "A state of length 0 .. given to the choice": 11. Listed: it is chosen from there.
     let is_empty = builder.pmc_mean.length == 0 || builder.swing.length == 0;
     let refusal = is_empty.then_some(refusal::NO_MODEL);
@@ -191,4 +212,18 @@ fn any_builder(context: &mut Context) -> (ModelBuilder, i64) {
         swing_could_fit_all: context.inputs.below(4) > 0,
     };
     (builder, next_time)
+}
+
+/// A builder of any two states with lengths about that from which on Swing wins, and M.
+fn at_the_edge(context: &mut Context) -> (ModelBuilder, u32) {
+    let (mut builder, later) = any_builder(context);
+    let (m, [pmc_mean, swing]) = context.inputs.edge(MOST_VALUES);
+    builder.pmc_mean.length = pmc_mean;
+    builder.swing.length = swing;
+    builder.swing.end_time = if swing > 1 {
+        later
+    } else {
+        builder.swing.start_time
+    };
+    (builder, m)
 }

@@ -3,6 +3,7 @@
 
 mod before;
 mod bounds;
+mod choices;
 mod fitting;
 mod lines;
 mod refused;
@@ -35,6 +36,7 @@ fn rows() -> Vec<Row> {
     let rows = [
         bounds::rows(),
         fitting::rows(),
+        choices::rows(),
         lines::rows(),
         streams::rows(),
         segments::rows(),

@@ -1,4 +1,4 @@
-//! The rows about PMC-Mean, Swing and the choice between them.
+//! The rows about PMC-Mean and Swing.
 
 use super::said::{Row, decimal, ends, fits, row};
 use crate::face::safe_bound;
@@ -7,15 +7,10 @@ use modelardb_rattle::{self as library, ErrorBound as Bound, Refusal};
 use oracle::paper::models::ErrorBound::{self, Absolute, Lossless, Relative};
 use oracle::paper::pmc_mean::PMCMean;
 use oracle::paper::swing::Swing;
-use oracle::paper::types::{ModelBuilder, PMC_MEAN_ID, choose_model};
 use oracle::paper::{Answer, MOST_VALUES};
-use oracle::rust::{Calls, Chosen};
+use oracle::rust::Calls;
 
-const ALLOWED: &str = "an allowed step";
-
-/// Points, and what a chosen model is said to be.
-type Points = Vec<(i64, u32)>;
-type Said = (u32, usize, u32);
+pub const ALLOWED: &str = "an allowed step";
 
 pub fn rows() -> Vec<Row> {
     let mut rows = vec![line_of_two(), minimum_of_zeros()];
@@ -24,14 +19,12 @@ pub fn rows() -> Vec<Row> {
     rows.extend(full_states());
     rows.extend(fresh_models());
     rows.extend(under_no_bound());
-    rows.extend(choices());
-    rows.extend(choices_of_no_model());
     rows.extend(at_the_bound());
     rows
 }
 
 /// A fresh state under any bound, allowed or not.
-fn pmc_mean_under(error_bound: ErrorBound) -> PMCMean {
+pub fn pmc_mean_under(error_bound: ErrorBound) -> PMCMean {
     let fresh = PMCMean::new(Lossless).expect("an allowed bound");
     PMCMean {
         error_bound,
@@ -39,20 +32,11 @@ fn pmc_mean_under(error_bound: ErrorBound) -> PMCMean {
     }
 }
 
-fn swing_under(error_bound: ErrorBound) -> Swing {
+pub fn swing_under(error_bound: ErrorBound) -> Swing {
     let fresh = Swing::new(Lossless).expect("an allowed bound");
     Swing {
         error_bound,
         ..fresh
-    }
-}
-
-fn builder_under(error_bound: ErrorBound) -> ModelBuilder {
-    ModelBuilder {
-        pmc_mean: pmc_mean_under(error_bound),
-        pmc_mean_could_fit_all: true,
-        swing: swing_under(error_bound),
-        swing_could_fit_all: true,
     }
 }
 
@@ -100,8 +84,7 @@ fn minimum_of_zeros() -> Row {
 }
 
 /// 11: Readings at the bound.
-fn at_the_bound() -> [Row; 4] {
-    let (hundred, more) = (100f32.to_bits(), 114f32.to_bits());
+fn at_the_bound() -> [Row; 3] {
     [
         taken(
             "PMC-Mean, Relative(14): 25, 32",
@@ -117,11 +100,6 @@ fn at_the_bound() -> [Row; 4] {
             "PMC-Mean, Absolute(0.5): 0.4, −0.6",
             Absolute(0.5),
             [0.4, -0.6],
-        ),
-        choice(
-            "choice of 100 at 0, 114 at 1, Relative(7), M 2",
-            Relative(7.0),
-            vec![(0, hundred), (1, more)],
         ),
     ]
 }
@@ -273,86 +251,4 @@ fn under_no_bound() -> Vec<Row> {
             fits,
         ),
     ]
-}
-
-/// 6 and 9: Choices over lists.
-fn choices() -> Vec<Row> {
-    let max = f32::MAX.to_bits();
-    let many = (0..=MOST_VALUES as i64).map(|time| (time, ONE)).collect();
-    vec![
-        choice(
-            "choice of −MAX at 0, MAX at 1, Absolute(3e38), M 2",
-            Absolute(3e38),
-            vec![(0, max | 1 << 31), (1, max)],
-        ),
-        choice(
-            "choice of 1 at 0, Absolute(0), M 2",
-            Absolute(0.0),
-            vec![(0, ONE)],
-        ),
-        choice(
-            "choice of 1 at 0, 1 at 0, Lossless, M 2",
-            Lossless,
-            vec![(0, ONE); 2],
-        ),
-        choice("choice of 65,537 times 1, Lossless, M 2", Lossless, many),
-    ]
-}
-
-fn choice(input: &'static str, bound: ErrorBound, points: Points) -> Row {
-    let (times, values): (Vec<i64>, Vec<u32>) = points.iter().copied().unzip();
-    let paper = choose_model(&times, &values, bound, 2);
-    let paper = paper.map(|model| (model.id, model.length, model.last_value));
-    let ours = library::choose_model_bits(&times, &values, safe_bound(bound), 2);
-    let there = move |rust: &Calls| {
-        let step =
-            |builder, &(time, value): &(i64, u32)| (rust.builder_step)(builder, time, value).1;
-        let builder = points.iter().fold(builder_under(bound), step);
-        Some(of_chosen((rust.choose)(builder, 2)))
-    };
-    row(input, (paper, ours.map(of_selected)), there, model)
-}
-
-fn of_chosen(chosen: Chosen) -> Said {
-    (chosen.id, chosen.length, chosen.last_value)
-}
-
-fn of_selected(chosen: library::SelectedModel) -> Said {
-    let last = chosen.last_value_bits();
-    (chosen.model_type_id(), chosen.length(), last)
-}
-
-/// A model's kind, the number of its values and its last one.
-fn model((id, length, last): Said) -> String {
-    let kind = if id == PMC_MEAN_ID {
-        "PMC-Mean"
-    } else {
-        "Swing"
-    };
-    format!("{kind} of {length}, last {last:08X}")
-}
-
-/// 9 and 10: A choice where one of the two models, or either, has no value. The first is a handed-in state,
-/// and no state of the safe type.
-fn choices_of_no_model() -> Vec<Row> {
-    let empty = builder_under(Lossless);
-    let mut builder = empty;
-    (_, builder.pmc_mean) = builder.pmc_mean.fit_value(ONE).expect(ALLOWED);
-    let of_paper = |builder: ModelBuilder| -> Answer<Said> {
-        let model = builder.finish(1)?;
-        Ok((model.id, model.length, model.last_value))
-    };
-    let mut out = [0; 5];
-    let fault = library::ffi::model_builder_finish(&builder.row(), 1, &mut out);
-    let ours = match Refusal::from_fault(fault) {
-        Some(refusal) => Err(refusal),
-        None => Ok((out[0] as u32, out[1] as usize, out[3] as u32)),
-    };
-    let there = move |rust: &Calls| Some(of_chosen((rust.choose)(builder, 1)));
-    let input = "choice of PMC-Mean of 1 and a fresh Swing (a handed-in state)";
-    let first = row(input, (of_paper(builder), ours), there, model);
-    let ours = library::ModelBuilder::new(Bound::Lossless).expect(ALLOWED);
-    let here = (of_paper(empty), ours.finish(1).map(of_selected));
-    let there = move |rust: &Calls| Some(of_chosen((rust.choose)(empty, 1)));
-    vec![first, row("choice of nothing", here, there, model)]
 }

@@ -39,8 +39,8 @@ pub fn costs(context: &mut Context) {
     }
 }
 
-/// The cost of each model and the choice, where they have these lengths.
-fn asked(context: &mut Context, row: &[u64], lengths: [u64; 2], m: usize) {
+/// The row of a builder, with other lengths.
+pub fn with_lengths(row: &[u64], lengths: [u64; 2]) -> Vec<u64> {
     let mut row = row.to_vec();
     for (place, length) in LENGTHS.into_iter().zip(lengths) {
         row[place] = length;
@@ -49,6 +49,12 @@ fn asked(context: &mut Context, row: &[u64], lengths: [u64; 2], m: usize) {
     if lengths[1] == 1 {
         row[10] = row[9];
     }
+    row
+}
+
+/// The cost of each model and the choice, where they have these lengths.
+fn asked(context: &mut Context, row: &[u64], lengths: [u64; 2], m: usize) {
+    let row = with_lengths(row, lengths);
     both::asked(context, &PMC_MEAN, &row[..PMC_MEAN.words], m);
     both::asked(context, &SWING, &row[PMC_MEAN.words..], m);
     both::asked(context, &BUILDER, &row, m);

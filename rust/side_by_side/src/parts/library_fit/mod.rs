@@ -4,6 +4,7 @@
 mod both;
 mod causes;
 mod costs;
+mod edges;
 mod kinds;
 mod lines;
 mod metadata;
@@ -16,6 +17,7 @@ mod states;
 pub use both::choose;
 pub use causes::causes;
 pub use costs::costs;
+pub use edges::edges;
 pub use lines::lines;
 pub use run::Run;
 pub use runs::runs;

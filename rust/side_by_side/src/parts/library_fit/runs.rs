@@ -40,7 +40,7 @@ pub fn runs(context: &mut Context) {
 }
 
 /// Stepped by each kind of state, and by the whole rule.
-fn over(context: &mut Context, run: &Run) {
+pub fn over(context: &mut Context, run: &Run) {
     let bound = face::bound_words(run.bound);
     let mut finished = (Fault::ACCEPTED, vec![]);
     let points: Vec<Point> = run.points().collect();

@@ -58,22 +58,35 @@ pub const EXAMPLES: &[Example] = &[
     // The choice.
     (
         "choice of -MAX, MAX under Absolute(3e38): PMC, of one value",
-        || chosen(&[0, 1], &[f32::MIN, f32::MAX], Absolute(3e38)),
+        || chosen(&[0, 1], &[f32::MIN, f32::MAX], Absolute(3e38), 1),
         Ok(&[0]),
     ),
     (
+        "choice of 20, 21, 22 under Absolute(0.5), M 2: 3 × 2 is 2 × 3, and an equal product goes to PMC",
+        || chosen(&[0, 5, 10], &[20.0, 21.0, 22.0], Absolute(0.5), 2),
+        Ok(&[0]),
+    ),
+    (
+        "choice of 0 to 2947 under Absolute(1473), M 2948: 2949 × 2947 is less than 2948 × 2948, Swing",
+        || {
+            let values: Vec<f32> = (0..2948u16).map(f32::from).collect();
+            chosen(&Vec::from_iter(0..2948), &values, Absolute(1473.0), 2948)
+        },
+        Ok(&[1]),
+    ),
+    (
         "an empty list is 11",
-        || chosen(&[], &[], Lossless),
+        || chosen(&[], &[], Lossless, 1),
         Err((11, 0, 0)),
     ),
     (
         "unequal lengths are 12",
-        || chosen(&[0], &[], Lossless),
+        || chosen(&[0], &[], Lossless, 1),
         Err((12, 0, 0)),
     ),
     (
         "65,537 timestamps and one value: 12",
-        || chosen(&Vec::from_iter(0..=MOST_VALUES as i64), &[1.0], Lossless),
+        || chosen(&Vec::from_iter(0..=MOST_VALUES as i64), &[1.0], Lossless, 1),
         Err((12, 0, 0)),
     ),
     (
@@ -147,8 +160,8 @@ fn line_of(bound: ErrorBound, points: &[(i64, f32)]) -> Said {
 }
 
 /// The number of the chosen model.
-fn chosen(times: &[i64], values: &[f32], bound: ErrorBound) -> Said {
-    let model = choose_model(times, values, bound, 1);
+fn chosen(times: &[i64], values: &[f32], bound: ErrorBound, m: usize) -> Said {
+    let model = choose_model(times, values, bound, m);
     said(model, |model| vec![model.model_type_id()])
 }
 

@@ -1,0 +1,62 @@
+//! The choice about the length from which on Swing wins: lengths that are handed in, and lists of whole numbers.
+
+use super::costs::with_lengths;
+use super::kinds::BUILDER;
+use super::run::{Point, Run};
+use super::{both, runs};
+use crate::context::Context;
+use crate::face::{self, choice::builder_in};
+use crate::inputs::{Lengths, ONE, TWO, whole_numbers};
+use crate::lent::STALE_WORD;
+use crate::parts::choice;
+use modelardb_rattle::ffi::SELECTED_MODEL_WORDS;
+use oracle::paper::MOST_VALUES;
+use oracle::paper::models::ErrorBound::{Absolute, Lossless};
+
+const OUT: [u64; SELECTED_MODEL_WORDS] = [STALE_WORD; SELECTED_MODEL_WORDS];
+
+/// The fewest readings of which the choice parts from that by the costs.
+const FEWEST: Lengths = (2_948, [2_947, 2_948]);
+
+pub fn edges(context: &mut Context) {
+    handed_in(context);
+    for at in 0..context.rounds(8) {
+        let any = context.inputs.parting_edge(1 << 13);
+        let (m, lengths) = if at == 0 { FEWEST } else { any };
+        let (values, bound) = whole_numbers(lengths);
+        let run = Run {
+            times: (0..values.len() as i64).collect(),
+            values,
+            bound,
+            m: m as usize,
+        };
+        runs::over(context, &run);
+    }
+    for _ in 0..context.rounds(4) {
+        let (m, lengths) = context.inputs.parting_edge(MOST_VALUES);
+        let (values, bound) = whole_numbers(lengths);
+        let times: Vec<i64> = (0..values.len() as i64).collect();
+        let words = (face::bound_words(bound), m as usize);
+        both::choose(context, (&times, &values), words, &OUT);
+    }
+}
+
+/// A rising line, and one that runs off to infinity, which is never chosen.
+fn handed_in(context: &mut Context) {
+    let (least, most) = (f32::MIN.to_bits(), f32::MAX.to_bits());
+    let lines: [(_, [Point; 2]); 2] = [
+        (Lossless, [(0, ONE), (1, TWO)]),
+        (Absolute(3e38), [(0, least), (1, most)]),
+    ];
+    let [rises, runs_off] = lines.map(|(bound, points)| {
+        let bound = face::bound_words(bound);
+        both::stepped(context, &BUILDER, bound, &points)
+    });
+    for _ in 0..context.rounds(300_000) {
+        let (m, lengths) = context.inputs.edge(MOST_VALUES);
+        let row = context.inputs.pick(&[&rises, &rises, &rises, &runs_off]);
+        let row = with_lengths(row, lengths.map(|length| length as u64));
+        both::finish(context, &row, m as usize, &OUT);
+        choice::choose(context, builder_in(&row), m);
+    }
+}
