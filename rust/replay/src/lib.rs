@@ -22,7 +22,7 @@ use std::fmt::Write;
 const SEED: u64 = 1;
 
 /// How many records of a call are drawn for each of its refusals, besides those at its limits, those of broken
-/// streams, those at a bound and those of cut ones.
+/// streams, those that the first rules answer otherwise and those of cut streams.
 const DRAWN: usize = 25;
 
 /// The records of a call.

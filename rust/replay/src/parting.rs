@@ -1,5 +1,5 @@
-//! Readings at the bound, in each call that tests one: document 01's first rules answer every one of these otherwise, so
-//! that a library which follows them is seen.
+//! Readings at the bound, in each call that tests one, and models whose costs in f32 tie, in both calls that choose:
+//! document 01's first rules answer every one of these otherwise, so that a library which follows them is seen.
 
 use crate::draw::STALE;
 use crate::record::Record;
@@ -9,6 +9,7 @@ use modelardb_rattle::ffi::{
 };
 use oracle::paper::models::ErrorBound::{self, Absolute, Relative};
 use side_by_side::face::{self, choice, fit};
+use side_by_side::inputs::{ONE, TWO};
 
 /// A bound, a value that stands before a reading and would stand for it, and the reading.
 const KEPT: [(ErrorBound, [f32; 2]); 6] = [
@@ -29,6 +30,16 @@ const TAKEN: [(ErrorBound, [f32; 2]); 5] = [
     (Relative(60.0), [5.0, 11.0]),
 ];
 
+/// M, and how many values PMC-Mean and Swing stand for: the fewest, those with the least M, some between, and those with
+/// the greatest M and product.
+const TIED: [(u64, [u64; 2]); 5] = [
+    (2_948, [2_947, 2_948]),
+    (190, [47_879, 48_131]),
+    (1_000, [13_999, 14_013]),
+    (10_000, [9_992, 9_993]),
+    (65_535, [65_534, 65_535]),
+];
+
 /// The records of a call.
 pub fn records(call: usize) -> Vec<Record> {
     let of = |lists: &[(ErrorBound, [f32; 2])]| -> Vec<Record> {
@@ -40,8 +51,43 @@ pub fn records(call: usize) -> Vec<Record> {
     };
     match call {
         2 | 5 | 30 | 38 => of(&KEPT),
-        10 | 23 | 25 => of(&TAKEN),
+        10 | 23 => of(&TAKEN),
+        24 => TIED.map(finished).to_vec(),
+        25 => [of(&TAKEN), vec![listed()]].concat(),
         _ => vec![],
+    }
+}
+
+/// The choice of a builder with such lengths.
+fn finished((m, [pmc_mean, swing]): (u64, [u64; 2])) -> Record {
+    let mut row = after_one(24, (0, 0), ONE);
+    choice::try_to_update_models(&mut row, 1, TWO);
+    row[PMC_MEAN_WORDS - 2] = pmc_mean;
+    row[MODEL_BUILDER_WORDS - 2] = swing;
+    Record {
+        call: 24,
+        w: vec![m],
+        r: vec![STALE.into(); SELECTED_MODEL_WORDS],
+        s: row,
+        ..Record::default()
+    }
+}
+
+/// The choice over a list of which the models take the first of such lengths. Its values are equal but for the last, so
+/// that the record is short: that one is too far from the average, and not from the highest line.
+fn listed() -> Record {
+    let (m, [pmc_mean, swing]) = TIED[0];
+    let mut values = vec![0; pmc_mean as usize];
+    values.push(1.5f32.to_bits());
+    let (kind, bound) = face::bound_words(Absolute(1.0));
+    Record {
+        call: 25,
+        x: vec![kind, bound],
+        w: vec![m],
+        t: (0..swing as i64).collect(),
+        v: values,
+        r: vec![STALE.into(); SELECTED_MODEL_WORDS],
+        ..Record::default()
     }
 }
 
@@ -126,6 +172,6 @@ mod tests {
             assert_ne!(line(), rules::as_first(line));
             count += 1;
         }
-        assert_eq!(count, 39);
+        assert_eq!(count, 45);
     }
 }
