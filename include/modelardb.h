@@ -343,7 +343,7 @@ modelardb_fault modelardb_swing_grid(int64_t start_time, int64_t end_time, uint3
 #define MODELARDB_CHOSEN_LENGTH 1          /* how many values it stands for */
 #define MODELARDB_CHOSEN_FIRST_VALUE 2     /* the bits of its first value */
 #define MODELARDB_CHOSEN_LAST_VALUE 3      /* and of its last, which for PMC-Mean is the same */
-#define MODELARDB_CHOSEN_BYTES_PER_VALUE 4 /* the bits of its f32 bytes for each value */
+#define MODELARDB_CHOSEN_BYTES_PER_VALUE 4 /* the bits of its f32 bytes for each value; the choice is not by these */
 #define MODELARDB_CHOSEN_WORDS 5
 
 /* state: a builder before any point. Refusals: 1; 4. */
@@ -354,14 +354,15 @@ modelardb_fault modelardb_model_builder_new(uint32_t kind, uint32_t bound, uint6
 modelardb_fault modelardb_model_builder_try_to_update_models(uint64_t *state, size_t state_length,
                                                              int64_t timestamp, uint32_t value);
 
-/* out[0] to out[4]: the model that needs fewer bytes for each value, with metadata of m bytes. Refusals: 1; 2; 3
- * (m); 4 (out); 11 (a model of length 0). */
+/* out[0] to out[4]: the model that needs fewer bytes for each value, with metadata of m bytes: Swing where
+ * (m + 1) * PMC-Mean's length is less than m * Swing's, else PMC-Mean; and PMC-Mean also where Swing's first value
+ * is finite and its last is not. Refusals: 1; 2; 3 (m); 4 (out); 11 (a model of length 0). */
 modelardb_fault modelardb_model_builder_finish(const uint64_t *state, size_t state_length, size_t m, uint64_t *out,
                                                size_t out_length);
 
-/* out[0] to out[4]: the model chosen for the points from the first one on, each model fitted until it fails.
- * Refusals: 1; 3 (over 65,536 values, or m); 12 (unequal lengths); 4; 10 (all timestamps are judged); 11 (no
- * values). */
+/* out[0] to out[4]: the model chosen, as modelardb_model_builder_finish does, for the points from the first one on,
+ * each model fitted until it fails. Refusals: 1; 3 (over 65,536 values, or m); 12 (unequal lengths); 4; 10 (all
+ * timestamps are judged); 11 (no values). */
 modelardb_fault modelardb_choose_model(const int64_t *timestamps, size_t timestamps_length, const uint32_t *values,
                                        size_t values_length, uint32_t kind, uint32_t bound, size_t m,
                                        uint64_t *out, size_t out_length);

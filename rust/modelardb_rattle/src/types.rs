@@ -19,7 +19,8 @@ use std::fmt::{self, Debug, Formatter};
 /// // The average of three is a degree from the first and the last: PMC-Mean stopped at two.
 /// assert_eq!((builder.pmc_mean_length(), builder.swing_length()), (2, 3));
 ///
-/// // With 12 bytes of metadata: 12 / 2 = 6 bytes a value against 13 / 3 = 4.33.
+/// // With 12 bytes of metadata: 12 / 2 = 6 bytes a value against 13 / 3 = 4.33. In whole numbers,
+/// // 13 × 2 = 26 is less than 12 × 3 = 36.
 /// let chosen = builder.finish(12)?;
 /// assert_eq!(chosen.model_type_id(), ModelBuilder::SWING_ID);
 /// assert_eq!((chosen.first_value(), chosen.last_value()), (20.0, 22.0));
@@ -88,9 +89,13 @@ impl ModelBuilder {
         Ok(self.pmc_mean_could_fit_all() || self.swing_could_fit_all())
     }
 
-    /// The model that needs fewer bytes for each value, where the metadata takes `metadata_size`.
+    /// The model that needs fewer bytes for each value, where the metadata takes `metadata_size`, M.
     /// PMC-Mean wins a tie, and wherever Swing's line runs from a finite value to one that is not. The
     /// builder stays, and may take further points.
+    ///
+    /// The two are compared as whole numbers: Swing needs fewer where (M + 1) × the length of PMC-Mean is
+    /// less than M × its own. The bytes that are told, [`SelectedModel::bytes_per_value`], are rounded, and
+    /// may be equal where these are not.
     ///
     /// # Errors
     ///
@@ -179,7 +184,8 @@ impl SelectedModel {
         self.row[3] as u32
     }
 
-    /// How many bytes each value costs.
+    /// How many bytes each value costs, rounded to an f32. The choice does not go by this: see
+    /// [`ModelBuilder::finish`].
     pub fn bytes_per_value(&self) -> f32 {
         f32::from_bits(self.row[4] as u32)
     }
@@ -199,8 +205,9 @@ impl Debug for SelectedModel {
 }
 
 /// Fits both models to the points from the first one on, each until it fails, and chooses the one that
-/// needs fewer bytes for each value. All timestamps are judged, those behind the model's too. Whether that is
-/// less than the 4 bytes of a plain value is for the caller to see: of noisy values, lossless, it need not be.
+/// needs fewer bytes for each value, as [`ModelBuilder::finish`] does. All timestamps are judged, those behind
+/// the model's too. Whether it needs less than the 4 bytes of a plain value is for the caller to see: of noisy
+/// values, lossless, it need not be.
 ///
 /// The bound decides which values a model takes. What it draws for them is computed, and nothing is
 /// promised of that, lossless neither: see [`ErrorBound`]. Values that must come back bit for bit belong
@@ -230,6 +237,10 @@ impl Debug for SelectedModel {
 /// let rising = choose_model(&times, &[20.0, 21.0, 22.0], half, 12)?;
 /// assert_eq!(rising.model_type_id(), ModelBuilder::SWING_ID);
 /// assert_eq!((rising.first_value(), rising.last_value()), (20.0, 22.0));
+///
+/// // With 2 bytes of metadata 3 × 2 = 2 × 3: a tie, which PMC-Mean wins.
+/// let tied = choose_model(&times, &[20.0, 21.0, 22.0], half, 2)?;
+/// assert_eq!((tied.model_type_id(), tied.length()), (ModelBuilder::PMC_MEAN_ID, 2));
 ///
 /// assert_eq!(choose_model(&times, &[20.0], half, 12), Err(Refusal::CountsDisagree));
 /// assert_eq!(choose_model(&[], &[], half, 12), Err(Refusal::NoModel));

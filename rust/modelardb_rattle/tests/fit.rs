@@ -98,6 +98,33 @@ fn the_rule_in_one_call_is_the_rule_step_by_step() {
     );
 }
 
+/// The fewest readings of which the bytes a value tie in f32, where the whole numbers do not: 2949 × 2947 is less than
+/// 2948 × 2948 by 1.
+#[test]
+fn the_choice_is_by_whole_numbers() {
+    let (times, bound): (Vec<i64>, _) = ((0..2_948).collect(), Absolute(1_473.0));
+    let values: Vec<f32> = (0..2_948u16).map(f32::from).collect();
+    let mut builder = ModelBuilder::new(bound).unwrap();
+    for (&time, &value) in times.iter().zip(&values) {
+        assert_eq!(builder.try_to_update_models(time, value), Ok(true));
+    }
+    let lengths = [builder.pmc_mean_length(), builder.swing_length()];
+    assert_eq!(lengths, [2_947, 2_948]);
+    for (m, id, length) in [
+        (2_947, ModelBuilder::PMC_MEAN_ID, 2_947),
+        (2_948, ModelBuilder::SWING_ID, 2_948),
+        (2_949, ModelBuilder::SWING_ID, 2_948),
+    ] {
+        let chosen = choose_model(&times, &values, bound, m).unwrap();
+        assert_eq!((chosen.model_type_id(), chosen.length()), (id, length));
+        assert_eq!(builder.finish(m), Ok(chosen));
+    }
+    let chosen = builder.finish(2_948).unwrap();
+    assert_eq!((chosen.first_value(), chosen.last_value()), (0.0, 2_947.0));
+    assert_eq!(chosen.bytes_per_value(), 2_948.0 / 2_947.0);
+    assert_eq!(chosen.bytes_per_value(), 2_949.0 / 2_948.0);
+}
+
 #[test]
 fn times_behind_the_chosen_model_are_judged() {
     // Both models stop at the second value.

@@ -58,7 +58,8 @@ byte       where the segment begins
 readings   how many the model stands for, and draws
 residuals  how many follow them, kept one by one
 bytes      {m} of metadata, the model's parameters, the residuals
-cost       bytes a reading: {m} by how many PMC-Mean could stand for, {} by how many Swing could; the smaller decides
+cost       bytes a reading: {m} by how many PMC-Mean could stand for, {} by how many Swing could
+           the smaller decides; they are compared as whole numbers, before any rounding
 ",
         m + 1
     )

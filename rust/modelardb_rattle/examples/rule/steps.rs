@@ -1,10 +1,11 @@
 //! The rule reading by reading: what each model does with it, and the choice in the end.
 
 use crate::readings::Readings;
-use crate::table::{bound, kept, name, why};
+use crate::table::{bound, kept, name, products, why};
 use modelardb_rattle::{
     ErrorBound, PMCMean, Refusal, Swing, choose_model, is_value_within_error_bound,
 };
+use std::cmp::Ordering;
 
 /// What is said of the readings.
 pub fn steps(readings: &Readings, error_bound: ErrorBound, m: usize) -> Result<String, Refusal> {
@@ -34,10 +35,24 @@ pub fn steps(readings: &Readings, error_bound: ErrorBound, m: usize) -> Result<S
     let other_cost = line.bytes_per_value(m)?;
     text += &format!("PMC-Mean: {m} / {length} = {cost} bytes a reading\n");
     text += &format!("Swing: ({m} + 1) / {other_length} = {other_cost} bytes a reading\n");
+    text += &compared(m, length, other_length);
     let (name, kept) = (name(&chosen), kept(&chosen));
-    let (length, why) = (chosen.length(), why(&chosen, cost, other_cost));
+    let why = why(&chosen, products(m, length, other_length));
+    let length = chosen.length();
     text += &format!("chosen: {name} for {length}, which keeps {kept}: {why}\n");
     Ok(text)
+}
+
+/// The whole numbers that decide.
+fn compared(m: usize, length: usize, other_length: usize) -> String {
+    let [left, right] = products(m, length, other_length);
+    let than = match left.cmp(&right) {
+        Ordering::Less => "is less than",
+        Ordering::Equal => "equals",
+        Ordering::Greater => "is not less than",
+    };
+    let more = m + 1;
+    format!("compared: {more} × {length} = {left} {than} {m} × {other_length} = {right}\n")
 }
 
 /// PMC-Mean, and beside it a model of the same values that takes any finite one, to show an average

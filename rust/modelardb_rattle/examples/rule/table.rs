@@ -2,6 +2,7 @@
 
 use modelardb_rattle::ErrorBound::{self, Absolute, Lossless, Relative};
 use modelardb_rattle::{ModelBuilder, PMCMean, Refusal, SelectedModel, Swing, choose_model};
+use std::cmp::Ordering;
 
 /// Values at the minutes 0, 5, 10 and so on, a bound and a metadata size.
 type Run = (&'static [f32], ErrorBound, usize);
@@ -10,12 +11,24 @@ const NAN: f32 = f32::NAN;
 const MAX: f32 = f32::MAX;
 const INFINITY: f32 = f32::INFINITY;
 
-const RUNS: [Run; 19] = [
+/// 0, 1, 2 and so on to 2947.
+const WHOLE: [f32; 2948] = {
+    let mut all = [0.0; 2948];
+    let mut at = 0;
+    while at < all.len() {
+        all[at] = at as f32;
+        at += 1;
+    }
+    all
+};
+
+const RUNS: [Run; 20] = [
     (&[20.0], Absolute(0.5), 12),
     (&[20.5, 20.75, 20.25], Absolute(0.5), 12),
     (&[20.0, 21.0, 22.0], Absolute(0.5), 12),
     (&[20.0, 21.0, 22.0], Absolute(0.5), 3),
     (&[20.0, 21.0, 22.0], Absolute(0.5), 2),
+    (&WHOLE, Absolute(1473.0), 2948),
     (&[20.0, 21.0, 22.0], Lossless, 12),
     (&[20.0, 20.0, 21.0], Lossless, 12),
     (&[20.0, 25.0, 18.0], Lossless, 12),
@@ -33,8 +46,8 @@ const RUNS: [Run; 19] = [
 ];
 
 const HEAD: &str = "\
-| values | bound | M | PMC-Mean stands for | at a cost of | Swing stands for | at a cost of | chosen | it keeps | why |
-|---|---|---|---|---|---|---|---|---|---|
+| values | bound | M | PMC-Mean stands for | at a cost of | Swing stands for | at a cost of | compared | chosen | it keeps | why |
+|---|---|---|---|---|---|---|---|---|---|---|
 ";
 
 /// The table, by the proved library.
@@ -48,17 +61,27 @@ fn row((values, error_bound, m): Run) -> Result<String, Refusal> {
     let times: Vec<i64> = (0..values.len() as i64).map(|at| 5 * at).collect();
     let chosen = choose_model(&times, values, error_bound, m)?;
     let (cost, other_cost) = (pmc_mean.bytes_per_value(m)?, swing.bytes_per_value(m)?);
-    let shown: Vec<String> = values.iter().copied().map(number).collect();
+    let products = products(m, pmc_mean.len(), swing.len());
     Ok(format!(
-        "| {} | {} | {m} | {} | {cost} | {} | {other_cost} | {} | {} | {} |\n",
-        shown.join(", "),
+        "| {} | {} | {m} | {} | {cost} | {} | {other_cost} | {} | {} | {} | {} |\n",
+        shown(values),
         bound(error_bound),
         pmc_mean.len(),
         swing.len(),
+        compared(products),
         name(&chosen),
         kept(&chosen),
-        why(&chosen, cost, other_cost),
+        why(&chosen, products),
     ))
+}
+
+/// The values; of many the first three and the last.
+fn shown(values: &[f32]) -> String {
+    let all: Vec<String> = values.iter().copied().map(number).collect();
+    match &all[..] {
+        [one, two, three, .., last] if all.len() > 8 => format!("{one}, {two}, {three}, .. {last}"),
+        few => few.join(", "),
+    }
 }
 
 /// Each model by itself, up to its first failure.
@@ -89,14 +112,26 @@ pub fn name(chosen: &SelectedModel) -> &'static str {
     }
 }
 
-/// Why it was chosen, by the costs of PMC-Mean and of Swing.
-pub fn why(chosen: &SelectedModel, cost: f32, other_cost: f32) -> &'static str {
-    if is_swing(chosen) || cost < other_cost {
-        "it costs less"
-    } else if cost == other_cost {
-        "a tie"
-    } else {
-        "Swing's line ends at no finite value"
+/// What is compared: M + 1 times as many readings as PMC-Mean stands for, and M times as many as Swing does.
+pub fn products(m: usize, pmc_mean: usize, swing: usize) -> [usize; 2] {
+    [(m + 1) * pmc_mean, m * swing]
+}
+
+fn compared([left, right]: [usize; 2]) -> String {
+    let sign = match left.cmp(&right) {
+        Ordering::Less => "<",
+        Ordering::Equal => "=",
+        Ordering::Greater => ">",
+    };
+    format!("{left} {sign} {right}")
+}
+
+/// Why it was chosen, by the products.
+pub fn why(chosen: &SelectedModel, [left, right]: [usize; 2]) -> &'static str {
+    match left.cmp(&right) {
+        Ordering::Less if !is_swing(chosen) => "Swing's line ends at no finite value",
+        Ordering::Equal => "a tie",
+        _ => "it costs less",
     }
 }
 
