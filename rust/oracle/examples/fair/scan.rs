@@ -77,7 +77,7 @@ impl Piece {
         wins_by_costs(self.m, pmc_mean as usize, swing as usize)
     }
 
-    /// Beside how many it wins at the last that loses by the products.
+    /// Beside how many it wins at the last that loses by the products, also where that is above the longest.
     fn by_costs_alone(&self) -> u32 {
         let wins = |pmc_mean| u32::from(self.wins(pmc_mean, 0));
         self.lengths.clone().map(wins).sum()

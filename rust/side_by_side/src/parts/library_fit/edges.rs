@@ -12,6 +12,7 @@ use crate::parts::choice;
 use modelardb_rattle::ffi::SELECTED_MODEL_WORDS;
 use oracle::paper::MOST_VALUES;
 use oracle::paper::models::ErrorBound::{Absolute, Lossless};
+use oracle::paper::types::SWING_ID;
 
 const OUT: [u64; SELECTED_MODEL_WORDS] = [STALE_WORD; SELECTED_MODEL_WORDS];
 
@@ -22,23 +23,29 @@ pub fn edges(context: &mut Context) {
     handed_in(context);
     for at in 0..context.rounds(8) {
         let any = context.inputs.parting_edge(1 << 13);
-        let (m, lengths) = if at == 0 { FEWEST } else { any };
-        let (values, bound) = whole_numbers(lengths);
-        let run = Run {
-            times: (0..values.len() as i64).collect(),
-            values,
-            bound,
-            m: m as usize,
-        };
+        let run = won_by_swing(context, if at == 0 { FEWEST } else { any });
         runs::over(context, &run);
     }
     for _ in 0..context.rounds(4) {
-        let (m, lengths) = context.inputs.parting_edge(MOST_VALUES);
-        let (values, bound) = whole_numbers(lengths);
-        let times: Vec<i64> = (0..values.len() as i64).collect();
-        let words = (face::bound_words(bound), m as usize);
-        both::choose(context, (&times, &values), words, &OUT);
+        let lengths = context.inputs.parting_edge(MOST_VALUES);
+        won_by_swing(context, lengths);
     }
+}
+
+/// Whole numbers of which the models take these lengths, where the costs in f32 tie: Swing is chosen for all.
+fn won_by_swing(context: &mut Context, (m, lengths): Lengths) -> Run {
+    let (values, bound) = whole_numbers(lengths);
+    let run = Run {
+        times: (0..values.len() as i64).collect(),
+        values,
+        bound,
+        m: m as usize,
+    };
+    let words = (face::bound_words(bound), run.m);
+    let (_, chosen) = both::choose(context, (&run.times, &run.values), words, &OUT);
+    let wins = [SWING_ID.into(), run.values.len() as u64];
+    context.same("Swing", &wins[..], &chosen[..2], || run.to_string());
+    run
 }
 
 /// A rising line, and one that runs off to infinity, which is never chosen.
