@@ -1,5 +1,6 @@
 -- What the proofs of the C face share.
 pub mod Rows
+pub mod Numbers
 pub mod Small
 pub mod Signed
 pub mod Back

@@ -4,3 +4,4 @@ pub mod Back
 pub mod Stands
 pub mod Answers
 pub mod Short
+pub mod Fair

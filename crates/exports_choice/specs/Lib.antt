@@ -1,3 +1,4 @@
 -- How the choice crosses the C face.
 pub mod Row
+pub mod Fair
 pub mod inner

@@ -31,7 +31,7 @@ use Rattle.macaque_v.specs.declared.Opening.the-variants.{First, On}
 use Rattle.macaque_v.proofs.Promises.{values-read-back, lossless-keeps-the-inputs}
 use Rattle.exports.specs.Face.{refusalFault, faultSaid, rowAfter, plainFault}
 use Rattle.exports.proofs.Rows.{refused-with-room}
-use Rattle.exports_stream.proofs.Numbers.{judged-so}
+use Rattle.exports.proofs.Numbers.{judged-so}
 use Rattle.exports_stream.proofs.Promises.{place-word, length-word}
 use Rattle.exports_stream.specs.Row.{writerIn, bytesInUse, lengthWord}
 use Rattle.exports_stream.specs.Calls.{openingOf, gridFault, gridOut, RowMade}

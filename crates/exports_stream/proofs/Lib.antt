@@ -2,7 +2,6 @@
 pub mod Words
 pub mod Faces
 pub mod Tabled
-pub mod Numbers
 pub mod Promises
 pub mod Sums
 pub mod Kept

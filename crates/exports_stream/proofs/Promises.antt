@@ -41,7 +41,7 @@ use Rattle.exports_stream.specs.Row.{writerLength, writerRow, sumWord, s
 use Rattle.exports_stream.specs.Calls.{openingOf, countIn, newFault, newRow, writeFault, writeRow, writeBuffer, reopenFaceCauses, reopenFault, reopenRow, reopenBuffer, gridFault, gridOut, RowMade, RowResumesAsOne}
 use Rattle.exports_stream.proofs.Words.{short-stands-for-none, no-state, a-state, row-back, written-long, own-words}
 use Rattle.exports_stream.proofs.Faces.{no-state-refused, stands}
-use Rattle.exports_stream.proofs.Numbers.{judged-so}
+use Rattle.exports.proofs.Numbers.{judged-so}
 
 -- ---- the writer that a row stands for
 

@@ -39,7 +39,7 @@ use Rattle.exports.proofs.Back.{bound-of-held}
 use Rattle.exports_stream.specs.Row.{writerLength, writerRow, writerIn, placeWord, lengthWord}
 use Rattle.exports_stream.specs.Calls.{openingOf, countIn, reopenFault, reopenRow, reopenBuffer, gridFault, gridOut, RowMade, RowSumsAsTheCall}
 use Rattle.exports_stream.specs.Rescue.{rescueFaceCauses, rescueSaid, rescueFault, rescueRow, rescueBuffer, RowSaves, RowRescues}
-use Rattle.exports_stream.proofs.Numbers.{judged-so}
+use Rattle.exports.proofs.Numbers.{judged-so}
 use Rattle.exports_stream.proofs.Promises.{row-made, made-row, length-word, a-row-goes-on, opened-fault, opened-row, opened-buffer, reopened-fault, reopened-row, reopened-buffer}
 use Rattle.exports_stream.proofs.Sums.{none-of-them, a-reopened-row-sums}
 

@@ -43,7 +43,7 @@ use Rattle.exports_stream.specs.Calls.{openingOf, countIn, reopenFaceCau
 use Rattle.exports_stream.proofs.Words.{a-state, no-state, sum-small, words-small, row-back, row-stands, written-back, written-stands}
 use Rattle.exports_stream.proofs.Faces.{no-state-refused}
 use Rattle.exports_stream.proofs.Promises.{a-made-row-stands, length-word, plain-sum, accepted-zero, sum-after-is, sum-after-some}
-use Rattle.exports_stream.proofs.Numbers.{AboveZero, judged-so}
+use Rattle.exports.proofs.Numbers.{AboveZero, judged-so}
 use Rattle.exports.proofs.Back.{is-small, bound-of-held}
 
 -- ---- the sum call on the bytes of a row

@@ -38,7 +38,7 @@ use Rattle.exports.proofs.Back.{bound-of-held}
 use Rattle.exports_stream.specs.Row.{writerLength, writerRow, placeWord, lengthWord}
 use Rattle.exports_stream.specs.Calls.{openingOf, countIn}
 use Rattle.exports_stream.specs.Tabled.{entriesAfter}
-use Rattle.exports_stream.proofs.Numbers.{judged-so}
+use Rattle.exports.proofs.Numbers.{judged-so}
 use Rattle.exports_stream.proofs.Promises.{row-made, one-more}
 use Rattle.exports_stream.proofs.Rescue.{fault-tells, place-in, length-in, rescued-fault, rescued-row, rescued-buffer}
 use Rattle.exports_stream.proofs.Sums.{none-of-them}

@@ -33,7 +33,7 @@ use Rattle.exports_stream.specs.Row.{writtenRow, standsForState, writerIn, leng
 use Rattle.exports_stream.specs.Calls.{openingOf, countIn, writeFault, RowOfItsBytes, PlainSum, RowSumsAsTheCall, TenWords, rowOf}
 use Rattle.exports_stream.specs.Tabled.{besideWritten, entriesAfter, tableWriteSaid, tableWriteFault, tableWriteRow, tableWriteBuffer, RowCarriesTheSumBeside}
 use Rattle.exports_stream.proofs.Tabled.{no-state-refused}
-use Rattle.exports_stream.proofs.Numbers.{judged-so}
+use Rattle.exports.proofs.Numbers.{judged-so}
 use Rattle.exports_stream.proofs.Sums.{AboveFour, read-above, end-above, none-of-them, row-of-the-reopened, a-row-sums, a-row-stays-of-its-bytes, a-written-row-sums, same-standing, other-writer, no-writer}
 use Rattle.exports_table.specs.Calls.{besideRow, tableReopenFaceCauses, tableReopenSaid, tableReopenFault, tableReopenRow, tableReopenBuffer}
 use Rattle.exports_table.proofs.Promises.{a-write-with-a-table-is-the-plain-one}

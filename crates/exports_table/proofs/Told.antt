@@ -24,7 +24,7 @@ use Rattle.macaque_v.specs.declared.Opening.{Opening}
 use Rattle.bits.specs.Bits.{bitsOf}
 use Rattle.place_table.specs.Calls.{tableWriteCauses, tableWriteAnswer, checkAnswer}
 use Rattle.exports.specs.Face.{plainFault}
-use Rattle.exports_stream.proofs.Numbers.{judged-so}
+use Rattle.exports.proofs.Numbers.{judged-so}
 
 -- ---- writing
 

@@ -1,4 +1,4 @@
--- The limits of 01, "Numbers and bounds", on counts, and the cost of a model by which the choice goes.
+-- The limits of 01, "Numbers and bounds", on counts, and the cost of a model as it is reported.
 use mathlib.Core.Bool.{Bool, _&&_}
 use Prim.Native.Nat.{ℕ}
 use lib.Dec.{leb}

@@ -142,11 +142,17 @@ module _ (ts : List ℤ) (values : List ℕ) (b : ErrorBound) (m : ℕ) where
   unfolding finishAnswer
   choice-finishes none = sym (accepted (refusing after-all) (answeredOn (choiceOf after-all m)) (finishCauses after-all m) (choice-clear none))
 
+  pub choice-is-finish : (x : SelectedModel) → choiceAnswer ts values b m ≡ answered x → finishAnswer after-all m ≡ answeredOn x
+  unfolding choiceAnswer
+  choice-is-finish x h =
+      let t = told (choiceCauses ts values b m) (choiceOf after-all m) x (sym h) in
+      choice-finishes (t .0) ∙ ap answeredOn (sym (t .1))
+
   -- the model that is chosen
   pub choice-stands : (x : SelectedModel) → choiceAnswer ts values b m ≡ answered x → (1 ≤ x .length) × (x .length ≤ length values) × (x .«model_type_id» ≡ 1 → 2 ≤ x .length)
   unfolding choiceAnswer
   choice-stands x h =
       let t = told (choiceCauses ts values b m) (choiceOf after-all m) x (sym h) in
-      let f = choice-finishes (t .0) ∙ ap answeredOn (sym (t .1)) in
+      let f = choice-is-finish x h in
       let most : x .length ≤ length (points ts values) = rw (t .1) (choice-length b (points ts values) m) in
       (finish-length after-all m x f, omega (arith, most, points-length ts values), finish-swing after-all m x f)

@@ -1,9 +1,8 @@
 -- The model that is chosen stands for at least one value, Swing's for at least two, and for no more than were handed in. Assumes nothing.
-use mathlib.Core.Path.{_≡_, sym, _∙_}
-use mathlib.Core.Bool.{true, false, not, _&&_, false≢true}
+use mathlib.Core.Path.{_≡_}
+use mathlib.Core.Bool.{true, not, _&&_}
 use mathlib.Core.List.{List}
 use Prim.Native.Nat.{ℕ, _≤_}
-use native.Mathlib.Omega.{arith}
 use lib.ListN.{length}
 use Rattle.models.specs.Answers.{answeredOn}
 use Rattle.models.specs.declared.ErrorBound.{ErrorBound}
@@ -17,7 +16,7 @@ use Rattle.types.specs.Run.{run}
 use Rattle.types.specs.declared.ModelBuilder.{ModelBuilder}
 use Rattle.types.specs.declared.SelectedModel.{SelectedModel}
 use Rattle.types.proofs.Rooms.{finish-has}
-use Rattle.types.proofs.Costs.{one-point-loses}
+use Rattle.types.proofs.Wins.{wins-with-two}
 use Rattle.types.proofs.Parts.{run-lengths}
 
 -- what both models have, the chosen one has
@@ -46,8 +45,7 @@ finish-swing b m x h =
     let l = b .swing .length in
     let wins = swingWins m (b .«pmc_mean» .length) l in
     let swing = swingModel (b .swing) m in
-    let loses = one-point-loses m (b .«pmc_mean» .length) l (c .0) (c .1) (c .4) in
-    let two : wins ≡ true → TwoIfSwing swing = λ w i. let one : l ≡ 1 → ⊥ = λ e. false≢true (sym (loses e) ∙ w) in omega (arith, one, c .2) in
+    let two : wins ≡ true → TwoIfSwing swing = λ w i. wins-with-two m (b .«pmc_mean» .length) l (c .0) w in
     rw (same-answer-on (a .1)) at (by-test TwoIfSwing (wins && not (endLost swing)) swing (pmcModel (b .«pmc_mean») m) (λ e. two (and-left _ _ e)) (λ e i. absurd (never i)))
 
 -- in a run from fresh

@@ -1,23 +1,25 @@
--- The cost of a model is the nearest f32 to a fraction, so Swing with one value never wins over PMC-Mean with one or more. Assumes nothing.
+-- The cost of a model is the nearest f32 to a fraction, so that costs never put two models in another order than the fractions do: they can only tie. Assumes nothing.
 use mathlib.Core.Path.{_≡_, refl, sym, ap, _∙_}
 use mathlib.Core.Bool.{Bool, true, false, true≢false, false≢true}
 use mathlib.Core.Logic.{⊎-elim}
 use Prim.Native.Nat.{ℕ, _+_, _*_, _≤_, _<_}
-use native.Mathlib.Nat.{mul-pos, mul-one, mul-comm, mul-assoc, mul-left-comm, mul-le-mul-left}
+use native.Mathlib.Nat.{mul-pos, mul-one, mul-comm, mul-assoc, mul-left-comm}
 use native.Mathlib.Omega.{arith}
-use borrow.Author.Tests.{ltb-true, eqb-true, le-ltb, ne-eqb}
-use lib.Dec.{T, eqb, ltb}
+use borrow.Author.Tests.{ltb-true, ltb-false, eqb-true, le-ltb, ne-eqb}
+use lib.Dec.{eqb, ltb}
 use lib.Ieee as Ieee
 use lib.Ieee.{Float, Format, binary32, nan, inf, fin, up, down, round}
+use lib.Ieee.Bits.{is-true}
 use lib.Ieee.Exact.{HasValue}
 use lib.Ieee.Back.{round-whole}
 use lib.Ieee.Scale.{round-same}
 use lib.Ieee.Order.{round-mono}
 use lib.Ieee.Fits.{down-pos}
 use Rattle.models.specs.Limits.{cost, mostValues, mostMetadata}
-use Rattle.models.proofs.Tests.{and-left, and-right, or-either}
+use Rattle.models.proofs.Tests.{and-left, and-right, or-either, or-one}
 use Rattle.swing.proofs.Order.{at-most}
 use Rattle.types.specs.Choice.{swingWins}
+use Rattle.types.specs.Fair.{wonByCosts}
 
 -- ---- a quotient of whole numbers
 nonzero : (n u b d : ℕ) → n * u * 1 ≡ b * d → 0 < b → 0 < d → (n ≡ 0 → ⊥)
@@ -44,17 +46,13 @@ div-whole f (fin false m e) (fin false n d) a b p q B =
     let full : 0 < n * up d * down e = mul-pos (omega (arith, mul-one (n * up d), q .1, mul-pos B (down-pos d))) (down-pos e) in
     rw (ne-eqb n 0 some) (round-same f false (m * up e * down d) (n * up d * down e) a b full B (crossed (m * up e) (n * up d) a b (down d) (down e) (p .1) (q .1)))
 
-pub cost-is : (bytes values : ℕ) → bytes ≤ mostValues → values ≤ mostValues → 0 < values → cost bytes values ≡ round binary32 false bytes values
+cost-is : (bytes values : ℕ) → bytes ≤ mostValues → values ≤ mostValues → 0 < values → cost bytes values ≡ round binary32 false bytes values
 unfolding cost Ieee.ofInt
 cost-is bytes values hb hv some =
     div-whole binary32 _ _ bytes values (round-whole binary32 false bytes (omega arith)) (round-whole binary32 false values (omega arith)) some
 
 -- ---- what is at most another is not above it
-is-true : (b : Bool) → T b → b ≡ true
-is-true true t = refl
-is-true false t = absurd t
-
-pub not-above : (x y : Float) → Ieee.le x y ≡ true → Ieee.lt y x ≡ false
+not-above : (x y : Float) → Ieee.le x y ≡ true → Ieee.lt y x ≡ false
 unfolding Ieee.le Ieee.lt Ieee.eq
 not-above nan y h = absurd (false≢true h)
 not-above (inf s) nan h = absurd (false≢true h)
@@ -78,13 +76,30 @@ not-above (fin true m e) (fin true n d) h =
     let b = n * up d * down e in
     le-ltb a b (⊎-elim (λ l. omega (arith, ltb-true b a l)) (λ k. omega (arith, eqb-true a b (and-left (eqb a b) _ k))) (or-either (ltb b a) _ h))
 
--- ---- the law
-pub one-point-loses : (m n s : ℕ) → 1 ≤ n → n ≤ mostValues → m ≤ mostMetadata → s ≡ 1 → swingWins m n s ≡ false
-unfolding swingWins
-one-point-loses m n s some small size one =
-    let more : m * 1 ≤ (m + 1) * n = wider m n some in
-    let below = is-true (Ieee.le (round binary32 false m n) (round binary32 false (m + 1) 1)) (round-mono binary32 m n (m + 1) 1 some (omega arith) more) in
-    rw (one, cost-is m n (omega arith) small some, cost-is (m + 1) 1 (omega arith) (omega arith) (omega arith)) (not-above (round binary32 false m n) (round binary32 false (m + 1) 1) below)
-  where
-    wider : (m n : ℕ) → 1 ≤ n → m * 1 ≤ (m + 1) * n
-    wider m n h = omega (arith, mul-one m, mul-one (m + 1), mul-le-mul-left (m + 1) h)
+-- ---- the laws: by costs Swing wins only where it does by whole numbers, and where it does by these alone the costs are the same
+module _ (m pmc swing : ℕ) (somePmc : 1 ≤ pmc) (pmcFits : pmc ≤ mostValues) (someSwing : 1 ≤ swing) (swingFits : swing ≤ mostValues) (size : m ≤ mostMetadata) where
+  pmc-cost : cost m pmc ≡ round binary32 false m pmc
+  pmc-cost = cost-is m pmc (omega (arith, size)) pmcFits somePmc
+
+  swing-cost : cost (m + 1) swing ≡ round binary32 false (m + 1) swing
+  swing-cost = cost-is (m + 1) swing (omega (arith, size)) swingFits someSwing
+
+  dearer-loses : m * swing ≤ (m + 1) * pmc → wonByCosts m pmc swing ≡ false
+  unfolding wonByCosts
+  dearer-loses h =
+      rw (pmc-cost, swing-cost) (not-above (round binary32 false m pmc) (round binary32 false (m + 1) swing) (is-true _ (round-mono binary32 m pmc (m + 1) swing somePmc someSwing h)))
+
+  pub still-wins : wonByCosts m pmc swing ≡ true → swingWins m pmc swing ≡ true
+  unfolding swingWins
+  still-wins won = go (ltb ((m + 1) * pmc) (m * swing)) refl
+    where
+      go : (t : Bool) → ltb ((m + 1) * pmc) (m * swing) ≡ t → t ≡ true
+      go true e = refl
+      go false e = sym (dearer-loses (ltb-false ((m + 1) * pmc) (m * swing) e)) ∙ won
+
+  pub wins-at-a-tie : swingWins m pmc swing ≡ true → wonByCosts m pmc swing ≡ false → Ieee.eq (cost (m + 1) swing) (cost m pmc) ≡ true
+  unfolding swingWins wonByCosts Ieee.le
+  wins-at-a-tie wins lost =
+      let less : (m + 1) * pmc < m * swing = ltb-true ((m + 1) * pmc) (m * swing) wins in
+      let least : Ieee.le (cost (m + 1) swing) (cost m pmc) ≡ true = rw (pmc-cost, swing-cost) (is-true _ (round-mono binary32 (m + 1) swing m pmc someSwing somePmc (omega (arith, less)))) in
+      or-one (Ieee.lt (cost (m + 1) swing) (cost m pmc)) _ lost least

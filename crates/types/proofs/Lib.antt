@@ -2,8 +2,10 @@
 pub mod Rooms
 pub mod Runs
 pub mod Parts
+pub mod Wins
 pub mod Costs
 pub mod Chosen
 pub mod Accepted
+pub mod Fair
 pub mod Steps
 pub mod Causes

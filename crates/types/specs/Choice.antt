@@ -1,7 +1,7 @@
--- The choice between the two models: 01, "Choice".
+-- The choice between the two models: 01, "Choice", by the whole numbers of 02, W8.
 use mathlib.Core.Bool.{Bool, cond, not, _&&_}
-use Prim.Native.Nat.{ℕ, _+_}
-use lib.Ieee as Ieee
+use Prim.Native.Nat.{ℕ, _+_, _*_}
+use lib.Dec.{ltb}
 use lib.Ieee.{binary32, ofBits, toBits}
 use Rattle.models.specs.Floats.{isFinite}
 use Rattle.models.specs.Limits.{cost}
@@ -33,9 +33,10 @@ swingModel s m =
       «bytes_per_value» = cost (m + 1) (s .length);
     }
 
--- "the smaller wins and PMC wins a tie": metadata of m bytes, and how many values each model stands for
+-- "Swing wins exactly if (M + 1) × PMC length is less than M × Swing length. An equal product goes to PMC.": by the size m of the metadata, and how many
+-- values each model stands for
 unfoldable pub swingWins : ℕ → ℕ → ℕ → Bool
-swingWins m pmc swing = Ieee.lt (cost (m + 1) swing) (cost m pmc)
+swingWins m pmc swing = ltb ((m + 1) * pmc) (m * swing)
 
 -- "a finite first and a non-finite last value (both as f32)"
 unfoldable pub endLost : SelectedModel → Bool

@@ -120,12 +120,13 @@ fn select_swing(s: Swing, m: usize) -> SelectedModel
 }
 
 // Whether Swing needs fewer bytes for each value: by the size of the metadata, and how many values
-// each model stands for.
+// each model stands for. The quotients are multiplied out, so that none is rounded. No product is
+// above 65,536 * 65,536, or 2^32, so 64 bits hold each.
 fn swing_wins(m: usize, pmc_mean: usize, swing: usize) -> bool
     requires { ⌜ m ≤ mostMetadata ⌝ ∗ ⌜ «pmc_mean» ≤ mostValues ⌝ ∗ ⌜ swing ≤ mostValues ⌝ }
     ensures { λ r. ⌜ r ≡ swingWins m «pmc_mean» swing ⌝ }
 {
-    models::cost(m + 1, swing) < models::cost(m, pmc_mean)
+    (m + 1) * pmc_mean < m * swing
 }
 
 // Whether the line starts at a finite value and does not end at one.

@@ -1,0 +1,84 @@
+-- The choice by whole numbers (02, W8), of the calls: whatever `finish` and `choose_model` answer is fair. Assumes nothing.
+use mathlib.Core.Path.{_≡_, refl, sym, ap, _∙_, subst}
+use mathlib.Core.Bool.{Bool, true, false, cond, not, _&&_, true≢false}
+use mathlib.Core.List.{List}
+use mathlib.Core.Logic.{_⊎_, inl, inr}
+use Prim.Native.Nat.{ℕ, _+_}
+use lib.Ieee as Ieee
+use lib.IntN.{ℤ}
+use Rattle.models.specs.Answers.{answered, answeredOn, NoneHolds}
+use Rattle.models.specs.Limits.{cost}
+use Rattle.models.specs.declared.ErrorBound.{ErrorBound}
+use Rattle.models.proofs.Judged.{accepted-on, same-answer-on}
+use Rattle.models.proofs.Tests.{never}
+use Rattle.types.specs.Builder.{fresh}
+use Rattle.types.specs.Choice.{pmcModel, swingModel, swingWins, endLost, chosen, choiceOf}
+use Rattle.types.specs.Calls.{finishCauses, finishAnswer}
+use Rattle.types.specs.Run.{run, points, choiceAnswer}
+use Rattle.types.specs.Fair.{wonByCosts, choiceByCosts, MoreForEvery, Fair}
+use Rattle.types.specs.declared.ModelBuilder.{ModelBuilder}
+use Rattle.types.specs.declared.SelectedModel.{SelectedModel}
+use Rattle.types.proofs.Rooms.{finish-has}
+use Rattle.types.proofs.Wins.{wins-by-more, more-wins}
+use Rattle.types.proofs.Costs.{still-wins, wins-at-a-tie}
+use Rattle.types.proofs.Accepted.{choice-is-finish}
+
+module _ (b : ModelBuilder) (m : ℕ) (none : NoneHolds (finishCauses b m)) where
+  abbrev pmc : ℕ
+  pmc = b .«pmc_mean» .length
+
+  abbrev swing : ℕ
+  swing = b .swing .length
+
+  -- the model by whether Swing wins, and whether its line is lost
+  abbrev by : Bool → Bool → SelectedModel
+  by wins lost = cond (wins && not lost) (swingModel (b .swing) m) (pmcModel (b .«pmc_mean») m)
+
+  abbrev lost : Bool
+  lost = endLost (swingModel (b .swing) m)
+
+  kept-by : (wins won lost : Bool) → (won ≡ true → wins ≡ true) → by won lost .«model_type_id» ≡ 1 → by wins lost ≡ by won lost
+  unfolding pmcModel
+  kept-by wins true false h i = ap (λ (t : Bool). by t false) (h refl)
+  kept-by wins true true h i = absurd (never i)
+  kept-by wins false lost h i = absurd (never i)
+
+  earned-by : (wins lost : Bool) → swingWins m pmc swing ≡ wins → by wins lost .«model_type_id» ≡ 1 → MoreForEvery m pmc (by wins lost .length)
+  unfolding pmcModel swingModel
+  earned-by true false e i = wins-by-more m pmc swing e
+  earned-by true true e i = absurd (never i)
+  earned-by false lost e i = absurd (never i)
+
+  granted-by : (wins lost : Bool) → wins ≡ true → (by wins lost ≡ swingModel (b .swing) m) ⊎ (lost ≡ true)
+  granted-by true true h = inr refl
+  granted-by true false h = inl refl
+  granted-by false lost h = inr (absurd (true≢false (sym h)))
+
+  still : wonByCosts m pmc swing ≡ true → swingWins m pmc swing ≡ true
+  still = let c = finish-has b m none in still-wins m pmc swing (c .0) (c .1) (c .2) (c .3) (c .4)
+
+  parted-by : (wins won : Bool) → swingWins m pmc swing ≡ wins → wonByCosts m pmc swing ≡ won → (by wins lost ≡ by won lost) ⊎ (Ieee.eq (cost (m + 1) swing) (cost m pmc) ≡ true)
+  parted-by true true w o = inl refl
+  parted-by false false w o = inl refl
+  parted-by false true w o = absurd (true≢false (sym (still o) ∙ w))
+  parted-by true false w o = let c = finish-has b m none in inr (wins-at-a-tie m pmc swing (c .0) (c .1) (c .2) (c .3) (c .4) w o)
+
+  fair : Fair b m (choiceOf b m)
+  unfolding choiceOf choiceByCosts chosen
+  fair =
+      record {
+        stays = kept-by (swingWins m pmc swing) (wonByCosts m pmc swing) lost still;
+        earned = earned-by (swingWins m pmc swing) lost refl;
+        granted = λ h. granted-by (swingWins m pmc swing) lost (more-wins m pmc swing h);
+        parts = parted-by (swingWins m pmc swing) (wonByCosts m pmc swing) refl refl;
+      }
+
+-- ---- of the calls
+pub finish-is-fair : (b : ModelBuilder) (m : ℕ) (x : SelectedModel) → finishAnswer b m ≡ answeredOn x → Fair b m x
+unfolding finishAnswer
+finish-is-fair b m x h =
+    let a = accepted-on b (finishCauses b m) (answeredOn (choiceOf b m)) x h in
+    subst (Fair b m) (same-answer-on (a .1)) (fair b m (a .0))
+
+pub choose-model-is-fair : (ts : List ℤ) (values : List ℕ) (b : ErrorBound) (m : ℕ) (x : SelectedModel) → choiceAnswer ts values b m ≡ answered x → Fair (run (fresh b) (points ts values)) m x
+choose-model-is-fair ts values b m x h = finish-is-fair (run (fresh b) (points ts values)) m x (choice-is-finish ts values b m x h)
