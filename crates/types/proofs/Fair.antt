@@ -82,3 +82,8 @@ finish-is-fair b m x h =
 
 pub choose-model-is-fair : (ts : List ℤ) (values : List ℕ) (b : ErrorBound) (m : ℕ) (x : SelectedModel) → choiceAnswer ts values b m ≡ answered x → Fair (run (fresh b) (points ts values)) m x
 choose-model-is-fair ts values b m x h = finish-is-fair (run (fresh b) (points ts values)) m x (choice-is-finish ts values b m x h)
+
+-- ---- and the rules do part: metadata of 2,948 bytes, 2,947 values of PMC-Mean's and 2,948 of Swing's
+pub they-part : (swingWins 2948 2947 2948 ≡ true) × (wonByCosts 2948 2947 2948 ≡ false)
+unfolding swingWins wonByCosts cost Ieee.ofInt Ieee.div Ieee.round Ieee.lt
+they-part = (refl, refl)
