@@ -1,5 +1,5 @@
 -- The choice by whole numbers (02, W8), through rows: where a call's number is 0, the words that it leaves are those of a model that is fair. Assumes nothing.
-use mathlib.Core.Path.{_≡_, refl, sym, ap, _∙_}
+use mathlib.Core.Path.{_≡_, refl}
 use mathlib.Core.Bool.{Bool, true, false, cond, _||_}
 use mathlib.Core.List.{List}
 use Prim.Native.Nat.{ℕ, _<_}
@@ -8,7 +8,6 @@ use lib.Dec.{leb}
 use lib.IntN.{ℤ}
 use lib.ListN.{length}
 use Rattle.models.specs.Answers.{fault, Said, answered, refused, SaidOn, answeredOn, refusedOn, refusing, stateless}
-use Rattle.models.specs.declared.Fault.{Fault}
 use Rattle.models.proofs.Tests.{never}
 use Rattle.types.specs.Builder.{fresh}
 use Rattle.types.specs.Choice.{choiceOf}

@@ -1,12 +1,12 @@
 -- −0 and a value give the value: so a sum that begins with −0 begins with its first value, and the loops that add need not ask which is the first. Assumes
 -- nothing.
 use mathlib.Core.Path.{_≡_, refl, sym, ap, ap₂, _∙_, subst}
-use mathlib.Core.Bool.{Bool, true, false, _&&_}
+use mathlib.Core.Bool.{Bool, true, false}
 use Prim.Native.Nat.{ℕ, zero, suc, _+_, _-_, _*_, _%_, _^_, _≤_, _<_}
-use native.Mathlib.Nat.{lt-of-not-le, sub-zero, add-comm, zero-add, zero-mul, one-mul, mul-one, mul-assoc, mul-left-comm, mul-pos, mul-lt-mul-of-pos-right, zero-lt-suc, pow-succ', lt-of-lt-of-le}
+use native.Mathlib.Nat.{lt-of-not-le, sub-zero, add-comm, zero-add, zero-mul, one-mul, mul-one, mul-assoc, mul-pos, zero-lt-suc, lt-of-lt-of-le}
 use native.Mathlib.Omega.{arith}
 use borrow.Author.Tests.{lt-ltb}
-use lib.Dec.{T, eqb, leb, ltb, eqb→eq, ltb→lt, leb→le}
+use lib.Dec.{T, eqb→eq}
 use lib.IntN.{ℤ, pos, negsuc}
 use lib.Pow.{pow-lt, pow-add, pow-pos, pow-mono, shl-lt}
 use lib.Ieee as Ieee
@@ -14,40 +14,15 @@ use lib.Ieee.{Float, nan, inf, fin, Format, binary32, prec, emax, low, up, down,
 use lib.Ieee.Bits.{ofBits-fits}
 use lib.Ieee.Digits.{back}
 use lib.Ieee.Exact.{HasValue, round-exact}
-use lib.Ieee.Fits.{reach, and-l, and-r, up-pos, down-pos, round-fits}
+use lib.Ieee.Fits.{reach, up-pos, down-pos, round-fits}
 use lib.Ieee.Back.{round-whole, whole-unique}
+use Rattle.numbers.proofs.InFormat.{in-format}
+use Rattle.numbers.proofs.OneWay.{even-odd, twice, same-shape, is-odd}
 use Rattle.stream.specs.Format.{gathered}
 use Rattle.macaque_v.specs.State.{gatherSum}
 use Rattle.macaque_v.specs.inner.Total.{minusZero, addedTo}
 
 -- ---- a number that fits is written in one way
-
-even-odd : (m t : ℕ) → m % 2 ≡ 1 → m ≡ 2 * t → ⊥
-even-odd m t o h = omega (arith, o, h)
-
-twice : (n b : ℕ) → n * 2 ^ suc b ≡ 2 * (n * 2 ^ b)
-twice n b = ap (λ (x : ℕ). n * x) (pow-succ' 2 b) ∙ mul-left-comm n 2 (2 ^ b)
-
-half : (x y : ℕ) → 2 * x ≡ 2 * y → x ≡ y
-half x y h = omega (arith, h)
-
-odd-pow : (m n a b : ℕ) → m % 2 ≡ 1 → n % 2 ≡ 1 → m * 2 ^ a ≡ n * 2 ^ b → (m ≡ n) × (a ≡ b)
-odd-pow m n zero zero o p h = (sym (mul-one m) ∙ h ∙ mul-one n, refl)
-odd-pow m n zero (suc b) o p h = absurd (even-odd m (n * 2 ^ b) o (sym (mul-one m) ∙ h ∙ twice n b))
-odd-pow m n (suc a) zero o p h = absurd (even-odd n (m * 2 ^ a) p (sym (mul-one n) ∙ sym h ∙ twice m a))
-odd-pow m n (suc a) (suc b) o p h =
-    let r = odd-pow m n a b o p (half (m * 2 ^ a) (n * 2 ^ b) (sym (twice m a) ∙ h ∙ twice n b)) in
-    (r .0, ap suc (r .1))
-
-same-shape : (m n : ℕ) (e d : ℤ) → m % 2 ≡ 1 → n % 2 ≡ 1 → m * up e * down d ≡ n * up d * down e → (m ≡ n) × (e ≡ d)
-same-shape m n (pos a) (pos b) o p h =
-    let r = odd-pow m n a b o p (sym (mul-one (m * 2 ^ a)) ∙ h ∙ mul-one (n * 2 ^ b)) in
-    (r .0, ap pos (r .1))
-same-shape m n (pos a) (negsuc b) o p h = absurd (even-odd n (m * 2 ^ a * 2 ^ b) p (sym (mul-one n) ∙ sym (mul-one (n * 1)) ∙ sym h ∙ twice (m * 2 ^ a) b))
-same-shape m n (negsuc a) (pos b) o p h = absurd (even-odd m (n * 2 ^ b * 2 ^ a) o (sym (mul-one m) ∙ sym (mul-one (m * 1)) ∙ h ∙ twice (n * 2 ^ b) a))
-same-shape m n (negsuc a) (negsuc b) o p h =
-    let r = odd-pow m n (suc b) (suc a) o p (ap (λ (x : ℕ). x * 2 ^ suc b) (sym (mul-one m)) ∙ h ∙ ap (λ (x : ℕ). x * 2 ^ suc a) (mul-one n)) in
-    (r .0, ap negsuc (omega (arith, r .1)))
 
 -- what it is to fit
 record Odd (f : Format) (m : ℕ) (e : ℤ) : Type 0 where
@@ -57,18 +32,7 @@ record Odd (f : Format) (m : ℕ) (e : ℤ) : Type 0 where
   pub finite : m * up e < 2 ^ suc (emax f) * down e
 
 odd-of : (f : Format) (s : Bool) (m : ℕ) (e : ℤ) → T (fits f (fin s (suc m) e)) → Odd f (suc m) e
-unfolding fits
-odd-of f s m e t =
-    let a : Bool = eqb (suc m % 2) 1 in
-    let b : Bool = ltb (suc m) (2 ^ prec f) in
-    let c : Bool = leb (down e) (2 ^ low f) in
-    let d : Bool = ltb (suc m * up e) (2 ^ suc (emax f) * down e) in
-    record {
-      odd = eqb→eq (suc m % 2) 1 (and-l a b (and-l (a && b) c (and-l (a && b && c) d t)));
-      short = ltb→lt (suc m) (2 ^ prec f) (and-r a b (and-l (a && b) c (and-l (a && b && c) d t)));
-      fine = leb→le (down e) (2 ^ low f) (and-r (a && b) c (and-l (a && b && c) d t));
-      finite = ltb→lt (suc m * up e) (2 ^ suc (emax f) * down e) (and-r (a && b && c) d t);
-    }
+odd-of f s m e t = let i = in-format f s m e t in record { odd = is-odd f s m e t; short = i .0; fine = i .1; finite = i .2 }
 
 -- two that fit and have the same value are one
 unique : (f : Format) (x : Float) (s : Bool) (n : ℕ) (d : ℤ) → T (fits f x) → Odd f (suc n) d → HasValue x s (suc n * up d) (down d) → x ≡ fin s (suc n) d

@@ -3,10 +3,10 @@ use mathlib.Core.Path.{_≡_, refl, sym, ap, _∙_}
 use mathlib.Core.Bool.{Bool, true, false, true≢false, false≢true}
 use mathlib.Core.Logic.{⊎-elim}
 use Prim.Native.Nat.{ℕ, _+_, _*_, _≤_, _<_}
-use native.Mathlib.Nat.{mul-pos, mul-one, mul-comm, mul-assoc, mul-left-comm}
+use native.Mathlib.Nat.{mul-pos, mul-one, mul-comm, mul-assoc, mul-left-comm, mul-le-mul}
 use native.Mathlib.Omega.{arith}
 use borrow.Author.Tests.{ltb-true, ltb-false, eqb-true, le-ltb, ne-eqb}
-use lib.Dec.{eqb, ltb}
+use lib.Dec.{T, eqb, ltb}
 use lib.Ieee as Ieee
 use lib.Ieee.{Float, Format, binary32, nan, inf, fin, up, down, round}
 use lib.Ieee.Bits.{is-true}
@@ -14,7 +14,9 @@ use lib.Ieee.Exact.{HasValue}
 use lib.Ieee.Back.{round-whole}
 use lib.Ieee.Scale.{round-same}
 use lib.Ieee.Order.{round-mono}
-use lib.Ieee.Fits.{down-pos}
+use lib.Ieee.Fits.{down-pos, round-fits}
+use lib.Ieee.Positive.{positive, between}
+use Rattle.numbers.proofs.OneWay.{same-number}
 use Rattle.models.specs.Limits.{cost, mostValues, mostMetadata}
 use Rattle.models.proofs.Tests.{and-left, and-right, or-either, or-one}
 use Rattle.swing.proofs.Order.{at-most}
@@ -76,6 +78,14 @@ not-above (fin true m e) (fin true n d) h =
     let b = n * up d * down e in
     le-ltb a b (⊎-elim (λ l. omega (arith, ltb-true b a l)) (λ k. omega (arith, eqb-true a b (and-left (eqb a b) _ k))) (or-either (ltb b a) _ h))
 
+-- ---- a cost is a number above 0, since it lies between the least and the greatest that there are
+above-zero : (bytes values : ℕ) → 1 ≤ bytes → bytes ≤ mostValues → 1 ≤ values → values ≤ mostValues → T (positive (round binary32 false bytes values))
+unfolding round
+above-zero bytes values some few one many =
+    between (round binary32 false 1 mostValues) (round binary32 false bytes values) (round binary32 false mostValues 1) tt tt
+    (round-mono binary32 1 mostValues bytes values (omega arith) one (omega (arith, mul-le-mul some many)))
+    (round-mono binary32 bytes values mostValues 1 one (omega arith) (omega (arith, mul-le-mul few one)))
+
 -- ---- the laws: by costs Swing wins only where it does by whole numbers, and where it does by these alone the costs are the same
 module _ (m pmc swing : ℕ) (somePmc : 1 ≤ pmc) (pmcFits : pmc ≤ mostValues) (someSwing : 1 ≤ swing) (swingFits : swing ≤ mostValues) (size : m ≤ mostMetadata) where
   pmc-cost : cost m pmc ≡ round binary32 false m pmc
@@ -97,9 +107,15 @@ module _ (m pmc swing : ℕ) (somePmc : 1 ≤ pmc) (pmcFits : pmc ≤ mostValues
       go true e = refl
       go false e = sym (dearer-loses (ltb-false ((m + 1) * pmc) (m * swing) e)) ∙ won
 
-  pub wins-at-a-tie : swingWins m pmc swing ≡ true → wonByCosts m pmc swing ≡ false → Ieee.eq (cost (m + 1) swing) (cost m pmc) ≡ true
+  pub wins-at-a-tie : 1 ≤ m → swingWins m pmc swing ≡ true → wonByCosts m pmc swing ≡ false → cost (m + 1) swing ≡ cost m pmc
   unfolding swingWins wonByCosts Ieee.le
-  wins-at-a-tie wins lost =
+  wins-at-a-tie some wins lost =
       let less : (m + 1) * pmc < m * swing = ltb-true ((m + 1) * pmc) (m * swing) wins in
-      let least : Ieee.le (cost (m + 1) swing) (cost m pmc) ≡ true = rw (pmc-cost, swing-cost) (is-true _ (round-mono binary32 (m + 1) swing m pmc someSwing somePmc (omega (arith, less)))) in
-      or-one (Ieee.lt (cost (m + 1) swing) (cost m pmc)) _ lost least
+      let low : Float = round binary32 false (m + 1) swing in
+      let high : Float = round binary32 false m pmc in
+      let most : Ieee.le low high ≡ true = is-true _ (round-mono binary32 (m + 1) swing m pmc someSwing somePmc (omega (arith, less))) in
+      let tie : Ieee.eq low high ≡ true = or-one (Ieee.lt low high) (Ieee.eq low high) (rw (pmc-cost, swing-cost) at lost) most in
+      swing-cost
+      ∙ same-number binary32 low high (above-zero (m + 1) swing (omega (arith, some)) (omega (arith, size)) someSwing swingFits) (above-zero m pmc some (omega (arith, size)) somePmc pmcFits)
+      (round-fits binary32 false (m + 1) swing) (round-fits binary32 false m pmc) tie
+      ∙ sym pmc-cost

@@ -3,7 +3,7 @@ use mathlib.Core.Path.{_≡_, refl, sym, ap, _∙_, subst}
 use mathlib.Core.Bool.{Bool, true, false, cond, not, _&&_, true≢false}
 use mathlib.Core.List.{List}
 use mathlib.Core.Logic.{_⊎_, inl, inr}
-use Prim.Native.Nat.{ℕ, _+_}
+use Prim.Native.Nat.{ℕ}
 use lib.Ieee as Ieee
 use lib.IntN.{ℤ}
 use Rattle.models.specs.Answers.{answered, answeredOn, NoneHolds}
@@ -57,11 +57,13 @@ module _ (b : ModelBuilder) (m : ℕ) (none : NoneHolds (finishCauses b m)) wher
   still : wonByCosts m pmc swing ≡ true → swingWins m pmc swing ≡ true
   still = let c = finish-has b m none in still-wins m pmc swing (c .0) (c .1) (c .2) (c .3) (c .4)
 
-  parted-by : (wins won : Bool) → swingWins m pmc swing ≡ wins → wonByCosts m pmc swing ≡ won → (by wins lost ≡ by won lost) ⊎ (Ieee.eq (cost (m + 1) swing) (cost m pmc) ≡ true)
-  parted-by true true w o = inl refl
-  parted-by false false w o = inl refl
-  parted-by false true w o = absurd (true≢false (sym (still o) ∙ w))
-  parted-by true false w o = let c = finish-has b m none in inr (wins-at-a-tie m pmc swing (c .0) (c .1) (c .2) (c .3) (c .4) w o)
+  told-by : (wins won lost : Bool) → swingWins m pmc swing ≡ wins → wonByCosts m pmc swing ≡ won → by wins lost .«bytes_per_value» ≡ by won lost .«bytes_per_value»
+  unfolding pmcModel swingModel
+  told-by true true lost w o = refl
+  told-by false false lost w o = refl
+  told-by false true lost w o = absurd (true≢false (sym (still o) ∙ w))
+  told-by true false true w o = refl
+  told-by true false false w o = let c = finish-has b m none in wins-at-a-tie m pmc swing (c .0) (c .1) (c .2) (c .3) (c .4) (c .5) w o
 
   fair : Fair b m (choiceOf b m)
   unfolding choiceOf choiceByCosts chosen
@@ -70,7 +72,7 @@ module _ (b : ModelBuilder) (m : ℕ) (none : NoneHolds (finishCauses b m)) wher
         stays = kept-by (swingWins m pmc swing) (wonByCosts m pmc swing) lost still;
         earned = earned-by (swingWins m pmc swing) lost refl;
         granted = λ h. granted-by (swingWins m pmc swing) lost (more-wins m pmc swing h);
-        parts = parted-by (swingWins m pmc swing) (wonByCosts m pmc swing) refl refl;
+        told = told-by (swingWins m pmc swing) (wonByCosts m pmc swing) lost refl refl;
       }
 
 -- ---- of the calls

@@ -4,10 +4,10 @@ use mathlib.Core.Bool.{Bool, true, false, not, _&&_, false≢true}
 use Prim.Native.Nat.{ℕ, _≤_}
 use native.Mathlib.Omega.{arith}
 use borrow.Author.Tests.{leb-true, not-true, not-false}
-use lib.Dec.{eqb}
+use lib.Dec.{eqb, leb}
 use lib.IntN.{ℤ}
 use lib.Ieee.{Float}
-use Rattle.models.specs.Limits.{mostValues, mostMetadata}
+use Rattle.models.specs.Limits.{mostValues, mostMetadata, metadataAllowed}
 use Rattle.models.proofs.Tests.{and-left, and-right, not-of, not-parts, neither, by-test}
 use Rattle.models.proofs.Judged.{has-cost}
 use Rattle.lines.specs.Times.{timeAllowed}
@@ -63,13 +63,13 @@ finish-clears b m k =
     let some = neither (eqb (b .«pmc_mean» .length) 0) (eqb (b .swing .length) 0) (k .1 .1 .1 .0) in
     ((bounds .0, (states .0, (k .1 .1 .0, (some .0, tt)))), (bounds .1, (states .1, (k .1 .1 .0, (some .1, tt)))))
 
-pub finish-has : (b : ModelBuilder) (m : ℕ) → NoneHolds (finishCauses b m) → (1 ≤ b .«pmc_mean» .length) × (b .«pmc_mean» .length ≤ mostValues) × (1 ≤ b .swing .length) × (b .swing .length ≤ mostValues) × (m ≤ mostMetadata)
+pub finish-has : (b : ModelBuilder) (m : ℕ) → NoneHolds (finishCauses b m) → (1 ≤ b .«pmc_mean» .length) × (b .«pmc_mean» .length ≤ mostValues) × (1 ≤ b .swing .length) × (b .swing .length ≤ mostValues) × (m ≤ mostMetadata) × (1 ≤ m)
 finish-has b m k =
     let c = finish-clears b m k in
     let n = b .«pmc_mean» .length in
     let p = has-cost (b .«pmc_mean» .«error_bound») (Pmc.usable (b .«pmc_mean»)) n m (c .0) in
     let s = has-cost (b .swing .«error_bound») (SwingState.usable (b .swing)) (b .swing .length) m (c .1) in
-    (omega (arith, p .1), leb-true n mostValues (p .0), omega (arith, s .1), length-limit (b .swing) (s .0), p .2)
+    (omega (arith, p .1), leb-true n mostValues (p .0), omega (arith, s .1), length-limit (b .swing) (s .0), p .2, leb-true 1 m (and-left (leb 1 m) (leb m mostMetadata) (not-false (metadataAllowed m) (k .1 .1 .0))))
 
 -- PMC-Mean's part of a step leaves Swing alone
 pub pmc-leaves : (b : ModelBuilder) (value : Float) → (updatePmc b value .swing ≡ b .swing) × (updatePmc b value .«swing_could_fit_all» ≡ b .«swing_could_fit_all»)

@@ -1,5 +1,5 @@
 -- By whole numbers Swing wins exactly where it took more than one value more for every m that PMC-Mean took. Assumes nothing.
-use mathlib.Core.Path.{_≡_, sym, ap, _∙_}
+use mathlib.Core.Path.{_≡_, ap, _∙_}
 use mathlib.Core.Bool.{true}
 use Prim.Native.Nat.{ℕ, _+_, _-_, _*_, _≤_, _<_}
 use native.Mathlib.Nat.{mul-add, add-mul, one-mul, lt-of-mul-lt-mul-left}

@@ -32,5 +32,5 @@ pub record Fair (b : ModelBuilder) (m : ℕ) (x : SelectedModel) : Type 0 where
   pub earned : x .«model_type_id» ≡ 1 → MoreForEvery m (b .«pmc_mean» .length) (x .length)
   -- and wherever it did, save for 01's added rule
   pub granted : MoreForEvery m (b .«pmc_mean» .length) (b .swing .length) → (x ≡ swingModel (b .swing) m) ⊎ (endLost (swingModel (b .swing) m) ≡ true)
-  -- where the two rules part, the two costs are the same f32
-  pub parts : (x ≡ choiceByCosts b m) ⊎ (Ieee.eq (cost (m + 1) (b .swing .length)) (cost m (b .«pmc_mean» .length)) ≡ true)
+  -- the reported bytes for each value are those that the old rule reported: where the two choose otherwise, the costs of both models are the same f32
+  pub told : x .«bytes_per_value» ≡ choiceByCosts b m .«bytes_per_value»
