@@ -17,6 +17,8 @@ mod night;
 mod readings;
 #[path = "../examples/room/show.rs"]
 mod room;
+#[path = "../examples/shared/size.rs"]
+mod size;
 #[path = "../examples/day/store.rs"]
 mod store;
 #[path = "../examples/night/stored.rs"]
@@ -190,6 +192,15 @@ fn a_bad_line_is_named_by_its_number() {
         ("# Room 1\n", "room: no readings"),
     ] {
         assert_eq!(readings::of_text("room", text).err().as_deref(), Some(why));
+    }
+}
+
+#[test]
+fn a_size_that_is_none_is_told() {
+    assert_eq!([size::size("1"), size::size("65535")], [Ok(1), Ok(65_535)]);
+    for word in ["0", "65536", "-1", "12.5", "twelve", ""] {
+        let why = "is no M, the bytes of metadata: a whole number from 1 to 65535";
+        assert_eq!(size::size(word), Err(format!("{word:?} {why}")));
     }
 }
 

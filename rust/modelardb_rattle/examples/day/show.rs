@@ -59,7 +59,7 @@ readings   how many the model stands for, and draws
 residuals  how many follow them, kept one by one
 bytes      {m} of metadata, the model's parameters, the residuals
 cost       bytes a reading: {m} by how many PMC-Mean could stand for, {} by how many Swing could
-           the smaller decides; they are compared as whole numbers, before any rounding
+           the smaller decides, before any rounding; at a tie, and where a line ends at no finite value, PMC-Mean
 ",
         m + 1
     )

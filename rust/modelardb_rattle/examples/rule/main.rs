@@ -5,6 +5,8 @@
 
 #[path = "../shared/readings.rs"]
 mod readings;
+#[path = "../shared/size.rs"]
+mod size;
 mod steps;
 mod table;
 #[path = "../shared/told.rs"]
@@ -17,13 +19,13 @@ fn main() -> ExitCode {
     told::told(match words.as_slice() {
         [] => table::table().map_err(|refusal| refusal.to_string()),
         [file, bound, m] => shown(file, bound, m),
-        _ => Err("usage: rule, or rule FILE BOUND M".to_string()),
+        _ => Err("usage: rule, or rule FILE BOUND M: a bound as lossless, 0.5 or 5%, and the bytes of metadata of a segment".to_string()),
     })
 }
 
 fn shown(file: &str, bound: &str, m: &str) -> Result<String, String> {
     let readings = readings::of_file(file)?;
-    let m = m.parse().map_err(|_| format!("{m:?} is no size"))?;
+    let m = size::size(m)?;
     let error_bound = readings::bound(bound)?;
     steps::steps(&readings, error_bound, m).map_err(|refusal| refusal.to_string())
 }

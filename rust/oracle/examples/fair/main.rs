@@ -15,10 +15,12 @@ use scan::Lengths;
 /// The longest of both models.
 pub const LONGEST: u32 = MOST_VALUES as u32;
 
-/// The sizes of which the page has a row; the fifth is the least that parts.
-pub const SHOWN: [u32; 10] = [
+/// The sizes of which the page has a row, the least that parts among them and the one before it.
+pub const SHOWN: [u32; 12] = [
     12,
+    25,
     26,
+    31,
     100,
     189,
     190,
