@@ -2,12 +2,9 @@
 use mathlib.Core.Path.{_≡_, refl, sym, ap, _∙_, subst}
 use mathlib.Core.Bool.{Bool, true, false, cond, not, _&&_, true≢false}
 use mathlib.Core.List.{List}
-use mathlib.Core.Logic.{_⊎_, inl, inr}
 use Prim.Native.Nat.{ℕ}
-use lib.Ieee as Ieee
 use lib.IntN.{ℤ}
 use Rattle.models.specs.Answers.{answered, answeredOn, NoneHolds}
-use Rattle.models.specs.Limits.{cost}
 use Rattle.models.specs.declared.ErrorBound.{ErrorBound}
 use Rattle.models.proofs.Judged.{accepted-on, same-answer-on}
 use Rattle.models.proofs.Tests.{never}
@@ -43,16 +40,19 @@ module _ (b : ModelBuilder) (m : ℕ) (none : NoneHolds (finishCauses b m)) wher
   kept-by wins true true h i = absurd (never i)
   kept-by wins false lost h i = absurd (never i)
 
-  earned-by : (wins lost : Bool) → swingWins m pmc swing ≡ wins → by wins lost .«model_type_id» ≡ 1 → MoreForEvery m pmc (by wins lost .length)
+  more-by : (wins lost : Bool) → swingWins m pmc swing ≡ wins → by wins lost .«model_type_id» ≡ 1 → MoreForEvery m pmc (by wins lost .length)
   unfolding pmcModel swingModel
-  earned-by true false e i = wins-by-more m pmc swing e
-  earned-by true true e i = absurd (never i)
-  earned-by false lost e i = absurd (never i)
+  more-by true false e i = wins-by-more m pmc swing e
+  more-by true true e i = absurd (never i)
+  more-by false lost e i = absurd (never i)
 
-  granted-by : (wins lost : Bool) → wins ≡ true → (by wins lost ≡ swingModel (b .swing) m) ⊎ (lost ≡ true)
-  granted-by true true h = inr refl
-  granted-by true false h = inl refl
-  granted-by false lost h = inr (absurd (true≢false (sym h)))
+  unearned-by : (wins lost : Bool) → swingWins m pmc swing ≡ wins → (MoreForEvery m pmc swing → ⊥) → by wins lost ≡ pmcModel (b .«pmc_mean») m
+  unearned-by true lost e h = absurd (h (wins-by-more m pmc swing e))
+  unearned-by false lost e h = refl
+
+  pmc-by : (wins : Bool) → by wins true ≡ pmcModel (b .«pmc_mean») m
+  pmc-by true = refl
+  pmc-by false = refl
 
   still : wonByCosts m pmc swing ≡ true → swingWins m pmc swing ≡ true
   still = let c = finish-has b m none in still-wins m pmc swing (c .0) (c .1) (c .2) (c .3) (c .4)
@@ -69,9 +69,11 @@ module _ (b : ModelBuilder) (m : ℕ) (none : NoneHolds (finishCauses b m)) wher
   unfolding choiceOf choiceByCosts chosen
   fair =
       record {
+        more = more-by (swingWins m pmc swing) lost refl;
+        earned = λ h e. rw (more-wins m pmc swing h, e);
+        unearned = unearned-by (swingWins m pmc swing) lost refl;
+        lost = λ e. rw e (pmc-by (swingWins m pmc swing));
         stays = kept-by (swingWins m pmc swing) (wonByCosts m pmc swing) lost still;
-        earned = earned-by (swingWins m pmc swing) lost refl;
-        granted = λ h. granted-by (swingWins m pmc swing) lost (more-wins m pmc swing h);
         told = told-by (swingWins m pmc swing) (wonByCosts m pmc swing) lost refl refl;
       }
 
@@ -84,8 +86,3 @@ finish-is-fair b m x h =
 
 pub choose-model-is-fair : (ts : List ℤ) (values : List ℕ) (b : ErrorBound) (m : ℕ) (x : SelectedModel) → choiceAnswer ts values b m ≡ answered x → Fair (run (fresh b) (points ts values)) m x
 choose-model-is-fair ts values b m x h = finish-is-fair (run (fresh b) (points ts values)) m x (choice-is-finish ts values b m x h)
-
--- ---- and the rules do part: metadata of 2,948 bytes, 2,947 values of PMC-Mean's and 2,948 of Swing's
-pub they-part : (swingWins 2948 2947 2948 ≡ true) × (wonByCosts 2948 2947 2948 ≡ false)
-unfolding swingWins wonByCosts cost Ieee.ofInt Ieee.div Ieee.round Ieee.lt
-they-part = (refl, refl)

@@ -7,5 +7,6 @@ pub mod Costs
 pub mod Chosen
 pub mod Accepted
 pub mod Fair
+pub mod Tied
 pub mod Steps
 pub mod Causes

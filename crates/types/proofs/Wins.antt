@@ -16,8 +16,8 @@ pub wins-by-more : (m pmc swing : ℕ) → swingWins m pmc swing ≡ true → Mo
 unfolding swingWins
 wins-by-more m pmc swing h =
     let less : (m + 1) * pmc < m * swing = ltb-true ((m + 1) * pmc) (m * swing) h in
-    let above : pmc < swing = lt-of-mul-lt-mul-left m (omega (arith, less, one-more m pmc)) in
-    let is : swing ≡ pmc + (swing - pmc) = omega (arith, above) in
+    let far : pmc < swing + 1 = lt-of-mul-lt-mul-left (m + 1) (omega (arith, less, one-more m (swing + 1), mul-add m swing 1)) in
+    let is : swing ≡ pmc + (swing - pmc) = omega (arith, far) in
     (swing - pmc, is, omega (arith, less, one-more m pmc, ap (λ (k : ℕ). m * k) is, mul-add m pmc (swing - pmc)))
 
 pub more-wins : (m pmc swing : ℕ) → MoreForEvery m pmc swing → swingWins m pmc swing ≡ true
