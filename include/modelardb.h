@@ -275,8 +275,7 @@ modelardb_fault modelardb_pmc_mean_grid(uint32_t value, size_t count, uint32_t *
 #define MODELARDB_SWING_UPPER_INTERCEPT 6 /* its f64 intercept */
 #define MODELARDB_SWING_LOWER_SLOPE 7     /* the f64 slope of the lower line */
 #define MODELARDB_SWING_LOWER_INTERCEPT 8 /* its f64 intercept */
-#define MODELARDB_SWING_NUMERATOR 9       /* the f64 numerator of the slope with the least error: each finite point
-                                             that fits and whose value is not the first's adds to it */
+#define MODELARDB_SWING_NUMERATOR 9       /* the f64 numerator of the slope with the least error */
 #define MODELARDB_SWING_DENOMINATOR 10    /* its f64 denominator */
 #define MODELARDB_SWING_LENGTH 11         /* the length: how many points the model stands for */
 #define MODELARDB_SWING_FITS 12           /* set to 0 by `new`, and by a step to 1 where the point fitted, else 0 */
@@ -285,9 +284,6 @@ modelardb_fault modelardb_pmc_mean_grid(uint32_t value, size_t count, uint32_t *
  * A row may be used, else 2, if it has thirteen words, the length is at most 65,536 and, at length 1, the times
  * are equal, at length 2 or more, the first is before the last, both within the limits. The bound and word 12 are
  * as with PMC-Mean, and so are the words that a step writes.
- *
- * A row that an earlier version left at length 2 or more lacks its second point in words 9 and 10, and is used as it
- * is. To have it counted, fit the points into a new row (docs/FORMAT.md). The same is true of a builder's.
  */
 
 /* state: Swing before any point. Refusals: 1; 4. */
@@ -303,8 +299,7 @@ modelardb_fault modelardb_swing_fit_data_point(uint64_t *state, size_t state_len
 modelardb_fault modelardb_swing_bytes_per_value(const uint64_t *state, size_t state_length, size_t m,
                                                 uint32_t *out, size_t out_length);
 
-/* out[0], out[1]: the f32 of the line's first and of its last value; where one point was fitted the last is NaN.
- * Refusals: 1; 2; 4 (out); 11. */
+/* out[0], out[1]: the f32 of the line's first and of its last value. Refusals: 1; 2; 4 (out); 11. */
 modelardb_fault modelardb_swing_model(const uint64_t *state, size_t state_length, uint32_t *out,
                                       size_t out_length);
 

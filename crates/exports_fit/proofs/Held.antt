@@ -178,13 +178,13 @@ module _ (s : Swing) (p : Point) (h : SwingHeld s) (time : SFits w64 p.time) (va
   through to = through-held (first_point s) to h.first
 
   pub swing-tried : SwingHeld (SwingStep.tried s p).state
-  unfolding SwingStep.second SwingStep.swung SwingStep.counted SwingStep.upper_swung SwingStep.lower_swung
+  unfolding SwingStep.second SwingStep.swung SwingStep.upper_swung SwingStep.lower_swung
   swing-tried =
       by-case (λ (t : Stepped Swing). SwingHeld t.state) s p h
       (λ none. opened-held)
-      (λ some far equal. moved-held _ _ (sums_of s) (wide, wide) (wide, wide) h.numerator h.denominator)
-      (λ one finite. moved-held _ _ _ (through (raised p _)) (through (lowered p _)) (add-fits binary64 _ _) (add-fits binary64 _ _))
-      (λ some more finite d high low i j near.
+      (λ some. moved-held _ _ (sums_of s) (wide, wide) (wide, wide) h.numerator h.denominator)
+      (λ one finite. moved-held _ _ (sums_of s) (through (raised p _)) (through (lowered p _)) h.numerator h.denominator)
+      (λ some more d high low.
       moved-held _ _ _
       (by-test LineHeld (Ieee.lt p.value (high -f d)) _ (upper_line s) (λ t. through (raised p d)) (λ t. (h.upper-slope, h.upper-intercept)))
       (by-test LineHeld (Ieee.lt (low +f d) p.value) _ (lower_line s) (λ t. through (lowered p d)) (λ t. (h.lower-slope, h.lower-intercept)))

@@ -2,6 +2,5 @@
 pub mod Back
 pub mod Held
 pub mod Stands
-pub mod Two
 pub mod Answers
 pub mod Short

@@ -1,7 +1,6 @@
 -- The states of PMC-Mean and Swing as rows of words. A row ends in a word that a step sets, to 1 where the value fitted and to 0 where it did not; a
 -- model's own calls do not look at it, and in a builder's row it says whether the model stands for all values so far.
-use Rattle.std.specs.Prelude.{◌≡◌, Bool, false, cond, ◌&&◌, ℕ, ◌%◌, ◌^◌, ltb, pos, length, get_or}
-use mathlib.Core.List.{List, [], ◌∷◌, foldl}
+use Rattle.std.specs.Prelude.{Bool, false, cond, ◌&&◌, List, [], ◌∷◌, ℕ, ◌%◌, ◌^◌, ltb, pos, length, get_or}
 use Rattle.std.specs.Float.{binary32, binary64}
 use Rattle.std.specs.Float.Ieee.{of_bits, to_bits}
 use Rattle.models.specs.Answers.{Stepped}
@@ -12,7 +11,7 @@ use Rattle.swing.specs.Model.{LineEnds}
 use Rattle.swing.specs.Calls as OfSwing
 use Rattle.swing.specs.Run.{Given}
 use Rattle.swing.specs.declared.Swing.{Swing}
-use Rattle.exports.specs.Face.{bound_of, word_of, row_after, step_row, ask_fault, ask_row}
+use Rattle.exports.specs.Face.{word_of, step_row}
 use Rattle.exports.specs.Words.{bound_kind, bound_bits, no_count, small, bound_front, time_in, word_of_time}
 
 abbrev pub pmc_length : ℕ
@@ -127,16 +126,6 @@ pmc_after row value = step_row pmc_step_row row (OfPmc.fit_answer (pmc_in row) v
 abbrev pub swing_after : List ℕ → Given → List ℕ
 swing_after row g = step_row swing_step_row row (OfSwing.fit_answer (swing_in row) g.time g.bits)
 
--- the row that a fresh state and then each point of a list leave
-abbrev pub swing_made : ℕ → ℕ → List ℕ → List Given → List ℕ
-swing_made kind bound row given = foldl swing_after (row_after swing_length swing_fresh row (OfSwing.new_answer (bound_of kind bound))) given
-
 -- the first and the last value of a line
 abbrev pub ends_row : LineEnds → List ℕ
 ends_row e = e.first ∷ e.last ∷ []
-
--- of two states the call `model` answers the same, and leaves the same in `out`
-abbrev pub SameModel : List ℕ → Swing → Swing → Type 0
-SameModel out s t =
-    (ask_fault 2 (length out) (OfSwing.model_answer s) ≡ ask_fault 2 (length out) (OfSwing.model_answer t))
-    × (ask_row 2 ends_row out (OfSwing.model_answer s) ≡ ask_row 2 ends_row out (OfSwing.model_answer t))

@@ -66,7 +66,7 @@ positive-large : (f : Format) (a c k : ℕ) → 0 < c → k ≤ low f → c ≤ 
 positive-large f a c k C l h =
     past-unit k (round f false 1 (2 ^ k)) (unit-value f k l) (round-signed f false a c) (in_order (round-signed f false 1 (2 ^ k)) (round-signed f false a c) (round_mono f 1 (2 ^ k) a c (pow_pos k) C (omega (arith, one-mul c)))).0
 
-pub round-large : (f : Format) (s : Bool) (a c k : ℕ) → 0 < c → k ≤ low f → c ≤ a * 2 ^ k → Large k (round f s a c)
+round-large : (f : Format) (s : Bool) (a c k : ℕ) → 0 < c → k ≤ low f → c ≤ a * 2 ^ k → Large k (round f s a c)
 round-large f false a c k C l h = positive-large f a c k C l h
 round-large f true a c k C l h = rw (round-mirror f a c) (mirror-large k (round-signed f false a c) (positive-large f a c k C l h))
 
@@ -114,11 +114,11 @@ digits f t zero d h = pow_pos (prec f)
 digits f t (suc n) d h = (in-format f t n d h).0
 
 -- an f64 that is no whole number of steps is far smaller than the f32
-pub part-gain : (t : Bool) (a : ℕ) → gain t a ≤ a
+part-gain : (t : Bool) (a : ℕ) → gain t a ≤ a
 part-gain true a = omega arith
 part-gain false a = omega arith
 
-pub part-loss : (t : Bool) (a : ℕ) → loss t a ≤ a
+part-loss : (t : Bool) (a : ℕ) → loss t a ≤ a
 part-loss true a = omega arith
 part-loss false a = omega arith
 
@@ -181,7 +181,7 @@ equal-parts s m e t n d h = go s t (sym (or-false _ false refl) ∙ h)
     go true false h = omega (arith, eqb-true a b (and_left (eqb a b) (eqb a 0) h), eqb-true a 0 (and_right (eqb a b) (eqb a 0) h))
     go false true h = omega (arith, eqb-true a b (and_left (eqb a b) (eqb a 0) h), eqb-true a 0 (and_right (eqb a b) (eqb a 0) h))
 
-pub parts-equal : (s : Bool) (m : ℕ) (e : ℤ) (t : Bool) (n : ℕ) (d : ℤ) → up_by t n d s m e ≡ down_by t n d s m e → equal_or_nan (fin s m e) (fin t n d) ≡ true
+parts-equal : (s : Bool) (m : ℕ) (e : ℤ) (t : Bool) (n : ℕ) (d : ℤ) → up_by t n d s m e ≡ down_by t n d s m e → equal_or_nan (fin s m e) (fin t n d) ≡ true
 unfolding equal_or_nan Ieee.eq Ieee.is_nan
 parts-equal false m e false n d h = rw (eq-eqb (m * up e * down d) (n * up d * down e) (omega arith))
 parts-equal true m e true n d h = rw (eq-eqb (m * up e * down d) (n * up d * down e) (omega arith))

@@ -3,10 +3,6 @@ pub mod Allowed
 pub mod Runs
 pub mod Order
 pub mod Apart
-pub mod Sized
 pub mod Slopes
 pub mod Points
-pub mod Before
-pub mod Lossless
-pub mod Parted
 pub mod Causes

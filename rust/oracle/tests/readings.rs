@@ -147,21 +147,17 @@ fn swing_states() {
 }
 
 #[test]
-fn a_two_point_model_of_equal_values_takes_the_upper_slope() {
-    for (first, second, last) in [(0.0, 0.0, 1.0), (0.0, -0.0, 1.0), (-5.0, -5.0, -4.0)] {
-        let mut state = Swing::new(Absolute(1.0)).unwrap();
-        (_, state) = state.fit_data_point(0, bits(first)).unwrap();
-        (_, state) = state.fit_data_point(10, bits(second)).unwrap();
-        assert_eq!((state.numerator, state.denominator), (0.0, 0.0));
-        assert_eq!(state.model(), Ok((bits(first), bits(last))));
-    }
+fn a_two_point_model_takes_the_upper_slope() {
+    let mut state = Swing::new(Absolute(1.0)).unwrap();
+    (_, state) = state.fit_data_point(0, 0).unwrap();
+    (_, state) = state.fit_data_point(10, bits(5.0)).unwrap();
+    assert_eq!(state.model(), Ok((0, bits(6.0))));
 }
 
 #[test]
 fn choosing() {
     let max = bits(f32::MAX);
-    let values = [max | 1 << 31, max, max];
-    let runs_off = choose_model(&[0, 1, 2], &values, Absolute(3e38), 1);
+    let runs_off = choose_model(&[0, 1], &[max | 1 << 31, max], Absolute(3e38), 1);
     assert_eq!(runs_off.unwrap().id, 0);
     assert_eq!(choose_model(&[], &[], Lossless, 1), Err(11));
     assert_eq!(choose_model(&[0], &[], Lossless, 1), Err(12));

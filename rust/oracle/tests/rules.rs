@@ -1,11 +1,9 @@
-//! The within test, the choice and the line of a few points by both rules, and the switch between them, on inputs that the
-//! documents name.
+//! The within test and the choice by both rules, and the switch between them, on inputs that the documents name.
 
 use oracle::paper::macaque_v::kept;
 use oracle::paper::models::ErrorBound::{self, Absolute, Lossless, Relative};
 use oracle::paper::models::within;
 use oracle::paper::rules::{Rules, as_first, in_force};
-use oracle::paper::swing::Swing;
 use oracle::paper::types::{Model, ModelBuilder, PMC_MEAN_ID, SWING_ID, choose_model, swing_wins};
 use oracle::paper::{MOST_METADATA, MOST_VALUES};
 
@@ -222,7 +220,7 @@ fn an_equal_product_goes_to_pmc() {
 #[test]
 fn the_added_rule_follows() {
     let mut builder = ModelBuilder::new(Absolute(3e38)).expect("an allowed bound");
-    for (time, value) in [(0, f32::MIN), (1, f32::MAX), (2, f32::MAX)] {
+    for (time, value) in [(0, f32::MIN), (1, f32::MAX)] {
         let step = builder.try_to_update_models(time, value.to_bits());
         (_, builder) = step.expect("an allowed step");
     }
@@ -232,75 +230,5 @@ fn the_added_rule_follows() {
         assert!(swing_wins(2_948, pmc_mean, swing));
         let ask = || builder.finish(2_948).expect("a model");
         assert_eq!(chosen(ask), [(PMC_MEAN_ID, pmc_mean); 2]);
-    }
-}
-
-/// The state after readings at the times 0, 10, 20 and so on, as long as they fit.
-fn fitted(bound: ErrorBound, values: &[f32]) -> Swing {
-    let bits = values.iter().map(|value| value.to_bits());
-    Swing::fitted(bound, (0..).step_by(10).zip(bits)).expect("allowed steps")
-}
-
-/// The last value of the line, today and by the first rules.
-fn ends(bound: ErrorBound, values: &[f32]) -> [f32; 2] {
-    let end = || f32::from_bits(fitted(bound, values).model().expect("a model").1);
-    [end(), as_first(end)]
-}
-
-#[test]
-fn the_second_point_counts_and_did_not() {
-    let (bound, max) = (Absolute(1.0), f32::MAX);
-    for (bound, values, last) in [
-        (bound, &[0.0, 5.0][..], [5.0, 6.0]),
-        (bound, &[5.0, 0.0], [0.0, 1.0]),
-        (bound, &[0.0, 1.0, 1.0], [1.2, 1.0]),
-        (Relative(50.0), &[20.0, 22.0, 20.0], [24.0, 30.0]),
-        (Absolute(3e38), &[-max, max], [max, f32::INFINITY]),
-        (Absolute(2.9e38), &[-3e38, 3e38, 3e38], [f32::INFINITY, 3.2e38]),
-        // Held to the highest line by either rule.
-        (Absolute(4.0), &[0.0, 5.0, 0.0], [4.0, 4.0]),
-        // 0/0: the upper slope.
-        (bound, &[0.0, 0.0], [1.0, 1.0]),
-        (bound, &[0.0, -0.0], [1.0, 1.0]),
-        (bound, &[7.0, 7.0, 7.0], [8.0, 8.0]),
-        (Lossless, &[0.0, 5.0], [5.0, 5.0]),
-        (Lossless, &[0.0, 5.0, 10.0], [10.0, 10.0]),
-    ] {
-        assert_eq!(ends(bound, values), last, "{bound:?} {values:?}");
-    }
-}
-
-/// The same readings fit by both rules, and the lowest and the highest line are the same: what parts is the sums.
-#[test]
-fn only_the_sums_part() {
-    let lists: [&[f32]; 4] = [
-        &[0.0, 5.0, 0.0, 7.0],
-        &[20.0, 20.5, 21.5, 21.0, 19.0],
-        &[1.0, f32::NAN, 1.0],
-        &[-3e38, 3e38, 3e38],
-    ];
-    for bound in [Lossless, Absolute(1.0), Absolute(3e38), Relative(10.0)] {
-        for values in lists {
-            let row = || fitted(bound, values).row();
-            let [mut today, mut first] = [row(), as_first(row)];
-            if values[1].is_finite() {
-                assert_ne!(today[9..11], first[9..11], "{bound:?} {values:?}");
-            }
-            today[9..11].fill(0);
-            first[9..11].fill(0);
-            assert_eq!(today, first, "{bound:?} {values:?}");
-        }
-    }
-}
-
-/// Lossless the lowest and the highest line are one, and the line is what it was.
-#[test]
-fn a_lossless_line_is_what_it_was() {
-    let values = [0.1f32, -20.1, 1e-40, 3e38, -0.0, 16_777_217.0];
-    for first in values {
-        for second in values {
-            let [today, before] = ends(Lossless, &[first, second]);
-            assert_eq!(today.to_bits(), before.to_bits(), "{first} {second}");
-        }
     }
 }

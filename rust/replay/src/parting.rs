@@ -1,12 +1,11 @@
-//! Readings at the bound, in each call that tests one, models whose costs in f32 tie, in both calls that choose, and the second
-//! point of a line, in each call that takes it in: document 01's first rules answer every one of these otherwise, so that a
-//! library which follows them is seen.
+//! Readings at the bound, in each call that tests one, and models whose costs in f32 tie, in both calls that choose:
+//! document 01's first rules answer every one of these otherwise, so that a library which follows them is seen.
 
 use crate::draw::STALE;
 use crate::record::Record;
 use modelardb_rattle::ffi::{
     ENTRY_WORDS, MODEL_BUILDER_WORDS, PMC_MEAN_WORDS, SEGMENT_WORDS, SELECTED_MODEL_WORDS,
-    STATE_WORDS, SWING_WORDS, Words,
+    STATE_WORDS, Words,
 };
 use oracle::paper::models::ErrorBound::{self, Absolute, Relative};
 use side_by_side::face::{self, choice, fit};
@@ -41,16 +40,6 @@ const TIED: [(u64, [u64; 2]); 5] = [
     (65_535, [65_534, 65_535]),
 ];
 
-/// A bound, and two readings of which PMC-Mean takes the first alone, so that Swing's line is chosen. Of the last two readings that
-/// line ended at infinity, and PMC-Mean's value was chosen.
-const COUNTED: [(ErrorBound, [f32; 2]); 5] = [
-    (Absolute(1.0), [0.0, 5.0]),
-    (Absolute(0.5), [21.0, 19.5]),
-    (Relative(10.0), [20.0, 30.0]),
-    (Relative(10.0), [1e-40, 3e-40]),
-    (Absolute(3e38), [f32::MIN, f32::MAX]),
-];
-
 /// The records of a call.
 pub fn records(call: usize) -> Vec<Record> {
     let of = |lists: &[(ErrorBound, [f32; 2])]| -> Vec<Record> {
@@ -62,11 +51,9 @@ pub fn records(call: usize) -> Vec<Record> {
     };
     match call {
         2 | 5 | 30 | 38 => of(&KEPT),
-        10 => of(&TAKEN),
-        16 => of(&COUNTED),
-        23 => [of(&TAKEN), of(&COUNTED)].concat(),
+        10 | 23 => of(&TAKEN),
         24 => TIED.map(finished).to_vec(),
-        25 => [of(&TAKEN), vec![listed()], of(&COUNTED)].concat(),
+        25 => [of(&TAKEN), vec![listed()]].concat(),
         _ => vec![],
     }
 }
@@ -123,9 +110,9 @@ fn record(call: usize, (kind, bound): Words, [first, second]: [u32; 2]) -> Recor
             },
             ..record
         },
-        10 | 16 | 23 => Record {
+        10 | 23 => Record {
             x: vec![second],
-            w: if call == 10 { vec![] } else { vec![5] },
+            w: if call == 23 { vec![5] } else { vec![] },
             r: after_one(call, (kind, bound), first),
             ..record
         },
@@ -155,28 +142,17 @@ fn writer(bound: Words) -> Vec<u64> {
     row
 }
 
-/// The row of PMC-Mean, of Swing, or of a builder, after its first reading.
+/// The row of PMC-Mean, or of a builder, after its first reading.
 fn after_one(call: usize, bound: Words, first: u32) -> Vec<u64> {
-    let words = match call {
-        10 => PMC_MEAN_WORDS,
-        16 => SWING_WORDS,
-        _ => MODEL_BUILDER_WORDS,
-    };
-    let mut row = vec![0; words];
-    match call {
-        10 => {
-            fit::pmc_mean_new(bound, &mut row);
-            fit::pmc_mean_fit_value(&mut row, first);
-        }
-        16 => {
-            fit::swing_new(bound, &mut row);
-            fit::swing_fit_data_point(&mut row, 0, first);
-        }
-        _ => {
-            choice::new(bound, &mut row);
-            choice::try_to_update_models(&mut row, 0, first);
-        }
+    if call == 10 {
+        let mut row = vec![0; PMC_MEAN_WORDS];
+        fit::pmc_mean_new(bound, &mut row);
+        fit::pmc_mean_fit_value(&mut row, first);
+        return row;
     }
+    let mut row = vec![0; MODEL_BUILDER_WORDS];
+    choice::new(bound, &mut row);
+    choice::try_to_update_models(&mut row, 0, first);
     row
 }
 
@@ -196,6 +172,6 @@ mod tests {
             assert_ne!(line(), rules::as_first(line));
             count += 1;
         }
-        assert_eq!(count, 60);
+        assert_eq!(count, 45);
     }
 }

@@ -74,13 +74,9 @@ impl Context {
         at_scale_one * self.scale
     }
 
-    /// Compares by today's rules and, where the paper's part on the way, once more by the first ones.
-    pub fn by_both(&mut self, compare: impl Fn(&mut Self)) {
-        let before = self.counts.parted;
-        compare(self);
-        if self.counts.parted != before {
-            rules::as_first(|| compare(self));
-        }
+    /// How often the paper's rules parted so far.
+    pub fn parted(&self) -> u64 {
+        self.counts.parted
     }
 
     /// The paper's answer by its first rules, which the Rust's text follows; where it is not today's, the

@@ -22,7 +22,7 @@ const WHOLE: [f32; 2948] = {
     all
 };
 
-const RUNS: [Run; 22] = [
+const RUNS: [Run; 20] = [
     (&[20.0], Absolute(0.5), 12),
     (&[20.5, 20.75, 20.25], Absolute(0.5), 12),
     (&[20.0, 21.0, 22.0], Absolute(0.5), 12),
@@ -34,7 +34,6 @@ const RUNS: [Run; 22] = [
     (&[20.0, 25.0, 18.0], Lossless, 12),
     (&[20.0, 20.75, 20.5, 20.125], Absolute(0.5), 12),
     (&[0.0, 5.0], Absolute(1.0), 12),
-    (&[20.0, 22.0, 23.0], Absolute(0.5), 12),
     (&[20.0, 20.2, 20.1], Absolute(0.1), 12),
     (&[100.0, 106.0, 112.0], Relative(5.0), 12),
     (&[100.0, 106.0, 106.0], Relative(10.0), 12),
@@ -44,7 +43,6 @@ const RUNS: [Run; 22] = [
     (&[NAN, NAN, 20.0], Absolute(0.5), 12),
     (&[INFINITY, INFINITY], Lossless, 12),
     (&[-MAX, MAX], Absolute(3e38), 2),
-    (&[-MAX, MAX, MAX], Absolute(3e38), 2),
 ];
 
 const HEAD: &str = "\

@@ -2,7 +2,6 @@
 
 use super::models::{ErrorBound, deviation, equal_or_nan, maximum, minimum};
 use super::numbers::{bits_of_f32, bits_of_f64, rounded, wide};
-use super::rules::{self, Rules};
 use super::{
     Answer, MOST_VALUES, judge_count, judge_metadata, judge_times, refusal, refuse_if,
     time_in_limits,
@@ -41,22 +40,6 @@ impl Swing {
             denominator: 0.0,
             length: 0,
         })
-    }
-
-    /// A fresh state after points, as long as they fit. Refusals: 1 3 10.
-    pub fn fitted(
-        error_bound: ErrorBound,
-        points: impl IntoIterator<Item = (i64, u32)>,
-    ) -> Answer<Self> {
-        let mut state = Self::new(error_bound)?;
-        for (timestamp, value) in points {
-            let (fits, next) = state.fit_data_point(timestamp, value)?;
-            state = next;
-            if !fits {
-                break;
-            }
-        }
-        Ok(state)
     }
 
     /// "... if its length is at most 65,536; a Swing state of length 1 must have equal times, of
@@ -121,16 +104,11 @@ impl Swing {
         })
     }
 
-    /// The second point sets both lines. First: "The second is not added to the error sums." Today: "the second finite
-    /// point adds to both sums as later points do" (02, W6).
+    /// "The second is not added to the error sums."
     fn second_point(self, timestamp: i64, value: f64) -> Self {
         let deviation = deviation(self.error_bound, value);
         let next = self.with_upper(timestamp, value + deviation);
         let next = next.with_lower(timestamp, value - deviation);
-        let next = match rules::in_force() {
-            Rules::First => next,
-            Rules::Today => next.with_sums(timestamp, value),
-        };
         Self {
             end_time: timestamp,
             length: 2,
@@ -155,10 +133,13 @@ impl Swing {
         if lower + deviation < value {
             next = next.with_lower(timestamp, value - deviation);
         }
+        let (numerator, denominator) = self.error_terms(timestamp, value);
         Some(Self {
             end_time: timestamp,
+            numerator: self.numerator + numerator,
+            denominator: self.denominator + denominator,
             length: self.length + 1,
-            ..next.with_sums(timestamp, value)
+            ..next
         })
     }
 
@@ -180,17 +161,7 @@ impl Swing {
         }
     }
 
-    /// Both error sums with a point added.
-    fn with_sums(self, timestamp: i64, value: f64) -> Self {
-        let (numerator, denominator) = self.error_terms(timestamp, value);
-        Self {
-            numerator: self.numerator + numerator,
-            denominator: self.denominator + denominator,
-            ..self
-        }
-    }
-
-    /// What a point adds to the error sums; "the square is one product". "Equal values still add nothing."
+    /// What a point adds to the error sums; "the square is one product".
     fn error_terms(self, timestamp: i64, value: f64) -> (f64, f64) {
         if equal_or_nan(self.first_value, value) {
             return (0.0, 0.0);
@@ -217,7 +188,7 @@ impl Swing {
     }
 
     /// The slope of the error sums, held between the lower and the upper slope, gives the last
-    /// value. Where nothing was added to them it is 0/0, and "the upper slope is taken then".
+    /// value. "A two-point model has slope 0/0 and takes the upper slope."
     fn ends(self) -> (u32, u32) {
         let projected = self.numerator / self.denominator;
         let slope = maximum(

@@ -7,7 +7,6 @@ use oracle::paper::models::ErrorBound::{self, Lossless};
 use oracle::paper::numbers::canonical;
 use oracle::paper::refusal;
 use oracle::paper::rules;
-use oracle::paper::swing::Swing;
 use oracle::paper::types::{Extremes, Model, ModelBuilder, PMC_MEAN_ID, SWING_ID, choose_model};
 use oracle::paper::{Answer, MOST_METADATA, MOST_VALUES};
 use oracle::rust::{Calls, Chosen};
@@ -46,15 +45,14 @@ pub fn edges(context: &mut Context) {
     }
 }
 
-/// The paper's builder stepped over a list of points, beside the Rust's text.
+/// The paper's builder stepped over a list of points, beside the Rust's text; where its rules part on the way, once
+/// more by the first ones.
 pub fn over_list(context: &mut Context, lists: (&[i64], &[u32]), bound: ErrorBound, m: u32) {
-    context.by_both(|context| stepped_over(context, lists, bound, m));
-    // What the second point adds changes no fit: Swing takes as many values by the first rules.
-    let points = || lists.0.iter().copied().zip(lists.1.iter().copied());
-    let taken = || Swing::fitted(bound, points()).map(|state| state.length);
-    context.same("the first rules", taken(), rules::as_first(taken), || {
-        format!("Swing's length, {:X?} {lists:X?}", bound.row())
-    });
+    let before = context.parted();
+    stepped_over(context, lists, bound, m);
+    if context.parted() != before {
+        rules::as_first(|| stepped_over(context, lists, bound, m));
+    }
 }
 
 /// By the rules in force.

@@ -52,8 +52,8 @@ fn each_is_run(context: &mut Context, rows: &[Row], listed: &[Listed]) {
     }
 }
 
-/// Runs a row. Where it has a star `filled` answers as the published text does, else as the row says of it, or as the paper
-/// does; where the paper's rules part, `filled` answers by the first ones.
+/// Runs a row. Where it has a star `filled` answers as the published text does, else as the paper does; where the paper's
+/// rules part, `filled` answers by the first ones.
 fn run(context: &mut Context, row: &Row, first: &Row, listed: &[Listed]) {
     let found = listed
         .iter()
@@ -77,8 +77,7 @@ fn run(context: &mut Context, row: &Row, first: &Row, listed: &[Listed]) {
         }
         let theirs = row.there(rust);
         if rust.is_filled() && !listed.has_star {
-            let filled = listed.filled.as_ref().unwrap_or(&listed.here);
-            context.same(rust.name, filled, &theirs, input);
+            context.same(rust.name, &listed.here, &theirs, input);
         } else {
             let there = listed.answer(&theirs);
             let by_the_list = (&listed.here[..], there);

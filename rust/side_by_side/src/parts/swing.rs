@@ -3,7 +3,7 @@
 use crate::context::Context;
 use crate::inputs::SPECIAL;
 use oracle::paper::Answer;
-use oracle::paper::models::ErrorBound::{self, Lossless};
+use oracle::paper::models::ErrorBound::Lossless;
 use oracle::paper::refusal;
 use oracle::paper::swing::{self, Line, Swing};
 use oracle::paper::{MOST_METADATA, MOST_VALUES};
@@ -12,8 +12,11 @@ pub fn swing(context: &mut Context) {
     for _ in 0..context.rounds(120_000) {
         let count = context.inputs.below(40) as usize;
         let (times, values) = (context.inputs.times(count), context.inputs.values(count));
-        let bound = context.inputs.bound();
-        context.by_both(|context| stepped_over(context, (&times, &values), bound));
+        let mut state = Swing::new(context.inputs.bound()).expect("an allowed bound");
+        for (time, value) in times.into_iter().zip(values) {
+            state = step(context, state, time, value);
+        }
+        of_state(context, state);
     }
     for _ in 0..context.rounds(3_000_000) {
         let (state, next_time) = any_state(context);
@@ -23,37 +26,18 @@ pub fn swing(context: &mut Context) {
     }
 }
 
-/// A fresh state stepped over a list of points, by the rules in force.
-fn stepped_over(context: &mut Context, (times, values): (&[i64], &[u32]), bound: ErrorBound) {
-    let mut state = Swing::new(bound).expect("an allowed bound");
-    for (&time, &value) in times.iter().zip(values) {
-        state = step(context, state, time, value);
-    }
-    of_state(context, state);
-}
-
 fn step(context: &mut Context, state: Swing, time: i64, value: u32) -> Swing {
-    let ask = || state.fit_data_point(time, value).expect("an allowed step");
-    let said = |(fits, next): (bool, Swing)| (fits, next.row());
-    let today = ask();
-    let first = context.first(&said(today), || said(ask()));
-    let input = || format!("Swing {:X?} with {value:08X} at {time}", state.row());
-    // Only the sums part, and only at the second point.
-    let but_sums = |(fits, mut row): (bool, [u64; 12])| {
-        row[9..11].fill(0);
-        (fits, row)
-    };
-    let [today_but_sums, first_but_sums] = [said(today), first].map(but_sums);
-    context.same("but for the sums", today_but_sums, first_but_sums, input);
-    let is_second = state.length == 1;
-    context.same_or(is_second, "the first rule", said(today), first, input);
+    let (fits, next) = state.fit_data_point(time, value).expect("an allowed step");
     for rust in context.rust {
-        let theirs = said((rust.swing_step)(state, time, value));
+        let (their_fits, theirs) = (rust.swing_step)(state, time, value);
         // Listed: the published deviation is smaller than the bound.
         let is_listed = !rust.is_filled() && state.error_bound != Lossless;
-        context.same_or(is_listed, rust.name, first, theirs, input);
+        let (ours, theirs) = ((fits, next.row()), (their_fits, theirs.row()));
+        context.same_or(is_listed, rust.name, ours, theirs, || {
+            format!("Swing {:X?} with {value:08X} at {time}", state.row())
+        });
     }
-    today.1
+    next
 }
 
 fn of_state(context: &mut Context, state: Swing) {

@@ -12,7 +12,7 @@ line-through-requires-2 c κs = rw (c.before.before.before.first-point.ensures, 
 
 returns : tie.Need-returns
 unfolding second
-returns c = rw (c.moved.ensures, c.before.before.before.before.line-through.ensures, c.before.before.line-through2.ensures, c.before.before.before.before.before.before.first-point.ensures, c.before.before.before.before.before.raised.ensures, c.before.before.before.lowered.ensures, c.before.counted.ensures)
+returns c = rw (c.moved.ensures, c.before.before.before.before.line-through.ensures, c.before.before.line-through2.ensures, c.before.before.before.before.before.before.first-point.ensures, c.before.before.before.before.before.raised.ensures, c.before.before.before.lowered.ensures, c.before.sums.ensures)
 
 pub second_spec : {M : Type 1} → statement M
 second_spec =

@@ -38,9 +38,9 @@ fn over_lists() -> Vec<Row> {
     let many = (0..=MOST_VALUES as i64).map(|time| (time, ONE)).collect();
     vec![
         choice(
-            "choice of −MAX at 0, MAX at 1, MAX at 2, Absolute(3e38), M 2",
+            "choice of −MAX at 0, MAX at 1, Absolute(3e38), M 2",
             Absolute(3e38),
-            vec![(0, max | 1 << 31), (1, max), (2, max)],
+            vec![(0, max | 1 << 31), (1, max)],
             2,
         ),
         choice(

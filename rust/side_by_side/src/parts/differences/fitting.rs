@@ -13,8 +13,7 @@ use oracle::rust::Calls;
 pub const ALLOWED: &str = "an allowed step";
 
 pub fn rows() -> Vec<Row> {
-    let mut rows = lines_of_few();
-    rows.push(minimum_of_zeros());
+    let mut rows = vec![line_of_two(), minimum_of_zeros()];
     rows.extend(two_points());
     rows.push(ends_of_i64());
     rows.extend(full_states());
@@ -41,48 +40,23 @@ pub fn swing_under(error_bound: ErrorBound) -> Swing {
     }
 }
 
-/// 1 and 13: Lines of a few points, by the deviation, and by whether the second one counts.
-fn lines_of_few() -> Vec<Row> {
-    vec![
-        line_of(
-            "Swing, Absolute(1): 0 at 0, 0 at 10",
-            Absolute(1.0),
-            &[(0, 0.0), (10, 0.0)],
-        ),
-        line_of(
-            "Swing, Absolute(1): 0 at 0, 5 at 10",
-            Absolute(1.0),
-            &[(0, 0.0), (10, 5.0)],
-        ),
-        line_of(
-            "Swing, Absolute(1): 0 at 0, 1 at 1, 1 at 2",
-            Absolute(1.0),
-            &[(0, 0.0), (1, 1.0), (2, 1.0)],
-        ),
-        line_of(
-            "Swing, Relative(50): 20 at 0, 22 at 5, 20 at 10",
-            Relative(50.0),
-            &[(0, 20.0), (5, 22.0), (10, 20.0)],
-        ),
-    ]
-}
-
-/// The line that Swing keeps of points.
-fn line_of(input: &'static str, bound: ErrorBound, points: &'static [(i64, f32)]) -> Row {
+/// 1: The deviation of a line of two points.
+fn line_of_two() -> Row {
+    let (bound, points) = (Absolute(1.0), [(0, 0), (10, 5f32.to_bits())]);
     let mut paper = swing_under(bound);
     let mut ours = library::Swing::new(safe_bound(bound)).expect(ALLOWED);
-    for &(time, value) in points {
-        let step = paper.fit_data_point(time, value.to_bits());
-        (_, paper) = step.expect(ALLOWED);
-        ours.fit_data_point(time, value).expect(ALLOWED);
+    for (time, value) in points {
+        (_, paper) = paper.fit_data_point(time, value).expect(ALLOWED);
+        ours.fit_data_point_bits(time, value).expect(ALLOWED);
     }
     let there = move |rust: &Calls| {
-        let step =
-            |state, &(time, value): &(i64, f32)| (rust.swing_step)(state, time, value.to_bits()).1;
-        let state = points.iter().fold(swing_under(bound), step);
-        Some((rust.swing_model)(state))
+        let step = |state, (time, value)| (rust.swing_step)(state, time, value).1;
+        Some((rust.swing_model)(
+            points.into_iter().fold(swing_under(bound), step),
+        ))
     };
-    row(input, (paper.model(), ours.model_bits()), there, ends)
+    let here = (paper.model(), ours.model_bits());
+    row("Swing, Absolute(1): 0 at 0, 5 at 10", here, there, ends)
 }
 
 /// 7: Which of two zeros is the least.

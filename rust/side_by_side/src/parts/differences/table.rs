@@ -10,14 +10,12 @@ const DEBUG_FAULTS: &str = " (a debug build faults)";
 /// What is answered by a panic.
 pub const FAULTS: &str = "faults";
 
-/// A row: its group, whether `filled` answers as the published text does, its input, the answer here, that of `filled` where it
-/// is neither, and that of the text.
+/// A row: its group, whether `filled` differs from 01 too, its input and the two answers.
 pub struct Listed {
     pub group: u32,
     pub has_star: bool,
     pub input: String,
     pub here: String,
-    pub filled: Option<String>,
     there: String,
 }
 
@@ -32,18 +30,12 @@ fn of_line(line: &str) -> Option<Listed> {
         return None;
     };
     let group = number.trim_end_matches(" *").parse().ok()?;
-    let there = answer(there);
-    let (there, filled) = match there.split_once("; filled ") {
-        Some((there, filled)) => (there.to_string(), Some(filled.to_string())),
-        None => (there, None),
-    };
     Some(Listed {
         group,
         has_star: number.ends_with('*'),
         input: plain(input),
         here: answer(here),
-        filled,
-        there,
+        there: answer(there),
     })
 }
 

@@ -51,13 +51,13 @@ fn won_by_swing(context: &mut Context, (m, lengths): Lengths) -> Run {
 /// A rising line, and one that runs off to infinity, which is never chosen.
 fn handed_in(context: &mut Context) {
     let (least, most) = (f32::MIN.to_bits(), f32::MAX.to_bits());
-    let lines: [(_, &[Point]); 2] = [
-        (Lossless, &[(0, ONE), (1, TWO)]),
-        (Absolute(3e38), &[(0, least), (1, most), (2, most)]),
+    let lines: [(_, [Point; 2]); 2] = [
+        (Lossless, [(0, ONE), (1, TWO)]),
+        (Absolute(3e38), [(0, least), (1, most)]),
     ];
     let [rises, runs_off] = lines.map(|(bound, points)| {
         let bound = face::bound_words(bound);
-        both::stepped(context, &BUILDER, bound, points)
+        both::stepped(context, &BUILDER, bound, &points)
     });
     for _ in 0..context.rounds(300_000) {
         let (m, lengths) = context.inputs.edge(MOST_VALUES);

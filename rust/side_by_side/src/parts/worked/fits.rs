@@ -21,14 +21,9 @@ pub const EXAMPLES: &[Example] = &[
         Err((3, 0, 0)),
     ),
     (
-        "Swing, Absolute(1): 0 at 0, 5 at 10: last value 5, and 6 before 02",
+        "Swing, Absolute(1): 0 at 0, 5 at 10: last value 6",
         || line_of(Absolute(1.0), &[(0, 0.0), (10, 5.0)]),
-        Ok(&[0x0000_0000, 0x40A0_0000]),
-    ),
-    (
-        "Swing, Absolute(1): 0 at 0, 0 at 10: 0/0, so the upper slope, last value 1",
-        || line_of(Absolute(1.0), &[(0, 0.0), (10, 0.0)]),
-        Ok(&[0x0000_0000, 0x3F80_0000]),
+        Ok(&[0x0000_0000, 0x40C0_0000]),
     ),
     (
         "a one-point model answers a NaN last value",
@@ -62,16 +57,8 @@ pub const EXAMPLES: &[Example] = &[
     ),
     // The choice.
     (
-        "choice of -MAX, MAX under Absolute(3e38), M 2: the line ends at MAX, Swing; at infinity before 02, and so PMC",
-        || chosen(&[0, 1], &[f32::MIN, f32::MAX], Absolute(3e38), 2),
-        Ok(&[1]),
-    ),
-    (
-        "choice of -MAX, MAX, MAX under Absolute(3e38), M 2: the line ends at infinity, PMC of one value",
-        || {
-            let values = [f32::MIN, f32::MAX, f32::MAX];
-            chosen(&[0, 1, 2], &values, Absolute(3e38), 2)
-        },
+        "choice of -MAX, MAX under Absolute(3e38): PMC, of one value",
+        || chosen(&[0, 1], &[f32::MIN, f32::MAX], Absolute(3e38), 1),
         Ok(&[0]),
     ),
     (
