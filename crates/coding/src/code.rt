@@ -4,7 +4,7 @@ ghost use Rattle.stream.specs.Format.{window_in};
 ghost use Rattle.coding.specs.Inner.Code.{Coded, CodedXor};
 
 // The `width` lowest binary digits of `bits`, the most significant first, and the window after them.
-#[derive(Drop)]
+#[derive(Clone, Copy)]
 pub struct Code {
     pub width: usize,
     pub bits: u64,

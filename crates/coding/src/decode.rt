@@ -8,7 +8,7 @@ ghost use Rattle.coding.specs.Inner.Ahead.{WindowSound, bits_in, IsPart, IsAhead
 // ---- the bits ahead
 
 // The first `left` bits of `word` are those from a place on: 45 of them, or as many as there are.
-#[derive(Drop)]
+#[derive(Clone, Copy)]
 pub struct Ahead {
     pub word: u64,
     pub left: usize,
@@ -93,7 +93,7 @@ pub fn at_top(word: u64) -> usize
 // ---- one value
 
 // Why there is no value: the stream ends inside it, it keeps a window and none is set, or its own window is not allowed.
-#[derive(Drop)]
+#[derive(Clone, Copy)]
 pub enum Stop {
     EndsEarly,
     NoWindow,
@@ -101,7 +101,7 @@ pub enum Stop {
 }
 
 // The value, the window after it and how many bits it takes; or why there is none.
-#[derive(Drop)]
+#[derive(Clone, Copy)]
 pub enum Decoded {
     Got {
         value: u32,

@@ -1,10 +1,13 @@
 // Compares two uploads, the left one in standard input and the right one in descriptor 3, on standard output: document 02, "Compare
 // two uploads".
+#![tactic(auto)]
+
 use comparing::{Judged, Pair, Side, StepAnswer};
-use libc::{STDIN_FILENO, STDOUT_FILENO};
 use listing::line;
 use models::Refusal;
 
+const STDIN_FILENO: i32 = 0;
+const STDOUT_FILENO: i32 = 1;
 const RIGHT_FILENO: i32 = 3;
 
 // A step for each value of the longest stream, and the last one.

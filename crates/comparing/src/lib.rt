@@ -1,5 +1,7 @@
 // Two uploads compared: a line for each index at which their values differ, and how many there are; or the one line of a refusal.
 // A line's text goes to the front of a lent array, and the call answers how long it is.
+#![tactic(auto)]
+
 ghost use Rattle.std.specs.Prelude.{◌≡◌, ◌≤◌, max, length};
 ghost use Rattle.models.specs.Answers.{answered, verdict};
 ghost use Rattle.models.specs.Calls.{says_verdict};
@@ -25,21 +27,21 @@ const HEAD: usize = 9;
 // How many bytes of stream a file may have.
 const MOST_BYTES: usize = 24576;
 
-#[derive(Drop)]
+#[derive(Clone, Copy)]
 pub enum Side {
     Left,
     Right,
 }
 
 // What a stream has at an index: a value, or none behind its last.
-#[derive(Drop)]
+#[derive(Clone, Copy)]
 pub enum Entry {
     Value(u32),
     Missing,
 }
 
 // An index at which the streams differ, and what each of them has there.
-#[derive(Drop)]
+#[derive(Clone, Copy)]
 pub struct Difference {
     pub index: usize,
     pub left: Entry,
@@ -47,14 +49,14 @@ pub struct Difference {
 }
 
 // One stream as it is walked: where its reader stands, and how many values are still to come.
-#[derive(Drop)]
+#[derive(Clone, Copy)]
 pub struct Half {
     pub position: Position,
     pub rest: usize,
 }
 
 // Where comparing stands: in both streams, with so many differences behind it.
-#[derive(Drop)]
+#[derive(Clone, Copy)]
 pub struct Pair {
     pub left: Half,
     pub right: Half,
@@ -62,7 +64,7 @@ pub struct Pair {
 }
 
 // Where comparing begins; or which file is refused, and why.
-#[derive(Drop)]
+#[derive(Clone, Copy)]
 pub enum Judged {
     Begun(Pair),
     Refused { side: Side, cause: Refusal },
@@ -70,7 +72,7 @@ pub enum Judged {
 
 // One index: the length of its line, 0 where the values are the same, and where comparing stands behind it; or the length of the last
 // line, where both streams have ended.
-#[derive(Drop)]
+#[derive(Clone, Copy)]
 pub enum StepAnswer {
     On { length: usize, next: Pair },
     Last { length: usize },
@@ -127,7 +129,7 @@ pub fn refusal(side: Side, cause: Refusal, line: &mut [u8; 80]) -> usize
 // ---- a file
 
 // A file's stream before its first value; or why there is none.
-#[derive(Drop)]
+#[derive(Clone, Copy)]
 pub enum Opened {
     At(Half),
     Refused(Refusal),
@@ -240,13 +242,13 @@ fn take_both(left: &[u8], right: &[u8], at: Pair, line: &mut [u8; 80]) -> StepAn
 }
 
 // What one stream has at the index, and where it stands behind that.
-#[derive(Drop)]
+#[derive(Clone, Copy)]
 pub struct Turn {
     pub entry: Entry,
     pub after: Half,
 }
 
-#[derive(Drop)]
+#[derive(Clone, Copy)]
 pub enum TurnAnswer {
     Took(Turn),
     Refused(Refusal),

@@ -2,6 +2,8 @@
 // one that 01 names. A call answers a fault, of number 0 where nothing is refused; its values go into
 // a lent row, of which a refusal changes nothing.
 
+#![tactic(auto)]
+
 pub mod words;
 
 ghost use Rattle.std.specs.Prelude.{◌≡◌, ◌++◌, ◌≤◌, length, drop};
@@ -145,7 +147,7 @@ pub fn put_value(answer: ValueAnswer, out: &mut [u32]) -> Fault
 }
 
 // The two ends of a line, or of what values keep to.
-#[derive(Drop)]
+#[derive(Clone, Copy)]
 pub enum PairAnswer {
     Refused(Refusal),
     Answered(u32, u32),
@@ -169,7 +171,7 @@ pub fn put_ends(answer: PairAnswer, out: &mut [u32]) -> Fault
 }
 
 // A number, by its pattern.
-#[derive(Drop)]
+#[derive(Clone, Copy)]
 pub enum FloatAnswer {
     Refused(Refusal),
     Answered(f32),

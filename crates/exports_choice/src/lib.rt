@@ -1,6 +1,8 @@
 // The C face of the choice. A builder crosses as a row of twenty words (specs/Row.antt): that of
 // PMC-Mean and then that of Swing, each ending in a word that says whether the model has not failed.
 
+#![tactic(auto)]
+
 ghost use Rattle.std.specs.Prelude.{◌≡◌, cond, length};
 ghost use Rattle.models.specs.Answers.{answered};
 ghost use Rattle.types.specs.Calls.{new_answer, update_answer, finish_answer};
@@ -93,7 +95,7 @@ fn builder_words(b: ModelBuilder) -> [u64; BUILDER_WORDS]
     ]
 }
 
-#[derive(Drop)]
+#[derive(Clone, Copy)]
 struct BuilderStep {
     verdict: Verdict,
     state: ModelBuilder,

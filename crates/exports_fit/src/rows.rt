@@ -133,7 +133,7 @@ pub fn swing_words(s: Swing, fits: bool) -> [u64; SWING_WORDS]
 
 // ---- answers
 
-#[derive(Drop)]
+#[derive(Clone, Copy)]
 pub struct PmcStep {
     pub verdict: Verdict,
     pub state: PMCMean,
@@ -162,7 +162,7 @@ pub fn pmc_step(answer: pmc_mean::FitAnswer) -> PmcStep
     }
 }
 
-#[derive(Drop)]
+#[derive(Clone, Copy)]
 pub struct SwingStep {
     pub verdict: Verdict,
     pub state: Swing,

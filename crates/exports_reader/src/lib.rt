@@ -1,6 +1,8 @@
 // The C face of the reader. Where it stands crosses as a row of six words (specs/Row.antt); the
 // stream's bytes are handed to each call. A call answers a fault, of number 0 where nothing is refused, and a
 // refusal changes nothing that was lent.
+#![tactic(auto)]
+
 ghost use Rattle.std.specs.Prelude.{◌≡◌, length};
 ghost use Rattle.exports.specs.Face.{ask_fault, ask_row, fault_said, row_after, one_word};
 ghost use Rattle.exports_stream.specs.Calls.{opening_of, count_in};

@@ -1,5 +1,7 @@
 // The C face of parameter bytes and segments. A call answers a fault, of number 0 where nothing is refused, and a
 // refusal changes nothing that was lent. What it answers besides goes to the front of a lent row.
+#![tactic(auto)]
+
 ghost use Rattle.std.specs.Prelude.{◌≡◌, length};
 ghost use Rattle.models.specs.Answers.{verdict};
 ghost use Rattle.models.specs.Calls.{says_verdict};

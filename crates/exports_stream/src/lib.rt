@@ -2,6 +2,8 @@
 // compiled loop. A writer's state crosses as a row of eleven words (specs/Row.antt), and how a stream
 // opens as a mode and a value (specs/Calls.antt). A call answers a fault, of number 0 where nothing is
 // refused, and a refusal changes nothing that was lent.
+#![tactic(auto)]
+
 ghost use Rattle.std.specs.Prelude.{◌≡◌, ◌≤◌, length};
 ghost use Rattle.models.specs.Answers.{verdict};
 ghost use Rattle.models.specs.Calls.{says_verdict};

@@ -3,6 +3,8 @@
 // stream opens as a mode and a value (crates/exports_stream). A table crosses as its lent words, four to an
 // entry, and the number of entries in use beside it; a call that changes that number is handed a place for it.
 // A call answers a fault, of number 0 where nothing is refused, and a refusal changes nothing that was lent.
+#![tactic(auto)]
+
 ghost use Rattle.std.specs.Prelude.{◌≡◌};
 ghost use Rattle.models.specs.Answers.{verdict};
 ghost use Rattle.models.specs.Calls.{says_verdict};

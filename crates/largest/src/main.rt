@@ -1,11 +1,14 @@
 // Writes, for some counts and in both modes, values that take as many bits as so many can: into as many bytes as
 // `most_bytes` answers, and into one fewer. Says how many bits that took, how many they can take at most, and how the
 // second write was refused.
-use libc::STDOUT_FILENO;
+#![tactic(auto)]
+
 use macaque_v::read::OpenAnswer;
 use macaque_v::size::SizeAnswer;
 use macaque_v::{MacaqueV, Opening, WriteAnswer};
 use models::{ErrorBound, Refusal};
+
+const STDOUT_FILENO: i32 = 1;
 
 // The value that a stream without a first one opens on: 1.0.
 const OPENING: u32 = 0x3F80_0000;

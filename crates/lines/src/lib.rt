@@ -1,6 +1,8 @@
 // Points, the lines through them, and a line's values, in f64, as Swing works with them.
 // The times of points keep the limits of timestamps, so that they are exact there.
 
+#![tactic(auto)]
+
 pub mod times;
 
 ghost use Rattle.std.specs.Prelude.{◌≡◌, true, ◌≤◌, length};
@@ -10,20 +12,20 @@ ghost use Rattle.lines.specs.Times.{time_allowed, in_order};
 ghost use Rattle.lines.specs.Line.{point_of, raised, lowered, added, span_f, line_through, terms_of, value_at, answered_as, both_finite};
 ghost use Rattle.lines.specs.Values.{in_time, no_line, average_sum, sum_from, line_drawn};
 
-#[derive(Drop)]
+#[derive(Clone, Copy)]
 pub struct Point {
     pub time: i64,
     pub value: f64,
 }
 
-#[derive(Drop)]
+#[derive(Clone, Copy)]
 pub struct Line {
     pub slope: f64,
     pub intercept: f64,
 }
 
 // A point's part of the slope with the least mean squared error.
-#[derive(Drop)]
+#[derive(Clone, Copy)]
 pub struct Terms {
     pub numerator: f64,
     pub denominator: f64,

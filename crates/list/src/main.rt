@@ -1,7 +1,11 @@
 // Lists the stream in standard input on standard output: document 01, "The listing".
-use libc::{STDIN_FILENO, STDOUT_FILENO};
+#![tactic(auto)]
+
 use listing::{Judged, RowAnswer, line};
 use models::Refusal;
+
+const STDIN_FILENO: i32 = 0;
+const STDOUT_FILENO: i32 = 1;
 
 fn main() {
     // One byte more than an input may have, so that too many are noticed.

@@ -1,5 +1,7 @@
 // The listing of a with-first stream, line by line: the header, a row for each value, the total; or the one line of a refusal.
 // A line's text goes to the front of a lent array, and the call answers how long it is.
+#![tactic(auto)]
+
 ghost use Rattle.std.specs.Prelude.{◌≡◌, ◌+◌, ◌*◌, ◌≤◌, length};
 ghost use Rattle.coding.specs.Inner.Ahead.{bits_in as word_bits};
 ghost use Rattle.models.specs.Limits.{most_values};
@@ -20,7 +22,7 @@ use macaque_v::{MacaqueV, read_run};
 use models::Refusal;
 
 // How a value stands in the stream: in full, as a repeat, with a new window, or in the window that is kept.
-#[derive(Drop)]
+#[derive(Clone, Copy)]
 pub enum Kind {
     Raw,
     Same,
@@ -29,7 +31,7 @@ pub enum Kind {
 }
 
 // What a row says, but for its number.
-#[derive(Drop)]
+#[derive(Clone, Copy)]
 pub struct Fields {
     pub kind: Kind,
     // The leading zeros of the window.
@@ -40,14 +42,14 @@ pub struct Fields {
 }
 
 // How many rows there are, or why there are none.
-#[derive(Drop)]
+#[derive(Clone, Copy)]
 pub enum Judged {
     Rows(usize),
     Refused(Refusal),
 }
 
 // The length of a row's line and where reading stands behind its value; or why there is no row.
-#[derive(Drop)]
+#[derive(Clone, Copy)]
 pub enum RowAnswer {
     Row { length: usize, next: Cursor },
     Refused(Refusal),

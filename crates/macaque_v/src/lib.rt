@@ -1,5 +1,7 @@
 // MacaqueV: a stream of values, each coded by how it differs from the last one that was kept.
 
+#![tactic(auto)]
+
 pub mod noting;
 pub mod read;
 pub mod read_run;
@@ -12,14 +14,14 @@ pub mod write;
 use models::{ErrorBound, Refusal};
 
 // How a stream opens: its first value is stored in full, or it goes on from a given value.
-#[derive(Drop)]
+#[derive(Clone, Copy)]
 pub enum Opening {
     First,
     On(u32),
 }
 
 // What the writer knows of the stream behind it.
-#[derive(Drop)]
+#[derive(Clone, Copy)]
 pub struct MacaqueV {
     pub error_bound: ErrorBound,
     // The least and the greatest value kept.
@@ -51,7 +53,7 @@ impl MacaqueV {
 }
 
 // The state after the values, or a refusal with the state passed in.
-#[derive(Drop)]
+#[derive(Clone, Copy)]
 pub enum WriteAnswer {
     Written(MacaqueV),
     Refused(Refusal, MacaqueV),

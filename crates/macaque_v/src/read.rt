@@ -17,7 +17,7 @@ use crate::{MacaqueV, Opening, read_run};
 use models::{ErrorBound, GridAnswer, Refusal, ValueAnswer, Verdict};
 
 // A writer, in the state asked for.
-#[derive(Drop)]
+#[derive(Clone, Copy)]
 pub enum OpenAnswer {
     Opened(MacaqueV),
     Refused(Refusal),

@@ -18,7 +18,7 @@ use coding::decode::{Decoded, Stop};
 use models::{Refusal, Verdict};
 
 // Where reading stands: behind so many values and bits, with the last value and its window.
-#[derive(Drop)]
+#[derive(Clone, Copy)]
 pub struct Cursor {
     pub last: u32,
     pub lead: u32,
@@ -28,14 +28,14 @@ pub struct Cursor {
 }
 
 // Where reading stands after the values that were asked for; or why there are fewer.
-#[derive(Drop)]
+#[derive(Clone, Copy)]
 pub enum Run {
     To(Cursor),
     Refused(Refusal),
 }
 
 // The same of one value. What stops it is told without its place: that is where reading stood.
-#[derive(Drop)]
+#[derive(Clone, Copy)]
 pub enum Stride {
     To(Cursor),
     Stopped(Stop),
@@ -270,14 +270,14 @@ pub fn copy(values: &[u32], n: usize, i: usize, out: &mut [u32])
 // ---- through a small array
 
 // What is taken in of the values: nothing, their sum, or all that a writer's state knows of them.
-#[derive(Drop)]
+#[derive(Clone, Copy)]
 pub enum Aim {
     Nothing,
     Sum,
     All,
 }
 
-#[derive(Drop)]
+#[derive(Clone, Copy)]
 pub struct Tally {
     pub sum: f32,
     pub min: u32,
@@ -285,7 +285,7 @@ pub struct Tally {
 }
 
 // The same with what was taken in.
-#[derive(Drop)]
+#[derive(Clone, Copy)]
 pub enum Walk {
     To(Cursor, Tally),
     Refused(Refusal),
@@ -349,7 +349,7 @@ pub fn judge_end(bytes: &[u8], at: Cursor) -> Verdict
 }
 
 // What follows a place: nothing, or something from a further place on, the first set padding bit, else the first further byte's first bit.
-#[derive(Drop)]
+#[derive(Clone, Copy)]
 pub enum Behind {
     Nothing,
     From(usize),

@@ -9,7 +9,7 @@ use crate::{MacaqueV, Opening, read};
 use models::Refusal;
 
 // So many bits, or bytes.
-#[derive(Drop)]
+#[derive(Clone, Copy)]
 pub enum SizeAnswer {
     Answered(usize),
     Refused(Refusal),

@@ -3,7 +3,7 @@
 ghost use Rattle.std.specs.Prelude.{◌≡◌};
 ghost use Rattle.macaque_v.specs.Inner.Span.{or_infinite, lesser_of, is_number, span_from, span_with, said_bits, least_in, greatest_in};
 
-#[derive(Drop)]
+#[derive(Clone, Copy)]
 pub struct Span {
     pub low: f32,
     pub turned: f32,

@@ -1,5 +1,7 @@
 // Parameter bytes: what a segment stores of its model besides its least and its greatest value.
 // "Forms as in `types.rs`; values are little-endian."
+#![tactic(auto)]
+
 ghost use Rattle.std.specs.Prelude.{◌≡◌, cond, ◌++◌, ◌+◌, ◌*◌, ◌≤◌, length, take, drop};
 ghost use Rattle.models.specs.Calls.{says_value};
 ghost use Rattle.parameters.specs.Bytes.{little_endian, number_in};
@@ -10,7 +12,7 @@ use models::{Refusal, ValueAnswer};
 
 // The forms, by what they store: nothing, one byte that is not examined, a value, a flag and a value,
 // or both ends.
-#[derive(Drop)]
+#[derive(Clone, Copy)]
 pub enum Form {
     Nothing,
     One(u8),
@@ -20,14 +22,14 @@ pub enum Form {
 }
 
 // How many bytes were written.
-#[derive(Drop)]
+#[derive(Clone, Copy)]
 pub enum LengthAnswer {
     Written(usize),
     Refused(Refusal),
 }
 
 // A line's first and last value.
-#[derive(Drop)]
+#[derive(Clone, Copy)]
 pub enum EndsAnswer {
     Read(u32, u32),
     Refused(Refusal),

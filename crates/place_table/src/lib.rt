@@ -1,6 +1,8 @@
 // The place table beside a stream: for each value whose number is a multiple of 64 the bit place, the last kept value and the
 // window before it, so that a range of values is read from the entry at or before it and not from the start.
 // A table is lent as words, four to an entry, with the number of entries in use handed in and answered.
+#![tactic(auto)]
+
 ghost use Rattle.std.specs.Prelude.{◌≡◌, true, ◌+◌, ◌*◌, ◌/◌, ◌^◌, ◌≤◌, ◌<◌, length};
 ghost use Rattle.std.proofs.Math.ListN.{get_elem?};
 ghost use Rattle.models.specs.Answers.{verdict};
@@ -24,21 +26,21 @@ pub mod entry;
 pub mod walk;
 
 // The state after the values and the entries in use, or a refusal with the state passed in.
-#[derive(Drop)]
+#[derive(Clone, Copy)]
 pub enum TableWriteAnswer {
     Written(MacaqueV, usize),
     Refused(Refusal, MacaqueV),
 }
 
 // A writer in the state asked for, and how many entries stay.
-#[derive(Drop)]
+#[derive(Clone, Copy)]
 pub enum TableOpenAnswer {
     Opened(MacaqueV, usize),
     Refused(Refusal),
 }
 
 // The table is the stream's own, or why not.
-#[derive(Drop)]
+#[derive(Clone, Copy)]
 pub enum CheckAnswer {
     Belongs,
     Refused(Refusal),

@@ -1,6 +1,8 @@
 // PMC-Mean: a model that stands for values by their average, as long as the least and the greatest of
 // them are within the error bound of it. A state goes in by value, and a step hands the fitted one back.
 
+#![tactic(auto)]
+
 ghost use Rattle.std.specs.Prelude.{◌≡◌, ◌<◌, ◌≤◌, length};
 ghost use Rattle.models.specs.Limits.{most_values};
 ghost use Rattle.models.specs.Answers.{verdict};
@@ -12,7 +14,7 @@ ghost use Rattle.pmc_mean.specs.Grid.{sum_answer, grid_causes, filled, grid_memo
 
 use models::{ErrorBound, GridAnswer, Refusal, ValueAnswer, Verdict};
 
-#[derive(Drop)]
+#[derive(Clone, Copy)]
 pub struct PMCMean {
     pub error_bound: ErrorBound,
     // The least and the greatest value that the model stands for.
@@ -24,7 +26,7 @@ pub struct PMCMean {
 }
 
 // What a step that nothing refuses gives: whether the value fits, and the state after it.
-#[derive(Drop)]
+#[derive(Clone, Copy)]
 pub struct Tried {
     pub fits: bool,
     pub state: PMCMean,
@@ -32,28 +34,28 @@ pub struct Tried {
 
 // ---- answers: a refusal hands back the state passed in
 
-#[derive(Drop)]
+#[derive(Clone, Copy)]
 pub enum NewAnswer {
     Answered(PMCMean),
     Refused(Refusal),
 }
 
 // The fitted state, or that the value does not fit, with the state passed in.
-#[derive(Drop)]
+#[derive(Clone, Copy)]
 pub enum FitAnswer {
     Fits(PMCMean),
     NoFit(PMCMean),
     Refused(Refusal, PMCMean),
 }
 
-#[derive(Drop)]
+#[derive(Clone, Copy)]
 pub enum CostAnswer {
     Answered(f32),
     Refused(Refusal, PMCMean),
 }
 
 // The bits of the average.
-#[derive(Drop)]
+#[derive(Clone, Copy)]
 pub enum ModelAnswer {
     Answered(u32),
     Refused(Refusal, PMCMean),

@@ -2,6 +2,8 @@
 // ended. The borrow checker covers no function over a struct that holds a reference, so the reader's calls
 // are thin, and proved by hand: each takes the reader apart and leaves the work to `position`, on the
 // slice and the place.
+#![tactic(auto)]
+
 ghost use Rattle.std.specs.Prelude.{◌≡◌};
 ghost use Rattle.models.specs.Calls.{says_verdict, says_value};
 ghost use Rattle.reader.specs.Calls.{opened_at, says_next, next_answer, end_answer};
@@ -14,14 +16,14 @@ use models::{Refusal, ValueAnswer, Verdict};
 
 pub mod position;
 
-#[derive(Drop)]
+#[derive(Clone, Copy)]
 pub struct Reader<'a> {
     pub stream: &'a [u8],
     pub position: Position,
 }
 
 // What a next answers, and the reader after it: behind the value or, where it is refused, as it was.
-#[derive(Drop)]
+#[derive(Clone, Copy)]
 pub struct Next<'a> {
     pub answer: ValueAnswer,
     pub reader: Reader<'a>,

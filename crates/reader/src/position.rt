@@ -12,7 +12,7 @@ use models::{Refusal, ValueAnswer, Verdict};
 
 // How the stream opens; the bit place behind the values read, how many they are, the last of them and
 // its window.
-#[derive(Drop)]
+#[derive(Clone, Copy)]
 pub struct Position {
     pub with_first: bool,
     pub at: Cursor,
@@ -20,7 +20,7 @@ pub struct Position {
 
 // What a next answers, and where the reader stands after it: behind the value or, where it is refused,
 // where it stood.
-#[derive(Drop)]
+#[derive(Clone, Copy)]
 pub struct Moved {
     pub answer: ValueAnswer,
     pub after: Position,

@@ -2,10 +2,11 @@
 
 use crate::record;
 use crate::record::Verdict;
-use libc::STDOUT_FILENO;
 use replaying::line::{MARKS, TextLine, WORDS};
 
-#[derive(Drop)]
+const STDOUT_FILENO: i32 = 1;
+
+#[derive(Clone, Copy)]
 pub struct At {
     // The number of the line that is read, and what is read of it.
     number: u64,

@@ -13,7 +13,7 @@ pub const CALLS: u64 = 46;
 const NO_NUMBER: u64 = 99;
 
 // The numbers that a call is handed, in the order of its parameters: those of 32 bits, and the others.
-#[derive(Drop)]
+#[derive(Clone, Copy)]
 pub struct Numbers {
     pub a: u32,
     pub b: u32,

@@ -3,13 +3,16 @@
 // output has a line for each title of the list: how many answers were replayed behind it and how many of them
 // differ, and before that the number of each line that differs or cannot be read.
 
+#![tactic(auto)]
+
 use at::At;
-use libc::STDIN_FILENO;
 use replaying::line::{MARKS, WORDS};
 
 mod at;
 mod calls;
 mod record;
+
+const STDIN_FILENO: i32 = 0;
 
 fn main() {
     let mut words = [0u64; WORDS];

@@ -7,7 +7,7 @@ use replaying::line::MARKS;
 use replaying::lists::Told;
 use replaying::{line, lists};
 
-#[derive(Drop)]
+#[derive(Clone, Copy)]
 pub enum Verdict {
     Same,
     Differs,

@@ -39,7 +39,7 @@ const LAST: usize = 15;
 
 // What is known of a line so far. Its marks are, for each list, where its words begin, 0 for a list that
 // is not named, and ENDS places on, where they end.
-#[derive(Drop)]
+#[derive(Clone, Copy)]
 pub struct TextLine {
     // The list that is being filled, and how many words all have.
     list: usize,

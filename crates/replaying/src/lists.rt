@@ -227,7 +227,7 @@ fn wide_value(value: u32) -> u64 {
 }
 
 // What a call answers: its number with the value and the place, or what it gives where it is never refused.
-#[derive(Drop)]
+#[derive(Clone, Copy)]
 pub struct Told {
     pub number: u64,
     pub value: u64,

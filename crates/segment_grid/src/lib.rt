@@ -2,6 +2,8 @@
 // A segment is handed in as its model (0 PMC-Mean, 1 Swing), all its timestamps, its least and its
 // greatest value, its parameter bytes, and its residual bytes, whose last one is their count.
 
+#![tactic(auto)]
+
 mod draw;
 mod parts;
 mod total;

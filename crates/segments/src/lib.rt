@@ -1,4 +1,6 @@
 // Segments: a model's parameter bytes, and residuals as a stream that opens on the model's last value.
+#![tactic(auto)]
+
 ghost use Rattle.std.specs.Prelude.{◌≡◌, ◌++◌, ◌*◌, ◌≤◌, length, take, drop};
 ghost use Rattle.models.specs.Answers.{answered};
 ghost use Rattle.macaque_v.specs.Calls.{new_answer};
@@ -13,7 +15,7 @@ use models::{ErrorBound, Refusal};
 use parameters::Form;
 
 // What a finished segment is besides its bytes.
-#[derive(Drop)]
+#[derive(Clone, Copy)]
 pub struct Segment {
     // Its least and its greatest value.
     pub min_value: u32,
@@ -23,7 +25,7 @@ pub struct Segment {
     pub residuals_length: usize,
 }
 
-#[derive(Drop)]
+#[derive(Clone, Copy)]
 pub enum SegmentAnswer {
     Written(Segment),
     Refused(Refusal),

@@ -1,6 +1,8 @@
 // Swing: a line from the first point of a segment on that passes each later one within the error
 // bound. A state goes in by value, and a step hands the fitted one back.
 
+#![tactic(auto)]
+
 pub mod step;
 
 ghost use Rattle.std.specs.Prelude.{◌≡◌, length};
@@ -13,7 +15,7 @@ ghost use Rattle.swing.specs.Grid.{line_causes, average_causes, average_answer, 
 use lines::Point;
 use models::{ErrorBound, GridAnswer, Refusal, ValueAnswer, Verdict};
 
-#[derive(Drop)]
+#[derive(Clone, Copy)]
 pub struct Swing {
     pub error_bound: ErrorBound,
     // The times of the first and of the last point that the model stands for.
@@ -33,7 +35,7 @@ pub struct Swing {
 }
 
 // What a step that nothing refuses gives: whether the point fits, and the state after it.
-#[derive(Drop)]
+#[derive(Clone, Copy)]
 pub struct Tried {
     pub fits: bool,
     pub state: Swing,
@@ -41,28 +43,28 @@ pub struct Tried {
 
 // ---- answers: a refusal hands back the state passed in
 
-#[derive(Drop)]
+#[derive(Clone, Copy)]
 pub enum NewAnswer {
     Answered(Swing),
     Refused(Refusal),
 }
 
 // The fitted state, or that the point does not fit, with the state passed in.
-#[derive(Drop)]
+#[derive(Clone, Copy)]
 pub enum FitAnswer {
     Fits(Swing),
     NoFit(Swing),
     Refused(Refusal, Swing),
 }
 
-#[derive(Drop)]
+#[derive(Clone, Copy)]
 pub enum CostAnswer {
     Answered(f32),
     Refused(Refusal, Swing),
 }
 
 // The bits of the line's first and last value.
-#[derive(Drop)]
+#[derive(Clone, Copy)]
 pub enum ModelAnswer {
     Answered(u32, u32),
     Refused(Refusal, Swing),

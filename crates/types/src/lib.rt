@@ -1,6 +1,8 @@
 // The choice of a segment's model: a PMC-Mean and a Swing model that are fitted side by side, each until
 // its first failure, and the one of them that needs fewer bytes for each value.
 
+#![tactic(auto)]
+
 pub mod choice;
 
 ghost use Rattle.std.specs.Prelude.{◌≡◌, true, ◌<◌};
@@ -17,7 +19,7 @@ use models::{ErrorBound, Refusal, Verdict};
 use pmc_mean::PMCMean;
 use swing::Swing;
 
-#[derive(Drop)]
+#[derive(Clone, Copy)]
 pub struct ModelBuilder {
     pub pmc_mean: PMCMean,
     // Whether the model stands for all values so far; once it does not, it is not tried again.
@@ -27,7 +29,7 @@ pub struct ModelBuilder {
 }
 
 // The model that was chosen: 0 for PMC-Mean, 1 for Swing.
-#[derive(Drop)]
+#[derive(Clone, Copy)]
 pub struct SelectedModel {
     pub model_type_id: u32,
     // How many values the model stands for.
@@ -40,27 +42,27 @@ pub struct SelectedModel {
 
 // ---- answers: a refusal hands back the builder passed in
 
-#[derive(Drop)]
+#[derive(Clone, Copy)]
 pub enum NewAnswer {
     Answered(ModelBuilder),
     Refused(Refusal),
 }
 
 // Whether some model stands for all values so far, and the builder after the step.
-#[derive(Drop)]
+#[derive(Clone, Copy)]
 pub enum UpdateAnswer {
     Fits(ModelBuilder),
     NoFit(ModelBuilder),
     Refused(Refusal, ModelBuilder),
 }
 
-#[derive(Drop)]
+#[derive(Clone, Copy)]
 pub enum FinishAnswer {
     Answered(SelectedModel),
     Refused(Refusal, ModelBuilder),
 }
 
-#[derive(Drop)]
+#[derive(Clone, Copy)]
 pub enum ChoiceAnswer {
     Answered(SelectedModel),
     Refused(Refusal),
