@@ -1,0 +1,11 @@
+-- `bits::eight`: the sum of eight bytes is the field of 64 bits. Assumes nothing.
+use mathlib.Core.Path.{◌∙◌}
+use Rattle.bits.proofs.Chunks.{eight_is}
+use borrow.Author.Rules.{rules}
+use Rattle.bits.proofs.eight.Goals as goal
+use Rattle.bits.proofs.eight.Goals.{After-word_of}
+
+pub returns : goal.returns
+returns c =
+    let at-start = (goal.at.returns c).After-word_of in
+    c.word_of.ensures ∙ eight_is at-start.args.bytes.now at-start.args.i at-start.requires (λ n. (c.shared_slice_known-9-1.given n).fits)

@@ -1,0 +1,15 @@
+-- `bits::get_by_bytes`. The invariant: v is the field of the bits that are done. Assumes nothing.
+use Prim.Native.Nat.{ℕ, ◌+◌, ◌*◌, ◌/◌, ◌%◌, ◌^◌, ◌<◌, ◌≤◌, ◌-◌}
+use mathlib.Core.Path.{◌≡◌, refl, sym, ap, ap₂, ◌∙◌}
+use native.Mathlib.Omega.{arith}
+use Rattle.bits.specs.Bits.{value, field_at, bits_of}
+use Rattle.bits.proofs.Fields.{field_at-lt}
+use Rattle.bits.proofs.Chunks.{got-more}
+use Rattle.bits.proofs.Words.{shl-fits, mod-is-lt}
+use Rattle.bits.proofs.get_by_bytes.Given as goal
+
+abbrev pub invariant-loop-done : goal.invariant-loop-done
+invariant-loop-done l = (l.done ≤ l.width) × (l.v ≡ field_at l.place l.done (bits_of l.bytes))
+
+abbrev pub decreases-loop-done : goal.decreases-loop-done
+decreases-loop-done l = l.width - l.done
