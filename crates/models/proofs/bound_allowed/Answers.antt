@@ -1,0 +1,18 @@
+-- `models::bound_allowed` meets its contract, variant by variant.
+-- Assumes nothing.
+use borrow.Author.Rules.{rules}
+use lib.Ieee as Ieee
+use Rattle.models.specs.Bound.{bound_allowed}
+use Rattle.models.proofs.bound_allowed.Goals as goal
+
+pub returns-in-Lossless : goal.returns-in-Lossless
+unfolding bound_allowed
+returns-in-Lossless c = rw c.in-Lossless.is
+
+pub returns-in-Absolute : goal.returns-in-Absolute
+unfolding bound_allowed Ieee.of_bits
+returns-in-Absolute c = rw (c.in-Absolute.is, c.is_finite_f32.ensures)
+
+pub returns-in-Relative : goal.returns-in-Relative
+unfolding bound_allowed Ieee.of_bits
+returns-in-Relative c = rw c.in-Relative.is

@@ -1,0 +1,19 @@
+-- `models::min_bits` meets its contract. Assumes nothing.
+use borrow.Author.Rules.{rules}
+use lib.Ieee as Ieee
+use lib.Ieee.{binary32, of_bits}
+use Rattle.models.specs.Floats.{min_bits}
+use Rattle.models.proofs.Laws.{gives-way, right-wins, left-stays}
+use Rattle.models.proofs.min_bits.Goals as goal
+
+pub returns-then-x : goal.returns-then-x
+unfolding min_bits
+returns-then-x c = gives-way Ieee.lt (of_bits binary32) _ _ _ _ c.value_of_f32-x.ensures c.value_of_f32-y.ensures c.if-x.true
+
+pub returns-then-y-x : goal.returns-then-y-x
+unfolding min_bits
+returns-then-y-x c = right-wins Ieee.lt (of_bits binary32) _ _ _ _ c.value_of_f32-x.ensures c.value_of_f32-y.ensures c.if-x.false c.if-y-x.true
+
+pub returns-else-y-x : goal.returns-else-y-x
+unfolding min_bits
+returns-else-y-x c = left-stays Ieee.lt (of_bits binary32) _ _ _ _ c.value_of_f32-x.ensures c.value_of_f32-y.ensures c.if-x.false c.if-y-x.false

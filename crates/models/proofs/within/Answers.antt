@@ -1,0 +1,6 @@
+-- `models::within` meets its contract: widening changes no value. Assumes nothing.
+use borrow.Author.Rules.{rules}
+use Rattle.models.proofs.within.Goals as goal
+
+pub returns : goal.returns
+returns c = rw (c.within_wide.ensures, c.wider.ensures, c.wider-2.ensures)
