@@ -69,8 +69,8 @@ pub fn lowered(p: Point, d: f64) -> Point
 
 // The time from start to end.
 pub fn span(start: i64, end: i64) -> f64
-    requires fact_1 { time_allowed start ≡ true }
-    requires fact_2 { time_allowed end ≡ true }
+    requires start_allowed { time_allowed start ≡ true }
+    requires end_allowed { time_allowed end ≡ true }
     ensures { result ≡ span_f start end }
 {
     (end - start) as f64
@@ -78,8 +78,8 @@ pub fn span(start: i64, end: i64) -> f64
 
 // The line through two points; level where their values are equal-or-NaN.
 pub fn line_through(a: Point, b: Point) -> Line
-    requires fact_1 { time_allowed a.time ≡ true }
-    requires fact_2 { time_allowed b.time ≡ true }
+    requires a_allowed { time_allowed a.time ≡ true }
+    requires b_allowed { time_allowed b.time ≡ true }
     ensures { result ≡ line_through a b }
 {
     if models::equal_or_nan(a.value, b.value) {
@@ -99,8 +99,8 @@ pub fn line_through(a: Point, b: Point) -> Line
 
 // What the point b adds to the slope of a line from a on.
 pub fn terms_of(a: Point, b: Point) -> Terms
-    requires fact_1 { time_allowed a.time ≡ true }
-    requires fact_2 { time_allowed b.time ≡ true }
+    requires a_allowed { time_allowed a.time ≡ true }
+    requires b_allowed { time_allowed b.time ≡ true }
     ensures { result ≡ terms_of a b }
 {
     if models::equal_or_nan(a.value, b.value) {
@@ -158,8 +158,8 @@ pub fn no_line(a: Point, b: Point) -> bool
 
 // The bits of the sum of `count` values of the line, by the average of its ends.
 pub fn average_sum(a: Point, b: Point, count: usize) -> u32
-    requires fact_1 { in_time a b ≡ true }
-    requires fact_2 { count ≤ most_values }
+    requires times { in_time a b ≡ true }
+    requires few { count ≤ most_values }
     ensures { result ≡ average_sum a b count }
 {
     let l = line_through(a, b);
@@ -186,8 +186,8 @@ pub fn total(line: Line, ts: &[i64]) -> f64
 
 // Writes the bits of the line's value at each time to the front of `out`.
 pub fn draw(line: Line, ts: &[i64], out: &mut [u32])
-    requires fact_1 { in_order ts.now ≡ true }
-    requires fact_2 { length ts.now ≤ length out.old }
+    requires times { in_order ts.now ≡ true }
+    requires room { length ts.now ≤ length out.old }
     ensures { out.new ≡ line_drawn line ts.now out.old }
 {
     let mut i: usize = 0;

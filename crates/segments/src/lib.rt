@@ -106,9 +106,9 @@ fn hand_out(
     values_out: &mut [u8],
     residuals_out: &mut [u8],
 ) -> SegmentAnswer
-    requires fact_1 { after.place ≤ 8 * length stream.now }
-    requires fact_2 { after.length ≤ most_residuals }
-    requires fact_3 { length stream.now ≤ 1403 }
+    requires in_stream { after.place ≤ 8 * length stream.now }
+    requires few { after.length ≤ most_residuals }
+    requires short { length stream.now ≤ 1403 }
     ensures answer { says_segment result ≡ handed_answer (stored_by model first_value last_value after stream.now) values_out.old residuals_out.old }
     ensures values { values_out.new ≡ handed_values (stored_by model first_value last_value after stream.now) values_out.old residuals_out.old }
     ensures bytes { residuals_out.new ≡ handed_residuals (stored_by model first_value last_value after stream.now) values_out.old residuals_out.old }
@@ -191,10 +191,10 @@ fn counted_length(used: usize, count: usize) -> usize
 }
 
 fn put_counted(stream: &[u8], used: usize, count: usize, out: &mut [u8])
-    requires fact_1 { used ≤ length stream.now }
-    requires fact_2 { used ≤ 1403 }
-    requires fact_3 { count ≤ most_residuals }
-    requires fact_4 { counted_length used count ≤ length out.old }
+    requires in_stream { used ≤ length stream.now }
+    requires short { used ≤ 1403 }
+    requires few { count ≤ most_residuals }
+    requires room { counted_length used count ≤ length out.old }
     ensures { out.new ≡ front (counted_bytes (take used stream.now) count) out.old }
 {
     if count == 0 {
@@ -206,8 +206,8 @@ fn put_counted(stream: &[u8], used: usize, count: usize, out: &mut [u8])
 
 // The first n bytes to the front of an output that holds them.
 fn copy(bytes: &[u8], n: usize, out: &mut [u8])
-    requires fact_1 { n ≤ length bytes.now }
-    requires fact_2 { n ≤ length out.old }
+    requires in_bytes { n ≤ length bytes.now }
+    requires room { n ≤ length out.old }
     ensures { out.new ≡ take n bytes.now ++ drop n out.old }
 {
     let mut i: usize = 0;

@@ -76,9 +76,9 @@ impl Swing {
 
     // The step, once nothing refuses it.
     pub fn tried(self, p: Point) -> Tried
-        requires fact_1 { self.length < most_values }
-        requires fact_2 { usable self ≡ true }
-        requires fact_3 { time_allowed p.time ≡ true }
+        requires room { self.length < most_values }
+        requires sound { usable self ≡ true }
+        requires time { time_allowed p.time ≡ true }
         ensures { step_of result ≡ tried self p }
     {
         let n = self.length;
@@ -147,9 +147,9 @@ impl Swing {
 
     // The second point, which sets both lines, d being the deviation that the bound allows.
     fn second(self, p: Point, d: f64) -> Swing
-        requires fact_1 { self.length < most_values }
-        requires fact_2 { time_allowed self.start_time ≡ true }
-        requires fact_3 { time_allowed p.time ≡ true }
+        requires room { self.length < most_values }
+        requires start { time_allowed self.start_time ≡ true }
+        requires time { time_allowed p.time ≡ true }
         ensures { result ≡ second self p d }
     {
         let first = self.first_point();
@@ -160,9 +160,9 @@ impl Swing {
 
     // A third or later point.
     fn later(self, p: Point, d: f64) -> Tried
-        requires fact_1 { self.length < most_values }
-        requires fact_2 { time_allowed self.start_time ≡ true }
-        requires fact_3 { time_allowed p.time ≡ true }
+        requires room { self.length < most_values }
+        requires start { time_allowed self.start_time ≡ true }
+        requires time { time_allowed p.time ≡ true }
         ensures { step_of result ≡ later self p d }
     {
         let high = lines::value_at(self.upper_line(), p.time);
@@ -179,9 +179,9 @@ impl Swing {
 
     // A later point that fits: the lines are at `high` and `low` there.
     fn swung(self, p: Point, d: f64, high: f64, low: f64) -> Swing
-        requires fact_1 { self.length < most_values }
-        requires fact_2 { time_allowed self.start_time ≡ true }
-        requires fact_3 { time_allowed p.time ≡ true }
+        requires room { self.length < most_values }
+        requires start { time_allowed self.start_time ≡ true }
+        requires time { time_allowed p.time ≡ true }
         ensures { result ≡ swung self p d high low }
     {
         let upper = self.swung_to(high - d > p.value, lines::raised(p, d), self.upper_line());
@@ -192,8 +192,8 @@ impl Swing {
 
     // A bounding line or, where the point asks for it, the one from the first point through `to`.
     fn swung_to(self, asked: bool, to: Point, line: Line) -> Line
-        requires fact_1 { time_allowed self.start_time ≡ true }
-        requires fact_2 { time_allowed to.time ≡ true }
+        requires start { time_allowed self.start_time ≡ true }
+        requires time { time_allowed to.time ≡ true }
         ensures { result ≡ cond asked (line_through (first_point self) to) line }
     {
         if asked {
@@ -207,8 +207,8 @@ impl Swing {
 
     // The line's value at the last time.
     pub fn last_value(self) -> f64
-        requires fact_1 { time_allowed self.start_time ≡ true }
-        requires fact_2 { time_allowed self.end_time ≡ true }
+        requires start { time_allowed self.start_time ≡ true }
+        requires end { time_allowed self.end_time ≡ true }
         ensures { result ≡ last_value self }
     {
         let sums = self.sums();

@@ -115,9 +115,9 @@ fn select_swing(s: Swing, m: usize) -> SelectedModel
 // each model stands for. The quotients are multiplied out, so that none is rounded. No product is
 // above 65,536 * 65,536, or 2^32, so 64 bits hold each.
 fn swing_wins(m: usize, pmc_mean: usize, swing: usize) -> bool
-    requires fact_1 { m ≤ most_metadata }
-    requires fact_2 { pmc_mean ≤ most_values }
-    requires fact_3 { swing ≤ most_values }
+    requires few_bytes { m ≤ most_metadata }
+    requires few_pmc_mean { pmc_mean ≤ most_values }
+    requires few_swing { swing ≤ most_values }
     ensures { result ≡ swing_wins m pmc_mean swing }
 {
     (m + 1) * pmc_mean < m * swing

@@ -169,8 +169,8 @@ impl ModelBuilder {
 
     // The step, once nothing refuses it. The point's value is that of the f32.
     fn updated(self, value: f32, p: Point) -> ModelBuilder
-        requires fact_1 { verdict (update_causes self p.time) ≡ answered tt }
-        requires fact_2 { value ≡ p.value }
+        requires passed { verdict (update_causes self p.time) ≡ answered tt }
+        requires value { value ≡ p.value }
         ensures { result ≡ updated self p }
     {
         let b = self.update_pmc_mean(value);
@@ -191,8 +191,8 @@ impl ModelBuilder {
     }
 
     fn update_swing(self, p: Point) -> ModelBuilder
-        requires fact_1 { (self.swing_could_fit_all ≡ true → (self.swing.length < most_values) × (usable self.swing ≡ true)) }
-        requires fact_2 { time_allowed p.time ≡ true }
+        requires swing_fits { (self.swing_could_fit_all ≡ true → (self.swing.length < most_values) × (usable self.swing ≡ true)) }
+        requires time { time_allowed p.time ≡ true }
         ensures { result ≡ update_swing self p }
     {
         if !self.swing_could_fit_all {

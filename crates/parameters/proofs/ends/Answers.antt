@@ -1,0 +1,6 @@
+-- `parameters::ends` meets its contract. Assumes nothing.
+use borrow.Author.Rules.{rules}
+use Rattle.parameters.proofs.ends.Goals as goal
+
+pub returns : goal.returns
+returns c = rw (c.plain-2.ensures, c.plain.ensures)
