@@ -20,14 +20,14 @@ pub value_at-requires : goal.value_at-requires
 value_at-requires c =
     let ts = c.args.ts.now in
     let l = c.loop-i in
-    let ok = in-order-at ts l.i c.requires.0 c.loop-i-test.true in
+    let ok = in-order-at ts l.i c.requires.times c.loop-i-test.true in
     rw (to_z-of_z w64 (get_or ts l.i (pos 0)) (time-fits _ ok)) ok
 
 pub loop-i-preserved : goal.loop-i-preserved
 loop-i-preserved c =
     let ts = c.args.ts.now in
     let l = c.loop-i in
-    let ok = in-order-at ts l.i c.requires.0 c.loop-i-test.true in
+    let ok = in-order-at ts l.i c.requires.times c.loop-i-test.true in
     let e = rw (to_z-of_z w64 (get_or ts l.i (pos 0)) (time-fits _ ok)) at c.value_at.ensures in
     (search rules, simp length-set l.invariant.1, rw (c.answered.ensures, e) (sym (sets-here (line_drawn_at c.args.line) l.out ts l.i (pos 0) c.loop-i-test.true) ∙ l.invariant.2))
 
@@ -35,4 +35,4 @@ pub returns : goal.returns
 returns c =
     let l = c.loop-i in
     let ts = c.args.ts.now in
-    sym (sets-done (line_drawn_at c.args.line) l.out ts l.i (omega arith)) ∙ l.invariant.2 ∙ sets-drawn c.args.line ts c.args.out.now c.requires.1
+    sym (sets-done (line_drawn_at c.args.line) l.out ts l.i (omega arith)) ∙ l.invariant.2 ∙ sets-drawn c.args.line ts c.args.out.now c.requires.room

@@ -10,7 +10,7 @@ use Rattle.lines.proofs.line_through.Goals as goal
 pub int_to_float-start : goal.int_to_float-start
 int_to_float-start c =
     let t = c.args.a.time in
-    rw (to_z-of_z w64 t (time-fits t c.requires.0)) (time-whole t c.requires.0)
+    rw (to_z-of_z w64 t (time-fits t c.requires.a_allowed)) (time-whole t c.requires.a_allowed)
 
 pub returns-then-equal_or_nan : goal.returns-then-equal_or_nan
 unfolding line_through Ieee.of_bits
@@ -21,4 +21,4 @@ unfolding line_through
 returns-else-equal_or_nan c =
     let a = c.args.a in
     let b = c.args.b in
-    rw (← c.equal_or_nan.ensures, c.if-equal_or_nan.false, c.span.ensures, to_z-of_z w64 a.time (time-fits _ c.requires.0), to_z-of_z w64 b.time (time-fits _ c.requires.1))
+    rw (← c.equal_or_nan.ensures, c.if-equal_or_nan.false, c.span.ensures, to_z-of_z w64 a.time (time-fits _ c.requires.a_allowed), to_z-of_z w64 b.time (time-fits _ c.requires.b_allowed))

@@ -16,4 +16,4 @@ unfolding terms_of
 returns-else-equal_or_nan c =
     let a = c.args.a in
     let b = c.args.b in
-    rw (← c.equal_or_nan.ensures, c.if-equal_or_nan.false, c.span-t.ensures, to_z-of_z w64 a.time (time-fits _ c.requires.0), to_z-of_z w64 b.time (time-fits _ c.requires.1))
+    rw (← c.equal_or_nan.ensures, c.if-equal_or_nan.false, c.span-t.ensures, to_z-of_z w64 a.time (time-fits _ c.requires.a_allowed), to_z-of_z w64 b.time (time-fits _ c.requires.b_allowed))

@@ -11,10 +11,10 @@ use Rattle.parameters.proofs.hand_out.Goals as goal
 
 pub returns-then-out-n : goal.returns-then-out-n
 unfolding length_answer bytes_after judge
-returns-then-out-n c = let a = c.args in rw (lt-ltb (length a.out.now) (length (form_bytes a.form)) (omega arith)) (refl, refl)
+returns-then-out-n c = let a = c.args in rw (lt-ltb (length a.out.now) (length (form_bytes a.form)) (omega arith)) record { length = refl; output = refl }
 
 pub returns : goal.returns
 unfolding length_answer bytes_after judge
 returns c =
     let a = c.args in
-    rw (le-ltb (length a.out.now) (length (form_bytes a.form)) (omega arith)) (ap answered c.length_of-n.ensures, c.put.ensures)
+    rw (le-ltb (length a.out.now) (length (form_bytes a.form)) (omega arith)) record { length = ap answered c.length_of-n.ensures; output = c.put.ensures }

@@ -22,7 +22,7 @@ returns-then-not-allowed c =
     let h = c.loop-i-test.true in
     let zt = to_z-of_z w64 (get_or ts l.i (pos 0)) (search rules) in
     let ok = rw zt at c.allowed.ensures in
-    rw (l.invariant.1, after-here (to_z w64 l.last) ts l.i h, ← ok, not-true c.allowed.result c.if-not-allowed.true)
+    rw (l.invariant.1, after-here (to_z w64 l.last-bits) ts l.i h, ← ok, c.if-not-allowed.true)
 
 pub returns-then-not-earlier : goal.returns-then-not-earlier
 returns-then-not-earlier c =
@@ -32,7 +32,7 @@ returns-then-not-earlier c =
     let zt = to_z-of_z w64 (get_or ts l.i (pos 0)) (search rules) in
     let ok = rw zt at c.allowed.ensures in
     let up = rw zt at c.earlier.ensures in
-    rw (l.invariant.1, after-here (to_z w64 l.last) ts l.i h, ← ok, not-false c.allowed.result c.if-not-allowed.false, ← up, not-true c.earlier.result c.if-not-earlier.true)
+    rw (l.invariant.1, after-here (to_z w64 l.last-bits) ts l.i h, ← ok, c.if-not-allowed.false, ← up, c.if-not-earlier.true)
 
 pub loop-i-preserved : goal.loop-i-preserved
 loop-i-preserved c =
@@ -42,7 +42,7 @@ loop-i-preserved c =
     let zt = to_z-of_z w64 (get_or ts l.i (pos 0)) (search rules) in
     let ok = rw zt at c.allowed.ensures in
     let up = rw zt at c.earlier.ensures in
-    (search rules, rw (zt, l.invariant.1, after-here (to_z w64 l.last) ts l.i h, ← ok, not-false c.allowed.result c.if-not-allowed.false, ← up, not-false c.earlier.result c.if-not-earlier.false))
+    (search rules, rw (zt, l.invariant.1, after-here (to_z w64 l.last-bits) ts l.i h, ← ok, c.if-not-allowed.false, ← up, c.if-not-earlier.false))
 
 pub returns : goal.returns
 unfolding after

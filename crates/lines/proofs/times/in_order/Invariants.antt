@@ -14,7 +14,7 @@ use Rattle.lines.proofs.Ordered.{after-all, after-here, drop-end}
 use Rattle.lines.proofs.times.in_order.Given as goal
 
 abbrev pub invariant-loop-i : goal.invariant-loop-i
-invariant-loop-i l = (l.i ≤ length l.ts) × (in_order l.ts ≡ after (to_z w64 l.last) (drop l.i l.ts))
+invariant-loop-i l = (l.i ≤ length l.ts) × (in_order l.ts ≡ after (l.last) (drop l.i l.ts))
 
 abbrev pub decreases-loop-i : goal.decreases-loop-i
 decreases-loop-i l = length l.ts - l.i

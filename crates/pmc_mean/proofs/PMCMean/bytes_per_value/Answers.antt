@@ -22,7 +22,7 @@ cost-requires c =
     let s = a.self in
     let ok = has-cost s.error_bound (usable s) s.length a.m (none-holds _ _ (says (goal.at.cost-requires c).After-judge_cost) c.in-Passed.is) in
     let small = leb-true s.length most_values ok.0 in
-    record { fact_1 = omega (arith, ok.2); fact_2 = small }
+    record { few_bytes = omega (arith, ok.2); few_values = small }
 
 pub returns-in-Refused : goal.returns-in-Refused
 unfolding cost_answer

@@ -6,8 +6,8 @@ use Rattle.pmc_mean.proofs.PMCMean.fits.Goals as goal
 
 pub returns-then-not-within : goal.returns-then-not-within
 unfolding fits
-returns-then-not-within c = rw (← c.average-average.ensures, ← c.within.ensures, not-true c.within.result c.if-not-within.true)
+returns-then-not-within c = rw (← c.average-average.ensures, ← c.within.ensures, c.if-not-within.true)
 
 pub returns : goal.returns
 unfolding fits
-returns c = rw (← c.average-average.ensures, ← c.within.ensures, not-false c.within.result c.if-not-within.false) c.within-2.ensures
+returns c = rw (← c.average-average.ensures, ← c.within.ensures, c.if-not-within.false) c.within-2.ensures

@@ -10,8 +10,8 @@ fits-requires c = rw c.with_value-next.ensures (omega arith)
 
 pub returns-then-fits : goal.returns-then-fits
 unfolding tried
-returns-then-fits c = rw (← c.with_value-next.ensures, ← c.fits2.ensures, c.if-fits.true)
+returns-then-fits c = rw (← c.with_value-next.ensures, ← c.fits.ensures, c.if-fits.true)
 
 pub returns-else-fits : goal.returns-else-fits
 unfolding tried
-returns-else-fits c = rw (← c.with_value-next.ensures, ← c.fits2.ensures, c.if-fits.false)
+returns-else-fits c = rw (← c.with_value-next.ensures, ← c.fits.ensures, c.if-fits.false)
