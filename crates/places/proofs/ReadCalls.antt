@@ -98,7 +98,7 @@ module _ {A : Type 0} (S : Stream A) (l : ℕ) (bytes : List ℕ) (count : ℕ) 
       → (table_in words in_use ≡ entries_in S count (fresh S l) bits → ⊥) → check_answer S l bytes count words in_use ≡ no_match
   unfolding judge
   the-check-refuses-any-other-table few lent vs h other =
-      let w = calls.read_whole (read_all S count (fresh S l) bits) vs h in
+      let w = calls.read_whole_lem (read_all S count (fresh S l) bits) vs h in
       few-and-lent few lent ∙ go (eqb in_use (entries_for count)) (check-other S count l bits vs w.0 w.1 w.2 (table_in words in_use) other)
     where
       go : (b : Bool) → check_table S count (fresh S l) bits (table_in words in_use) ≡ no_match → by_number false false b ≡ no_match
@@ -433,7 +433,7 @@ module _ {A : Type 0} (S : Stream A) where
         entry : (i : ℕ) → spacing * i < count → OwnEntry S l bytes vs i (entry_at words i)
         entry i lt =
             let bits : List Bool = bits_of bytes in
-            let w = calls.read_whole (read_all S count (fresh S l) bits) vs h in
+            let w = calls.read_whole_lem (read_all S count (fresh S l) bits) vs h in
             let o = any-opened S good l hl count (spacing * i) (omega arith) bits vs w.0 w.1 w.2 in
             let there : i < in_use = omega (arith, own-count S l bytes count words in_use own.belongs, (asked-for i count).1 lt) in
             record {
@@ -453,7 +453,7 @@ module _ {A : Type 0} (S : Stream A) where
     a-range-is-that-part-of-the-reading vs h p q le most out fits =
         let bits : List Bool = bits_of bytes in
         let table : List Entry = table_in words in_use in
-        let w = calls.read_whole (read_all S count (fresh S l) bits) vs h in
+        let w = calls.read_whole_lem (read_all S count (fresh S l) bits) vs h in
         let check : check_table S count (fresh S l) bits table ≡ answered tt = (answered-only (check_causes count (length words) in_use) _ tt ok).1 in
         let part : List ℕ = take (q - p) (drop p vs) in
         let read : read_range S bits table p q ≡ answered part = checked-range S good l hl count bits vs w.0 w.1 w.2 table check p q le most in
