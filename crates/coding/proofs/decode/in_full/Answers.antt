@@ -1,0 +1,16 @@
+-- `coding::decode::in_full` meets its contract: its bits are the first 32. Assumes nothing.
+use borrow.Author.Rules.{rules}
+use native.Mathlib.Omega.{arith}
+use Rattle.stream.specs.Format.{window_in}
+use Rattle.coding.proofs.Decoding.{raw-cut, raw-got}
+use Rattle.coding.proofs.decode.in_full.Goals as goal
+
+pub returns-then-left-lt32 : goal.returns-then-left-lt32
+returns-then-left-lt32 c =
+    let a = c.args in
+    raw-cut a.word a.left (omega arith) (window_in a.lead a.trail) a.last (omega arith)
+
+pub returns : goal.returns
+returns c =
+    let a = c.args in
+    raw-got a.word a.left (omega arith) (window_in a.lead a.trail) a.last c.part.result c.part.ensures (omega arith)

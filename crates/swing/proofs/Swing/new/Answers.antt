@@ -1,0 +1,15 @@
+-- `Swing::new` meets its contract. Assumes nothing.
+use lib.Ieee as Ieee
+use borrow.Author.Rules.{rules}
+use Rattle.models.specs.Answers.{judge}
+use Rattle.swing.specs.State.{fresh}
+use Rattle.swing.specs.Calls.{new_answer}
+use Rattle.swing.proofs.Swing.new.Goals as goal
+
+pub returns-then-not-bound_allowed : goal.returns-then-not-bound_allowed
+unfolding judge new_answer
+returns-then-not-bound_allowed c = rw (← c.bound_allowed.ensures, c.if-not-bound_allowed.true)
+
+pub returns : goal.returns
+unfolding judge new_answer fresh Ieee.of_bits Ieee.div
+returns c = rw (← c.bound_allowed.ensures, c.if-not-bound_allowed.false)

@@ -1,0 +1,48 @@
+-- `swing::sum_over` meets its contract. Assumes nothing.
+use mathlib.Core.Path.{◌≡◌}
+use mir.Syntax.{w64}
+use mir.ValLaws.{to_z-of_z}
+use borrow.Author.Rules.{rules}
+use borrow.Author.Tests.{not-false}
+use Rattle.models.specs.Calls.{says_verdict}
+use Rattle.models.specs.Answers.{refused, verdict, NoneHolds}
+use Rattle.models.proofs.Judged.{none-holds, when-passed, when-refused}
+use Rattle.models.proofs.Tests.{and_left, and_right}
+use Rattle.lines.specs.Line.{point_of}
+use Rattle.lines.specs.Values.{in_time}
+use Rattle.swing.specs.Grid.{sum_causes, sum_answer}
+use Rattle.lines.proofs.Ordered.{start-in-time, end-in-time}
+use Rattle.swing.proofs.sum_over.Goals as goal
+use Rattle.swing.proofs.sum_over.Goals.{After-judge_sum, After-point_of-a, After-point_of-b, In-Passed}
+
+start : (c : After-point_of-a) → c.point_of-a.result ≡ point_of c.args.start_time c.args.first_value
+start c = rw (to_z-of_z w64 c.args.start_time c.ranges.start_time) at c.point_of-a.ensures
+
+end : (c : After-point_of-b) → c.point_of-b.result ≡ point_of c.args.end_time c.args.last_value
+end c = rw (to_z-of_z w64 c.args.end_time c.ranges.end_time) at c.point_of-b.ensures
+
+says : (c : After-judge_sum) → says_verdict c.judge_sum.result ≡ verdict (sum_causes (point_of c.args.start_time c.args.first_value) (point_of c.args.end_time c.args.last_value) c.args.timestamps.now)
+says c = rw (start c.before.before, end c.before) at c.judge_sum.ensures
+
+-- past the verdict no cause holds
+clear : (c : In-Passed) → NoneHolds (sum_causes c.point_of-a.result c.point_of-b.result c.args.timestamps.now)
+clear c = none-holds _ _ c.judge_sum.ensures c.in-Passed.is
+
+pub line_through-l-requires : goal.line_through-l-requires
+line_through-l-requires c =
+    let none = clear (goal.at.line_through-l-requires c).In-Passed in
+    let ok = and_left _ _ (not-false _ none.1.0) in
+    record { a_allowed = start-in-time _ _ ok; b_allowed = end-in-time _ _ ok }
+
+pub total-requires : goal.total-requires
+total-requires c =
+    let none = clear (goal.at.total-requires c).In-Passed in
+    and_right (in_time c.point_of-a.result c.point_of-b.result) _ (not-false _ none.1.0)
+
+pub returns-in-Refused : goal.returns-in-Refused
+unfolding sum_answer
+returns-in-Refused c = when-refused _ _ (says (goal.at.returns-in-Refused c).After-judge_sum) refused _ _ c.in-Refused.is
+
+pub returns-in-Passed : goal.returns-in-Passed
+unfolding sum_answer
+returns-in-Passed c = rw (c.answered.ensures, c.total.ensures, c.line_through-l.ensures, start (goal.at.returns-in-Passed c).After-point_of-a, end (goal.at.returns-in-Passed c).After-point_of-b) (when-passed _ _ (says (goal.at.returns-in-Passed c).After-judge_sum) refused _ c.in-Passed.is)
