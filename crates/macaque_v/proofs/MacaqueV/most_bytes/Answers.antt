@@ -1,0 +1,46 @@
+-- `macaque_v::MacaqueV::most_bytes` meets its contract: it rounds up what `most_bits` answers. Assumes nothing.
+use borrow.Author.Rules.{rules}
+use mathlib.Core.Path.{◌≡◌, sym, ap, ◌∙◌}
+use Prim.Native.Nat.{ℕ, ◌≤◌}
+use native.Mathlib.Omega.{arith}
+use borrow.Author.Tests.{ltb-false}
+use Rattle.bits.specs.Bits.{whole_bytes}
+use Rattle.models.specs.Answers.{answered, refused, NoneHolds}
+use Rattle.models.specs.Causes.{count_causes}
+use Rattle.models.specs.Limits.{most_values}
+use Rattle.models.specs.Refusals.{fault_of}
+use Rattle.models.proofs.Judged.{accepted, turned, turned-back, told}
+use Rattle.macaque_v.specs.State.{is_first}
+use Rattle.macaque_v.specs.Size.{most_of, most_bits_answer, most_bytes_answer, says_size}
+use Rattle.macaque_v.proofs.Sizes.{most-small}
+use Rattle.macaque_v.proofs.MacaqueV.most_bytes.Goals as goal
+use Rattle.macaque_v.proofs.MacaqueV.most_bytes.Goals.{In-Answered}
+
+-- what the answer tells
+module _ (c : In-Answered) where
+  abbrev count : ℕ
+  count = c.args.count
+
+  abbrev bits : ℕ
+  bits = c.in-Answered.bits
+
+  answers : NoneHolds (count_causes count) × (bits ≡ most_of count c.args.opening)
+  unfolding most_bits_answer
+  answers = told (count_causes count) (most_of count c.args.opening) bits (sym (ap says_size c.in-Answered.is) ∙ c.most_bits.ensures)
+
+pub overflow_add-result : goal.overflow_add-result
+overflow_add-result c =
+    let few : count (goal.at.overflow_add-result c).In-Answered ≤ most_values = ltb-false most_values (count (goal.at.overflow_add-result c).In-Answered) (answers (goal.at.overflow_add-result c).In-Answered).0.0 in
+    omega (arith, (answers (goal.at.overflow_add-result c).In-Answered).1, most-small (is_first c.args.opening) (count (goal.at.overflow_add-result c).In-Answered))
+
+pub returns-in-Refused : goal.returns-in-Refused
+unfolding most_bits_answer most_bytes_answer
+returns-in-Refused c =
+    let a = c.args in
+    let f = fault_of c.in-Refused.r in
+    let no = turned (count_causes a.count) (most_of a.count a.opening) f (sym (ap says_size c.in-Refused.is) ∙ c.most_bits.ensures) in
+    turned-back refused (answered (whole_bytes (most_of a.count a.opening))) (count_causes a.count) f no
+
+pub returns-in-Answered : goal.returns-in-Answered
+unfolding most_bytes_answer
+returns-in-Answered c = ap (λ (n : ℕ). answered (whole_bytes n)) (answers (goal.at.returns-in-Answered c).In-Answered).1 ∙ accepted refused _ (count_causes (count (goal.at.returns-in-Answered c).In-Answered)) (answers (goal.at.returns-in-Answered c).In-Answered).0

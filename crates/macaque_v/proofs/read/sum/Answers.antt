@@ -1,0 +1,56 @@
+-- `macaque_v::read::sum` meets its contract. Assumes nothing.
+use borrow.Author.Rules.{rules}
+use mathlib.Core.Path.{◌≡◌, sym, ap, ◌∙◌, subst, subst₂}
+use mathlib.Core.Bool.{Bool}
+use native.Mathlib.Omega.{arith}
+use borrow.Author.Tests.{lt-ltb, le-ltb}
+use lib.Ieee.{binary32, to_bits}
+use Rattle.models.specs.Answers.{answered, judge}
+use Rattle.models.specs.Limits.{most_values}
+use Rattle.macaque_v.specs.State.{is_first}
+use Rattle.macaque_v.specs.Inner.ReadRun.{WholeSays}
+use Rattle.macaque_v.specs.Read.{values_in, start_of, summed, sum_answer}
+use Rattle.macaque_v.specs.declared.read_run.Cursor.{Cursor}
+use Rattle.macaque_v.specs.declared.read_run.Aim.TheVariants as OfAim
+use Rattle.macaque_v.specs.declared.read_run.Tally.{Tally}
+use Rattle.macaque_v.proofs.ReadingAll.{starts, values-right, values-wrong}
+use Rattle.macaque_v.proofs.read.sum.Goals as goal
+use Rattle.macaque_v.proofs.read.sum.Goals.{After-go_to_end, Else-count-gt-MOST_VALUES}
+
+-- what going through the stream says, from its start
+told : (c : After-go_to_end)
+    → WholeSays (is_first c.args.opening) c.args.bytes.now
+    (start_of c.args.opening) c.args.count OfAim.Sum c.go_to_end.result
+told c =
+    let a = c.args in
+    subst₂ (λ (first : Bool) (from : Cursor). WholeSays first a.bytes.now from a.count OfAim.Sum c.go_to_end.result)
+    c.is_first.ensures c.start.ensures.0 c.go_to_end.ensures
+
+-- not too many values
+few : (c : Else-count-gt-MOST_VALUES)
+    → sum_answer c.args.bytes.now c.args.count c.args.opening
+    ≡ summed (is_first c.args.opening) (values_in c.args.bytes.now c.args.count c.args.opening)
+unfolding sum_answer judge
+few c = rw (le-ltb most_values c.args.count c.if-count-gt-MOST_VALUES.false)
+
+pub returns-then-count-gt-MOST_VALUES : goal.returns-then-count-gt-MOST_VALUES
+unfolding sum_answer judge
+returns-then-count-gt-MOST_VALUES c = rw (lt-ltb most_values c.args.count c.if-count-gt-MOST_VALUES.true)
+
+pub go_to_end-requires : goal.go_to_end-requires
+go_to_end-requires c =
+    let s = starts c.args.bytes.now c.args.opening c.start.result c.start.ensures in
+    (s.0, omega (arith, s.1))
+
+pub returns-in-Refused : goal.returns-in-Refused
+returns-in-Refused c =
+    let a = c.args in
+    let says = subst (WholeSays (is_first a.opening) a.bytes.now (start_of a.opening) a.count OfAim.Sum) c.in-Refused.is (told (goal.at.returns-in-Refused c).After-go_to_end) in
+    sym (few (goal.at.returns-in-Refused c).Else-count-gt-MOST_VALUES ∙ ap (summed (is_first a.opening)) (values-wrong a.bytes.now a.opening a.count c.in-Refused.r says))
+
+pub returns-in-To : goal.returns-in-To
+returns-in-To c =
+    let a = c.args in
+    let says = subst (WholeSays (is_first a.opening) a.bytes.now (start_of a.opening) a.count OfAim.Sum) c.in-To.is (told (goal.at.returns-in-To c).After-go_to_end) in
+    ap answered (c.bits_of_f32.ensures ∙ ap (λ (t : Tally). to_bits binary32 t.sum) says.0.tally)
+    ∙ sym (few (goal.at.returns-in-To c).Else-count-gt-MOST_VALUES ∙ ap (summed (is_first a.opening)) (values-right a.bytes.now a.opening says.0.reads says.1))

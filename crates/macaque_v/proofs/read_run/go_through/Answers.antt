@@ -1,0 +1,54 @@
+use borrow.Author.Rules.{rules}
+use mathlib.Core.Path.{◌≡◌, refl, subst}
+use Prim.Native.Nat.{ℕ, ◌-◌, ◌≤◌}
+use native.Mathlib.Omega.{arith}
+use lib.ListN.{length, take}
+use lib.Ieee.{of_bits}
+use Rattle.macaque_v.specs.Inner.ReadRun.{FillSays, Walked}
+use Rattle.macaque_v.specs.declared.read_run.Run.{Run}
+use Rattle.macaque_v.proofs.ReadingRun.{then-stops}
+use Rattle.macaque_v.proofs.ReadingTally.{walked_none, walked_more}
+use Rattle.macaque_v.proofs.read_run.go_through.Goals as goal
+
+pub loop-read-init : goal.loop-read-init
+unfolding of_bits
+loop-read-init c =
+    let a = c.args in
+    (omega arith, refl, walked_none a.first a.bytes.now a.from a.aim c.requires.0)
+
+pub fill-requires : goal.fill-requires
+fill-requires c =
+    let W = c.loop-read.invariant.2 in
+    (W.reads.readable, omega (arith, W.reads.counted), omega arith)
+
+pub returns-in-Refused : goal.returns-in-Refused
+returns-in-Refused c =
+    let a = c.args in
+    let l = c.loop-read in
+    let f = c.fill in
+    let k = c.smaller-k.result in
+    then-stops a.first a.bytes.now l.invariant.2.reads k
+    (subst (λ (q : Run). FillSays a.first a.bytes.now l.at k l.values f.new.1.1.1.1.0 q) c.in-Refused.is f.ensures) a.n (omega arith)
+
+pub taken_in-tally-requires : goal.taken_in-tally-requires
+taken_in-tally-requires c = (omega (arith, c.fill.auto.1.1.1.1.0), omega (arith, c.loop-read.invariant.2.reads.counted))
+
+pub loop-read-preserved : goal.loop-read-preserved
+loop-read-preserved c =
+    let a = c.args in
+    let l = c.loop-read in
+    let f = c.fill in
+    let k = c.smaller-k.result in
+    let new = f.new.1.1.1.1.0 in
+    let says = subst (λ (q : Run). FillSays a.first a.bytes.now l.at k l.values new q) c.in-To.is f.ensures in (
+      omega arith,
+      omega (arith, f.auto.1.1.1.1.0),
+      walked_more a.first a.bytes.now a.from a.aim l.read k l.at c.in-To.to l.tally c.taken_in-tally.result (take k new) l.invariant.2 says.0 c.taken_in-tally.ensures,
+    )
+
+pub returns : goal.returns
+returns c =
+    let a = c.args in
+    let l = c.loop-read in
+    let e : l.read ≡ a.n = omega arith in
+    subst (λ (n : ℕ). Walked a.first a.bytes.now a.from n a.aim l.at l.tally) e l.invariant.2

@@ -1,0 +1,19 @@
+-- `macaque_v::read_run::last_repeats` meets its contract: the repeats that the last bits begin with stand there. Assumes nothing.
+use borrow.Author.Rules.{rules}
+use native.Mathlib.Omega.{arith}
+use Rattle.coding.proofs.Repeats.{repeats-ahead}
+use Rattle.macaque_v.proofs.read_run.last_repeats.Goals as goal
+
+pub take_repeats-requires : goal.take_repeats-requires
+take_repeats-requires c =
+    let s = c in
+    let k = c.at_once-k in
+    let few = c.smaller in
+    let ahead = c.look_at_end-ahead in (
+      s.requires.0,
+      omega arith,
+      omega arith,
+      omega (arith, k.ensures.wanted, few.ensures),
+      repeats-ahead s.args.bytes.now s.args.at.place ahead.result s.requires.0.within ahead.ensures k.result k.ensures.top (omega (arith, k.ensures.wanted, few.ensures)),
+      λ some. omega (arith, k.ensures.free some),
+    )

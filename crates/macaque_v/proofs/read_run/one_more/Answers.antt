@@ -1,0 +1,69 @@
+-- `macaque_v::read_run::one_more` meets its contract: the bits ahead hold the value. Assumes nothing.
+use borrow.Author.Rules.{rules}
+use mathlib.Core.Path.{◌≡◌, refl, sym, ap, ◌∙◌}
+use mathlib.Core.Bool.{Bool, true, false, not, ◌&&◌}
+use Prim.Native.Nat.{ℕ}
+use native.Mathlib.Omega.{arith}
+use lib.Dec.{eqb}
+use lib.ListN.{take, drop}
+use Rattle.bits.specs.Bits.{bits_of}
+use Rattle.stream.specs.Format.{opening, macaque, window_in}
+use Rattle.stream.specs.Read.{read_one}
+use Rattle.coding.specs.Inner.Ahead.{says_decoded}
+use Rattle.macaque_v.proofs.Stepping.{raw-is}
+use Rattle.macaque_v.proofs.ReadingRun.{next-is, used-most, readable-next}
+use Rattle.macaque_v.proofs.read_run.one_more.Goals as goal
+use Rattle.macaque_v.proofs.read_run.one_more.Goals.{After-decode, Start}
+
+-- what was decoded is what stands at the place
+step : (c : After-decode)
+    → read_one macaque (c.args.first && eqb c.args.at.count 0)
+    (window_in c.args.at.lead c.args.at.trail) c.args.at.last
+    (take 45 (drop c.args.at.place (bits_of c.args.bytes.now)))
+    ≡ says_decoded c.decode.result
+step c =
+    let a = c.args in
+    sym (c.decode.ensures
+    ∙ ap (read_one macaque (a.first && eqb a.at.count 0) (window_in a.at.lead a.at.trail) a.at.last) c.look-ahead.ensures.bits)
+
+pub decode-requires : goal.decode-requires
+decode-requires c =
+    (c.look-ahead.ensures.most, twice (eqb c.args.at.lead opening.lead), c.requires.0.held)
+  where
+    twice : (b : Bool) → b ≡ not (not b)
+    twice true = refl
+    twice false = refl
+
+pub overflow_add-result : goal.overflow_add-result
+overflow_add-result c =
+    let v = c in
+    let s = (goal.at.overflow_add-result v).Start in
+    let a = s.args in
+    let g = v.value-1.given in
+    omega (
+      arith,
+      s.requires.0.near,
+      used-most a.first a.bytes.now a.at s.requires.0 (a.first && eqb a.at.count 0) (raw-is a.first a.at.count)
+          g.0.0 g.0.1.0 g.0.1.1.0 g.0.1.1.1.0 (step (goal.at.overflow_add-result v).After-decode ∙ ap says_decoded g.1),
+    )
+
+pub returns-in-Stopped : goal.returns-in-Stopped
+returns-in-Stopped c =
+    let r = c in
+    let d = (goal.at.returns-in-Stopped r).After-decode in
+    let s = d.before.before.before.before.before in
+    let a = s.args in
+    sym (next-is a.first a.bytes.now a.at s.requires.0 (a.first && eqb a.at.count 0) (raw-is a.first a.at.count) _ (step d ∙ ap says_decoded r.in-Stopped.is))
+
+pub returns-in-Got : goal.returns-in-Got
+returns-in-Got c =
+    let v = c in
+    let d = (goal.at.returns-in-Got v).After-decode in
+    let s = d.before.before.before.before.before in
+    let a = s.args in
+    let g = v.value-1.given in
+    let raw = a.first && eqb a.at.count 0 in
+    let says = step d ∙ ap says_decoded g.1 in (
+      sym (next-is a.first a.bytes.now a.at s.requires.0 raw (raw-is a.first a.at.count) _ says),
+      readable-next a.first a.bytes.now a.at s.requires.0 raw (raw-is a.first a.at.count) g.0.0 g.0.1.0 g.0.1.1.0 g.0.1.1.1.0 says,
+    )

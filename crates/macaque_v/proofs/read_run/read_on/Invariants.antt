@@ -1,0 +1,17 @@
+-- `macaque_v::read_run::read_on` meets its contract: the places up to j hold what was read. Assumes nothing.
+use borrow.Author.Rules.{rules}
+use mathlib.Core.Path.{◌≡◌, sym, subst}
+use mathlib.Core.Bool.{false}
+use Prim.Native.Nat.{◌+◌, ◌-◌, ◌<◌}
+use native.Mathlib.Omega.{arith}
+use borrow.Author.Tests.{ne_eqb}
+use Rattle.stream.specs.Format.{opening, window_in, unset}
+use Rattle.macaque_v.specs.Inner.ReadRun.{onward, ReadsOn}
+use Rattle.macaque_v.proofs.Repeating.{Reached, reached-start, reached-kept, reached-repeats}
+use Rattle.macaque_v.proofs.read_run.read_on.Given as goal
+
+abbrev pub invariant-loop-j : goal.invariant-loop-j
+invariant-loop-j l = Reached l.first l.bytes l.from l.i l.n l.initial.out l.out (onward l.from l.last l.place (l.j - l.i)) l.j
+
+abbrev pub decreases-loop-j : goal.decreases-loop-j
+decreases-loop-j l = l.n - l.j

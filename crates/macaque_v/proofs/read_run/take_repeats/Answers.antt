@@ -1,0 +1,25 @@
+-- `macaque_v::read_run::take_repeats` meets its contract: each repeat is the last value again, two bits on. Assumes nothing.
+use borrow.Author.Rules.{rules}
+use mathlib.Core.Path.{sym, subst}
+use native.Mathlib.Omega.{arith}
+use Rattle.macaque_v.specs.Inner.ReadRun.{ReadsOn}
+use Rattle.macaque_v.proofs.Repeating.{reached-none, on-repeats}
+use Rattle.macaque_v.proofs.read_run.take_repeats.Goals as goal
+
+pub returns-then-k-eq0 : goal.returns-then-k-eq0
+returns-then-k-eq0 c =
+    let s = c in
+    let a = s.args in
+    (reached-none a.first a.bytes.now a.at a.i a.n a.out.now s.requires.0 (omega arith)).on
+
+pub spread-requires : goal.spread-requires
+spread-requires c = omega (arith, c.requires.5 (omega arith))
+
+pub returns : goal.returns
+returns c =
+    let s = c in
+    let a = s.args in
+    let new = c.spread.new.0 in
+    subst (ReadsOn a.first a.bytes.now a.at a.i a.n a.out.now new) (sym c.further.ensures)
+    (on-repeats a.first a.bytes.now a.at a.i a.n a.out.now new s.requires.0 (omega arith) (s.requires.5 (omega arith)) a.k (omega arith) s.requires.4
+    c.spread.ensures)

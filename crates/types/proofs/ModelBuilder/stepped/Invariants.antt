@@ -1,0 +1,19 @@
+-- `ModelBuilder::stepped` meets its contract. The points from i on are left to step over. Assumes nothing.
+use mathlib.Core.Path.{◌≡◌, refl, sym, ap, ◌∙◌}
+use Prim.Native.Nat.{◌+◌, ◌≤◌, ◌-◌}
+use native.Mathlib.Omega.{arith}
+use mir.Syntax.{w64}
+use mir.ValLaws.{to_z-of_z}
+use borrow.Author.Rules.{rules}
+use borrow.Author.Tests.{not-true}
+use lib.IntN.{pos}
+use lib.ListN.{length, drop, get_or}
+use Rattle.types.specs.Run.{run, points}
+use Rattle.types.proofs.Runs.{run-failed, points-here, points-done}
+use Rattle.types.proofs.ModelBuilder.stepped.Given as goal
+
+abbrev pub invariant-loop-i : goal.invariant-loop-i
+invariant-loop-i l = (l.i ≤ length l.values) × (length l.timestamps ≡ length l.values) × (run l.initial.b (points l.timestamps l.values) ≡ run l.b (points (drop l.i l.timestamps) (drop l.i l.values)))
+
+abbrev pub decreases-loop-i : goal.decreases-loop-i
+decreases-loop-i l = length l.values - l.i
