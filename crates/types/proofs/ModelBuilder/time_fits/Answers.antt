@@ -2,7 +2,6 @@
 use Rattle.types.specs.Builder.{time_fits}
 use mir.Syntax.{w64}
 use mir.ValLaws.{to_z-of_z}
-use borrow.Author.Rules.{rules}
 use Rattle.types.proofs.ModelBuilder.time_fits.Goals as goal
 
 pub returns : goal.returns
