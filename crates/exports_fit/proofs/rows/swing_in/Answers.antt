@@ -22,4 +22,4 @@ pub returns : goal.returns
 unfolding swing_in
 returns c =
     let row = c.args.row.now in
-    rw (le-ltb (length row) swing_length (omega arith), c.bound_front-error_bound.ensures, c.time_in.ensures, c.time_in-2.ensures, time-again _ (within row 2 c.shared_slice_known-2-1.given), time-again _ (within row 3 c.shared_slice_known-3-1.given), c.value_of_f64.ensures, c.value_of_f64-2.ensures, c.value_of_f64-3.ensures, c.value_of_f64-4.ensures, c.value_of_f64-5.ensures, c.value_of_f64-6.ensures, c.value_of_f64-7.ensures)
+    rw (le-ltb (length row) swing_length (omega arith), c.bound_front-error_bound.ensures, c.time_in.ensures, c.time_in-2.ensures, time-again _ (within row 2 c.type_inv.row), time-again _ (within row 3 c.type_inv.row), c.value_of_f64.ensures, c.value_of_f64-2.ensures, c.value_of_f64-3.ensures, c.value_of_f64-4.ensures, c.value_of_f64-5.ensures, c.value_of_f64-6.ensures, c.value_of_f64-7.ensures)
