@@ -40,8 +40,8 @@ module _ (c : Else-at-ge-MOST_VALUES) where
 
 -- what the reading step says
 module _ (c : After-next) where
-  told : (r : Run) → c.next.result ≡ r → NextSays true (bytes c.before) (at c.before) r
-  told r e = subst (NextSays true (bytes c.before) (at c.before)) e c.next.ensures
+  told : (r : Run) → c.next.result ≡ r → NextSays true c.args.stream.now c.args.at r
+  told r e = subst (NextSays true c.args.stream.now c.args.at) e c.next.ensures
 
 pub returns-then-not-may_stand : goal.returns-then-not-may_stand
 unfolding row_answer row_memory judge
@@ -82,4 +82,4 @@ returns-in-To c =
     let f = (found (bytes (goal.at.returns-in-To e).Else-at-ge-MOST_VALUES) (at (goal.at.returns-in-To e).Else-at-ge-MOST_VALUES) next (told (goal.at.returns-in-To n).After-next _ c.in-To.is).0).1 in
     let is = c.row_between.ensures in
     let line = e.args.line.now in
-    let l = c.row-length.ensures in record { answer = ap (λ (k : ℕ). answered (record { length = k; next = next })) (l.answer ∙ ap (λ (r : Fields). length (row_text (at (goal.at.returns-in-To e).Else-at-ge-MOST_VALUES).count r)) is) ∙ sym (answers (goal.at.returns-in-To e).Else-at-ge-MOST_VALUES ∙ ap (line_of (at (goal.at.returns-in-To e).Else-at-ge-MOST_VALUES)) f); text = l.text ∙ ap (λ (r : Fields). laid (row_text (at (goal.at.returns-in-To e).Else-at-ge-MOST_VALUES).count r) line) is ∙ sym (leaves (goal.at.returns-in-To e).Else-at-ge-MOST_VALUES line ∙ ap (line_in line (at (goal.at.returns-in-To e).Else-at-ge-MOST_VALUES)) f) }
+    let l = c.row-length.ensures in record { answer = ap (λ (k : ℕ). answered (record { length = k; next = next })) (l.length ∙ ap (λ (r : Fields). length (row_text (at (goal.at.returns-in-To e).Else-at-ge-MOST_VALUES).count r)) is) ∙ sym (answers (goal.at.returns-in-To e).Else-at-ge-MOST_VALUES ∙ ap (line_of (at (goal.at.returns-in-To e).Else-at-ge-MOST_VALUES)) f); text = l.text ∙ ap (λ (r : Fields). laid (row_text (at (goal.at.returns-in-To e).Else-at-ge-MOST_VALUES).count r) line) is ∙ sym (leaves (goal.at.returns-in-To e).Else-at-ge-MOST_VALUES line ∙ ap (line_in line (at (goal.at.returns-in-To e).Else-at-ge-MOST_VALUES)) f) }

@@ -10,4 +10,4 @@ returns c =
     let a = c.args in
     let word = field total_word in
     let number = last_field (decimal a.bits) in
-    let w = c.word_at.ensures in let both = put-laid (total_text a.bits) (put_then word number w c.number.ensures.put) in record { length = both.0; text = both.1 }
+    let w = c.word-at.ensures in let both = put-laid (total_text a.bits) (put_then word number w c.number.ensures.put) in record { length = both.0; text = both.1 }

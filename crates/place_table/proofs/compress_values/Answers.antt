@@ -34,7 +34,10 @@ judged c =
 clear : (c : In-Passed)
     → verdict (table_write_causes c.args.writer c.args.values.now (lent_bytes (length c.args.buffer.now)) (length c.args.table.now) c.args.entries)
     ≡ answered tt
-clear c = sym (judged c.before) ∙ ap says_verdict c.in-Passed.is
+clear c =
+    let a = c.args in
+    sym (c.judge_write.ensures ∙ ap (λ (n : ℕ). verdict (table_write_causes a.writer a.values.now n (length a.table.now) a.entries)) c.lent_bytes-bytes.ensures)
+    ∙ ap says_verdict c.in-Passed.is
 
 pub write_noting-after-requires : goal.write_noting-after-requires
 write_noting-after-requires c =

@@ -37,7 +37,11 @@ numbered c =
     c.when.ensures ∙ ap (λ (x : Said Done). cond (ltb most_values a.count) (refused (fault 3)) x) c.when-counts.ensures
 
 clear : (c : In-Passed) → verdict (numbers c.args.count c.args.table.now c.args.entries c.args.p c.args.q) ≡ answered tt
-clear c = sym (numbered c.before) ∙ ap says_verdict c.in-Passed.is
+unfolding judge
+clear c =
+    let a = c.args in
+    sym (c.when.ensures ∙ ap (λ (x : Said Done). cond (ltb most_values a.count) (refused (fault 3)) x) c.when-counts.ensures)
+    ∙ ap says_verdict c.in-Passed.is
 
 pub returns-then-q-p : goal.returns-then-q-p
 unfolding judge

@@ -21,7 +21,7 @@ use Rattle.place_table.specs.Inner.Rescue.{beside_said}
 use Rattle.place_table.proofs.Beside.{beside-resumed}
 use Rattle.place_table.proofs.Anew.{found_in, noted-anew}
 use Rattle.place_table.proofs.rescue.Goals as goal
-use Rattle.place_table.proofs.rescue.Goals.{After-judge_rescue, In-Passed, In-Passed-1}
+use Rattle.place_table.proofs.rescue.Goals.{In-Passed}
 
 -- where no cause holds
 allows : (c : In-Passed)
@@ -36,13 +36,13 @@ allows c =
 pub note_found-requires : goal.note_found-requires
 note_found-requires c =
     let a = c.args in
-    let free = allows (goal.at.note_found-requires c).After-judge_rescue in
+    let free = allows (goal.at.note_found-requires c).In-Passed in
     found_in (take a.used a.buffer.now) a.opening a.limit a.table.now c.arrived-found.result free.0 free.2 c.arrived-found.ensures
 
 pub open_behind-requires : goal.open_behind-requires
 open_behind-requires c =
     let a = c.args in
-    ends-in (rescuing (take a.used a.buffer.now) a.limit a.opening) a.buffer.now a.used c.arrived-found.result (allows (goal.at.open_behind-requires c).After-judge_rescue).1 c.arrived-found.ensures
+    ends-in (rescuing (take a.used a.buffer.now) a.limit a.opening) a.buffer.now a.used c.arrived-found.result (allows (goal.at.open_behind-requires c).In-Passed).1 c.arrived-found.ensures
 
 pub returns-in-Refused : goal.returns-in-Refused
 unfolding table_rescue_answer table_rescue_memory table_rescue_table
@@ -69,13 +69,13 @@ pub slice_bounds-arrived-end : goal.slice_bounds-arrived-end
 slice_bounds-arrived-end c = (allows (goal.at.slice_bounds-arrived-end c).In-Passed).1
 
 pub slice_bounds-arrived-end-in-Passed : goal.slice_bounds-arrived-end-in-Passed
-slice_bounds-arrived-end-in-Passed c = sym (length-take-le c.args.used c.args.buffer.now (allows (goal.at.slice_bounds-arrived-end-in-Passed c).In-Passed-1).1)
+slice_bounds-arrived-end-in-Passed c = sym (length-take-le c.args.used c.args.buffer.now (allows (goal.at.slice_bounds-arrived-end-in-Passed c).In-Passed).1)
 
 pub arrived-found-requires : goal.arrived-found-requires
-arrived-found-requires c = (allows (goal.at.arrived-found-requires c).In-Passed-1).0
+arrived-found-requires c = (allows (goal.at.arrived-found-requires c).In-Passed).0
 
 pub slice_bounds-note_found-end : goal.slice_bounds-note_found-end
-slice_bounds-note_found-end c = (allows (goal.at.slice_bounds-note_found-end c).In-Passed-1).1
+slice_bounds-note_found-end c = (allows (goal.at.slice_bounds-note_found-end c).In-Passed).1
 
 pub slice_bounds-note_found-end-in-Passed : goal.slice_bounds-note_found-end-in-Passed
-slice_bounds-note_found-end-in-Passed c = sym (length-take-le c.args.used c.args.buffer.now (allows (goal.at.slice_bounds-note_found-end-in-Passed c).After-judge_rescue).1)
+slice_bounds-note_found-end-in-Passed c = sym (length-take-le c.args.used c.args.buffer.now (allows (goal.at.slice_bounds-note_found-end-in-Passed c).In-Passed).1)

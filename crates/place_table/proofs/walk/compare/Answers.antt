@@ -11,6 +11,7 @@ use Rattle.places.specs.Calls.{entries_lent}
 use Rattle.macaque_v.specs.State.{is_first}
 use Rattle.macaque_v.specs.Read.{start_of}
 use Rattle.macaque_v.specs.Inner.ReadRun.{FillSays}
+use Rattle.macaque_v.specs.declared.Opening.{Opening}
 use Rattle.macaque_v.specs.declared.read_run.Cursor.{Cursor}
 use Rattle.macaque_v.specs.declared.read_run.Run.{Run}
 use Rattle.macaque_v.proofs.ReadingAll.{starts}
@@ -29,12 +30,18 @@ begins c =
     (subst (Opens (is_first c.args.opening)) (sym c.start-at.ensures.0) (opens c.args.opening))
 
 -- from the start that the opening says
+from-start : (o : Opening) (bytes table : List ℕ) (count : ℕ) (first : Bool) (from : Cursor) (done : ℕ) (at : Cursor) (same : Bool)
+    → first ≡ is_first o → from ≡ start_of o → Along first bytes from table count done at same → Along (is_first o) bytes (start_of o) table count done at same
+from-start o bytes table count first from done at same f e L =
+    subst (λ (x : Cursor). Along (is_first o) bytes x table count done at same) e
+    (subst (λ (b : Bool). Along b bytes from table count done at same) f L)
+
 along : (c : At-loop-done)
     → Along (is_first c.args.opening) c.args.bytes.now (start_of c.args.opening) c.args.table.now c.args.count c.loop-done.done c.loop-done.at c.loop-done.same
 along c =
     let a = c.args in
-    subst (λ (at : Cursor). Along (is_first a.opening) a.bytes.now at a.table.now a.count c.loop-done.done c.loop-done.at c.loop-done.same) c.start-at.ensures.0
-    (subst (λ (first : Bool). Along first a.bytes.now c.start-at.result a.table.now a.count c.loop-done.done c.loop-done.at c.loop-done.same) c.is_first-first.ensures c.loop-done.invariant.1)
+    let l = c.loop-done in
+    from-start a.opening a.bytes.now a.table.now a.count _ _ l.done l.at l.same c.is_first-first.ensures c.start-at.ensures.0 l.invariant.1
 
 -- behind the loop all values were read
 all : (c : After-loop-done)
@@ -43,7 +50,8 @@ all c =
     let a = c.args in
     let l = c.loop-done in
     let e : l.done ≡ a.count = omega (arith, l.invariant.1.gone.few, c.loop-done-test.false) in
-    subst (λ (n : ℕ). Along (is_first a.opening) a.bytes.now (start_of a.opening) a.table.now a.count n l.at l.same) e (along c.before)
+    subst (λ (n : ℕ). Along (is_first a.opening) a.bytes.now (start_of a.opening) a.table.now a.count n l.at l.same) e
+    (from-start a.opening a.bytes.now a.table.now a.count _ _ l.done l.at l.same c.is_first-first.ensures c.start-at.ensures.0 l.invariant.1)
 
 pub loop-done-init : goal.loop-done-init
 loop-done-init c =

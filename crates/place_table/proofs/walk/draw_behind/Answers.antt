@@ -11,10 +11,10 @@ use Rattle.macaque_v.specs.declared.read_run.Run.{Run}
 use Rattle.macaque_v.proofs.Drawing.{drawn-from-start}
 use Rattle.place_table.proofs.Ranging.{behind-wrong, behind-right}
 use Rattle.place_table.proofs.walk.draw_behind.Goals as goal
-use Rattle.place_table.proofs.walk.draw_behind.Goals.{In-To-2}
+use Rattle.place_table.proofs.walk.draw_behind.Goals.{In-To}
 
 -- the values that are passed over
-filled : (c : In-To-2)
+filled : (c : In-To)
     → Reads c.args.first c.args.bytes.now c.args.at c.args.skipped (take c.args.skipped c.fill.new.out) c.in-To.to
 filled c =
     let a = c.args in
@@ -24,7 +24,7 @@ filled c =
 pub draw-requires : goal.draw-requires
 draw-requires c =
     let p = c.requires in
-    let R = filled (goal.at.draw-requires c).In-To-2 in
+    let R = filled (goal.at.draw-requires c).In-To in
     (R.readable, omega (arith, R.counted, p.1), omega (arith, p.3))
 
 pub returns-in-Refused : goal.returns-in-Refused
@@ -39,5 +39,5 @@ pub returns-in-To : goal.returns-in-To
 returns-in-To c =
     let a = c.args in
     let d = c.draw.ensures in
-    let right = behind-right a.first a.bytes.now a.at a.skipped a.n (filled (goal.at.returns-in-To c).In-To-2) in
+    let right = behind-right a.first a.bytes.now a.at a.skipped a.n (filled (goal.at.returns-in-To c).In-To) in
     record { answer = d.answer ∙ sym (ap drawn right); values = d.values ∙ drawn-from-start a.out.now (values_from false a.first a.bytes.now c.in-To.to a.n) ∙ sym (ap (drawn_in a.out.now) right) }

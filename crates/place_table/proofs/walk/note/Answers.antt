@@ -1,12 +1,14 @@
 use borrow.Author.Rules.{rules}
 use mathlib.Core.Path.{◌≡◌, refl, sym, ap, ◌∙◌, subst}
 use mathlib.Core.Bool.{Bool}
+use mathlib.Core.List.{List}
 use Prim.Native.Nat.{ℕ, ◌-◌, ◌<◌}
 use native.Mathlib.Omega.{arith}
 use lib.ListN.{length, take}
 use Rattle.macaque_v.specs.State.{is_first}
 use Rattle.macaque_v.specs.Read.{start_of}
 use Rattle.macaque_v.specs.Inner.ReadRun.{FillSays}
+use Rattle.macaque_v.specs.declared.Opening.{Opening}
 use Rattle.macaque_v.specs.declared.read_run.Cursor.{Cursor}
 use Rattle.macaque_v.specs.declared.read_run.Run.{Run}
 use Rattle.macaque_v.proofs.ReadingAll.{starts}
@@ -25,23 +27,30 @@ begins c =
     (subst (Opens (is_first c.args.opening)) (sym c.start-at.ensures.0) (opens c.args.opening))
 
 -- from the start that the opening says
+from-start : (o : Opening) (bytes : List ℕ) (count : ℕ) (first : Bool) (from : Cursor) (done : ℕ) (at : Cursor) (before after : List ℕ)
+    → first ≡ is_first o → from ≡ start_of o → Noted first bytes from count done at before after → Noted (is_first o) bytes (start_of o) count done at before after
+from-start o bytes count first from done at before after f e N =
+    subst (λ (x : Cursor). Noted (is_first o) bytes x count done at before after) e
+    (subst (λ (b : Bool). Noted b bytes from count done at before after) f N)
+
 noted : (c : At-loop-done)
     → Noted (is_first c.args.opening) c.args.bytes.now (start_of c.args.opening) c.args.count c.loop-done.done c.loop-done.at c.args.table.now c.loop-done.table
 noted c =
     let a = c.args in
-    subst (λ (from : Cursor). Noted (is_first a.opening) a.bytes.now from a.count c.loop-done.done c.loop-done.at a.table.now c.loop-done.table) c.start-at.ensures.0
-    (subst (λ (first : Bool). Noted first a.bytes.now c.start-at.result a.count c.loop-done.done c.loop-done.at a.table.now c.loop-done.table) c.is_first-first.ensures c.loop-done.invariant.1)
+    let l = c.loop-done in
+    from-start a.opening a.bytes.now a.count _ _ l.done l.at a.table.now l.table c.is_first-first.ensures c.start-at.ensures.0 l.invariant.1
 
 -- the values are there, so that reading does not stop
 absurdly : In-Refused → ⊥
 absurdly c =
-    let a = c.before.before.before.before.before.before.before.before.before.before.before.before.before.before.before.before.before.before.args in
-    let l = c.before.before.before.before.before.before.before.before.before.before.before.before.before.loop in
-    let f = c.before.before.before.fill in
-    let k = c.before.before.before.before.before.smaller.result in
-    let says = subst (λ (first : Bool). FillSays first a.bytes.now l.at k l.values f.new.1.1.1.1.0 f.result) c.before.before.before.before.before.before.before.before.before.before.before.before.before.before.before.is_first.ensures f.ensures in
-    never-stops a.bytes.now a.opening a.count c.before.before.before.before.before.before.before.before.before.before.before.before.before.before.before.before.before.before.requires.0 l.done k l.at (noted c.before.before.before.before.before.before.before.before.before.before.before.before.before).gone (omega arith) c.enum_told.given.0.0
-    (subst (λ (q : Run). FillSays (is_first a.opening) a.bytes.now l.at k l.values f.new.1.1.1.1.0 q) c.enum_told.given.1 says)
+    let a = c.args in
+    let l = c.loop-done in
+    let f = c.fill in
+    let k = c.smaller-k.result in
+    let N = from-start a.opening a.bytes.now a.count _ _ l.done l.at a.table.now l.table c.is_first-first.ensures c.start-at.ensures.0 l.invariant.1 in
+    let says = subst (λ (first : Bool). FillSays first a.bytes.now l.at k l.values f.new.out f.result) c.is_first-first.ensures f.ensures in
+    never-stops a.bytes.now a.opening a.count c.requires.0 l.done k l.at N.gone (omega arith) c.in-Refused.field-0
+    (subst (λ (q : Run). FillSays (is_first a.opening) a.bytes.now l.at k l.values f.new.out q) c.in-Refused.is says)
 
 pub loop-done-init : goal.loop-done-init
 loop-done-init c =
