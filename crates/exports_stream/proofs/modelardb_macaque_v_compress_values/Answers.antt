@@ -16,7 +16,7 @@ use Rattle.exports_stream.proofs.Faces.{stands}
 use Rattle.exports_stream.proofs.Words.{has_words, written-long}
 use borrow.Author.Rules.{rules}
 use Rattle.exports_stream.proofs.modelardb_macaque_v_compress_values.Goals as goal
-use Rattle.exports_stream.proofs.modelardb_macaque_v_compress_values.Goals.{After-compress_values, After-compress_values-arg-1}
+use Rattle.exports_stream.proofs.modelardb_macaque_v_compress_values.Goals.{After-compress_values}
 
 module _ (c : After-compress_values) where
   abbrev row : List ℕ
@@ -43,7 +43,7 @@ module _ (c : After-compress_values) where
   held m e = has_words row (stands row xs buf m (said ∙ e))
 
 pub written_words-requires : goal.written_words-requires
-written_words-requires c = held (goal.at.written_words-requires c).After-compress_values-arg-1 _ (ap says_write c.in-Written.is)
+written_words-requires c = held (goal.at.written_words-requires c).After-compress_values _ (ap says_write c.in-Written.is)
 
 pub returns-in-Refused : goal.returns-in-Refused
 returns-in-Refused c =
@@ -56,6 +56,6 @@ returns-in-Written c =
     let k = c in
     let after = ap says_write c.in-Written.is in
     let words = c.written_words.ensures in
-    let e = ap answered words ∙ sym (ap (λ (q : SaidOn MacaqueV MacaqueV). worded (written_row (row (goal.at.returns-in-Written k).After-compress_values-arg-1)) (stateless q)) (said (goal.at.returns-in-Written k).After-compress_values-arg-1 ∙ after)) in
-    let f = step-said writer_length (written_row (row (goal.at.returns-in-Written k).After-compress_values-arg-1)) (row (goal.at.returns-in-Written k).After-compress_values-arg-1) (answer (goal.at.returns-in-Written k).After-compress_values-arg-1) (inl (held (goal.at.returns-in-Written k).After-compress_values-arg-1 _ after)) (put (written_row (row (goal.at.returns-in-Written k).After-compress_values-arg-1)) writer_length (row (goal.at.returns-in-Written k).After-compress_values-arg-1) (stateless (answer (goal.at.returns-in-Written k).After-compress_values-arg-1)) Passed _ (ap length words ∙ written-long (row (goal.at.returns-in-Written k).After-compress_values-arg-1) _) e (c.put_said.ensures.fault, c.put_said.ensures.row)) in
-    record { fault = f.0; row = f.1; bytes = left (goal.at.returns-in-Written k).After-compress_values-arg-1 }
+    let e = ap answered words ∙ sym (ap (λ (q : SaidOn MacaqueV MacaqueV). worded (written_row (row (goal.at.returns-in-Written k).After-compress_values)) (stateless q)) (said (goal.at.returns-in-Written k).After-compress_values ∙ after)) in
+    let f = step-said writer_length (written_row (row (goal.at.returns-in-Written k).After-compress_values)) (row (goal.at.returns-in-Written k).After-compress_values) (answer (goal.at.returns-in-Written k).After-compress_values) (inl (held (goal.at.returns-in-Written k).After-compress_values _ after)) (put (written_row (row (goal.at.returns-in-Written k).After-compress_values)) writer_length (row (goal.at.returns-in-Written k).After-compress_values) (stateless (answer (goal.at.returns-in-Written k).After-compress_values)) Passed _ (ap length words ∙ written-long (row (goal.at.returns-in-Written k).After-compress_values) _) e (c.put_said.ensures.fault, c.put_said.ensures.row)) in
+    record { fault = f.0; row = f.1; bytes = left (goal.at.returns-in-Written k).After-compress_values }

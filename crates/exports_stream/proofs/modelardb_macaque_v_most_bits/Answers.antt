@@ -5,4 +5,5 @@ use Rattle.exports_stream.proofs.modelardb_macaque_v_most_bits.Goals as goal
 
 pub returns : goal.returns
 unfolding most_bits_fault most_bits_number
-returns c = rw (c.most_bits-most.ensures, c.count_in.ensures, c.opening_of.ensures) at (c.put_number.ensures.fault, c.put_number.ensures.number)
+returns c =
+    record { fault = rw (c.most_bits-most.ensures, c.count_in.ensures, c.opening_of.ensures) at c.put_number.ensures.fault; number = rw (c.most_bits-most.ensures, c.count_in.ensures, c.opening_of.ensures) at c.put_number.ensures.number }

@@ -5,4 +5,5 @@ use Rattle.exports_stream.proofs.modelardb_macaque_v_sum.Goals as goal
 
 pub returns : goal.returns
 unfolding sum_fault sum_out
-returns c = rw (c.sum-answer.ensures, c.count_in.ensures, c.opening_of.ensures) at (c.put_value.ensures.fault, c.put_value.ensures.row)
+returns c =
+    record { fault = rw (c.sum-answer.ensures, c.count_in.ensures, c.opening_of.ensures) at c.put_value.ensures.fault; values = rw (c.sum-answer.ensures, c.count_in.ensures, c.opening_of.ensures) at c.put_value.ensures.row }

@@ -18,7 +18,7 @@ use Rattle.exports_stream.specs.Tabled.{beside_written, entries_after}
 use Rattle.exports_stream.proofs.Tabled.{stands}
 use borrow.Author.Rules.{rules}
 use Rattle.exports_stream.proofs.modelardb_table_compress_values.Goals as goal
-use Rattle.exports_stream.proofs.modelardb_table_compress_values.Goals.{After-compress_values, After-compress_values-arg-2-1, Start}
+use Rattle.exports_stream.proofs.modelardb_table_compress_values.Goals.{After-compress_values, Start}
 
 module _ (c : After-compress_values) where
   abbrev start : Start
@@ -57,17 +57,31 @@ module _ (c : After-compress_values) where
   held a e = has_words row (stands row xs buf words entries a (said ∙ e))
 
 pub written_words-requires : goal.written_words-requires
-written_words-requires c = held (goal.at.written_words-requires c).After-compress_values-arg-2-1 _ (ap says_table_write c.in-Written.is)
+written_words-requires c = held (goal.at.written_words-requires c).After-compress_values _ (ap says_table_write c.in-Written.is)
 
 pub returns-in-Refused : goal.returns-in-Refused
 returns-in-Refused c =
     let k = c in
-    let e = said (goal.at.returns-in-Refused k).After-compress_values ∙ ap says_table_write c.in-Refused.is in let both = (c.fault_of.ensures ∙ sym (ap step_fault e), (sym (ap (step_row (beside_written (row (goal.at.returns-in-Refused k).After-compress_values)) (row (goal.at.returns-in-Refused k).After-compress_values)) e), (left (goal.at.returns-in-Refused k).After-compress_values, (laid (goal.at.returns-in-Refused k).After-compress_values, sym (ap (λ (q : SaidOn MacaqueV (Beside MacaqueV)). entries_after (entries (goal.at.returns-in-Refused k).After-compress_values) (stateless q)) e))))) in record { fault = both.0; row = both.1; bytes = both.2; words = both.3; number = both.4 }
+    let e = said (goal.at.returns-in-Refused k).After-compress_values ∙ ap says_table_write c.in-Refused.is in
+    record {
+      fault = c.fault_of.ensures ∙ sym (ap step_fault e);
+      row = sym (ap (step_row (beside_written (row (goal.at.returns-in-Refused k).After-compress_values)) (row (goal.at.returns-in-Refused k).After-compress_values)) e);
+      bytes = left (goal.at.returns-in-Refused k).After-compress_values;
+      words = laid (goal.at.returns-in-Refused k).After-compress_values;
+      number = sym (ap (λ (q : SaidOn MacaqueV (Beside MacaqueV)). entries_after (entries (goal.at.returns-in-Refused k).After-compress_values) (stateless q)) e);
+    }
 
 pub returns-in-Written : goal.returns-in-Written
 returns-in-Written c =
     let k = c in
     let after = ap says_table_write c.in-Written.is in
     let words = c.written_words.ensures in
-    let e = ap answered words ∙ sym (ap (λ (q : SaidOn MacaqueV (Beside MacaqueV)). worded (beside_written (row (goal.at.returns-in-Written k).After-compress_values-arg-2-1)) (stateless q)) (said (goal.at.returns-in-Written k).After-compress_values-arg-2-1 ∙ after)) in
-    let f = step-said writer_length (beside_written (row (goal.at.returns-in-Written k).After-compress_values-arg-2-1)) (row (goal.at.returns-in-Written k).After-compress_values-arg-2-1) (answer (goal.at.returns-in-Written k).After-compress_values-arg-2-1) (inl (held (goal.at.returns-in-Written k).After-compress_values-arg-2-1 _ after)) (put (beside_written (row (goal.at.returns-in-Written k).After-compress_values-arg-2-1)) writer_length (row (goal.at.returns-in-Written k).After-compress_values-arg-2-1) (stateless (answer (goal.at.returns-in-Written k).After-compress_values-arg-2-1)) Passed _ (ap length words ∙ written-long (row (goal.at.returns-in-Written k).After-compress_values-arg-2-1) _) e (c.put_said.ensures.fault, c.put_said.ensures.row)) in let both = (f.0, (f.1, (left (goal.at.returns-in-Written k).After-compress_values-arg-2-1, (laid (goal.at.returns-in-Written k).After-compress_values-arg-2-1, sym (ap (λ (q : SaidOn MacaqueV (Beside MacaqueV)). entries_after (entries (goal.at.returns-in-Written k).After-compress_values-arg-2-1) (stateless q)) (said (goal.at.returns-in-Written k).After-compress_values-arg-2-1 ∙ after)))))) in record { fault = both.0; row = both.1; bytes = both.2; words = both.3; number = both.4 }
+    let e = ap answered words ∙ sym (ap (λ (q : SaidOn MacaqueV (Beside MacaqueV)). worded (beside_written (row (goal.at.returns-in-Written k).After-compress_values)) (stateless q)) (said (goal.at.returns-in-Written k).After-compress_values ∙ after)) in
+    let f = step-said writer_length (beside_written (row (goal.at.returns-in-Written k).After-compress_values)) (row (goal.at.returns-in-Written k).After-compress_values) (answer (goal.at.returns-in-Written k).After-compress_values) (inl (held (goal.at.returns-in-Written k).After-compress_values _ after)) (put (beside_written (row (goal.at.returns-in-Written k).After-compress_values)) writer_length (row (goal.at.returns-in-Written k).After-compress_values) (stateless (answer (goal.at.returns-in-Written k).After-compress_values)) Passed _ (ap length words ∙ written-long (row (goal.at.returns-in-Written k).After-compress_values) _) e (c.put_said.ensures.fault, c.put_said.ensures.row)) in
+    record {
+      fault = f.0;
+      row = f.1;
+      bytes = left (goal.at.returns-in-Written k).After-compress_values;
+      words = laid (goal.at.returns-in-Written k).After-compress_values;
+      number = sym (ap (λ (q : SaidOn MacaqueV (Beside MacaqueV)). entries_after (entries (goal.at.returns-in-Written k).After-compress_values) (stateless q)) (said (goal.at.returns-in-Written k).After-compress_values ∙ after));
+    }
