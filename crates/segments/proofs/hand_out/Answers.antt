@@ -34,8 +34,7 @@ fits c =
 pub returns-then-values_out-values_length : goal.returns-then-values_out-values_length
 unfolding stored_by handed_answer handed_values handed_residuals judge
 returns-then-values_out-values_length c =
-    let q = c in
-    let short = rw (values-long (goal.at.returns-then-values_out-values_length q).After-counted_length-residuals_length, residuals-long (goal.at.returns-then-values_out-values_length q).After-counted_length-residuals_length) at c.if-values_out-values_length.true in
+    let short = rw (values-long (goal.at.returns-then-values_out-values_length c).After-counted_length-residuals_length, residuals-long (goal.at.returns-then-values_out-values_length c).After-counted_length-residuals_length) at c.if-values_out-values_length.true in
     rw short record { answer = refl; values = refl; bytes = refl }
 
 pub put-requires : goal.put-requires
@@ -52,5 +51,5 @@ put_counted-requires c = record {
 pub returns : goal.returns
 unfolding stored_by handed_answer handed_values handed_residuals
 returns c =
-    let q = c in
-    let room = rw (values-long (goal.at.returns q).After-counted_length-residuals_length, residuals-long (goal.at.returns q).After-counted_length-residuals_length) at c.if-values_out-values_length.false in record { answer = ap answered (rw (c.max_bits.ensures, c.max_of.ensures, c.min_bits.ensures, c.min_of.ensures, values-long (goal.at.returns q).After-counted_length-residuals_length, residuals-long (goal.at.returns q).After-counted_length-residuals_length)) ∙ accepted _ _ _ (room, tt); values = c.put.ensures ∙ rw c.form_of-form.ensures (accepted _ _ _ (room, tt)); bytes = c.put_counted.ensures ∙ accepted _ _ _ (room, tt) }
+    let room = rw (values-long (goal.at.returns c).After-counted_length-residuals_length, residuals-long (goal.at.returns c).After-counted_length-residuals_length) at c.if-values_out-values_length.false in
+    record { answer = ap answered (rw (c.max_bits.ensures, c.max_of.ensures, c.min_bits.ensures, c.min_of.ensures, values-long (goal.at.returns c).After-counted_length-residuals_length, residuals-long (goal.at.returns c).After-counted_length-residuals_length)) ∙ accepted _ _ _ (room, tt); values = c.put.ensures ∙ rw c.form_of-form.ensures (accepted _ _ _ (room, tt)); bytes = c.put_counted.ensures ∙ accepted _ _ _ (room, tt) }
