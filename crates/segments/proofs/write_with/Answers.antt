@@ -30,11 +30,8 @@ use Rattle.segments.proofs.write_with.Goals as goal
 abbrev aside : List ℕ
 aside = replicate 1403 0
 
-aside-room : length aside ≡ 1403
-aside-room = length-replicate {A = ℕ} 1403 0
-
 -- the write, and what it tells
-module _ (m : MacaqueV) (model first last_value : ℕ) (xs : List ℕ) (opened : new_answer m.error_bound (On (last_of model first last_value)) ≡ answered m) (within : (ltb 1 model || ltb most_residuals (length xs)) ≡ false) where
+module _ (m : MacaqueV) (model first last_value : ℕ) (xs : List ℕ) (opened : new_answer m.error_bound (On (last_of model first last_value)) ≡ answered m) (within : (ltb 1 model || ltb most_residuals (length xs)) ≡ false) (room : 1403 ≤ length aside) where
   abbrev b : ErrorBound
   b = m.error_bound
 
@@ -49,21 +46,21 @@ module _ (m : MacaqueV) (model first last_value : ℕ) (xs : List ℕ) (opened :
   small = plain-small (last_given model first last_value)
 
   accepted : stream.write_answer m xs aside ≡ answered_on (writer_of b false (residuals_on b last xs))
-  accepted = written-aside b last small xs few m opened aside aside-room
+  accepted = written-aside b last small xs few m opened aside room
 
   -- where it was written
   module _ (n : MacaqueV) (wrote : stream.write_answer m xs aside ≡ answered_on n) where
     placed : n.place ≤ 8 * length (stream.write_memory m xs aside)
-    placed = aside-place b last small xs few m opened aside aside-room n wrote
+    placed = aside-place b last small xs few m opened aside room n wrote
 
     counted : n.length ≡ length xs
-    counted = aside-count b last small xs few m opened aside aside-room n wrote
+    counted = aside-count b last small xs few m opened aside room n wrote
 
-    long : length (stream.write_memory m xs aside) ≡ 1403
-    long = aside-long b last small xs few m opened aside aside-room n wrote
+    long : length (stream.write_memory m xs aside) ≡ length aside
+    long = aside-long b last small xs few m opened aside room n wrote
 
     same-stored : stored_by model first last_value n (stream.write_memory m xs aside) ≡ stored_of model first last_value b xs
-    same-stored = aside-stored b last small xs few m opened aside aside-room n wrote model first last_value refl
+    same-stored = aside-stored b last small xs few m opened aside room n wrote model first last_value refl
 
 pub returns-then-model-count : goal.returns-then-model-count
 unfolding write_answer values_after residuals_after judge
@@ -74,19 +71,21 @@ pub hand_out-requires : goal.hand_out-requires
 hand_out-requires c =
     let a = c.args in
     let within = c.if-model-count.false in
+    let room : 1403 ≤ length aside = rw length-replicate (omega arith) in
     let n = c.in-Written.after in
     let wrote : stream.write_answer a.writer a.residuals.now aside ≡ answered_on n = sym c.compress_values.ensures.answer ∙ ap says_write c.in-Written.is in
     rw c.compress_values.ensures.bytes
     record {
-      in_stream = placed a.writer a.model a.first_value a.last_value a.residuals.now c.requires within n wrote;
-      few = omega (arith, counted a.writer a.model a.first_value a.last_value a.residuals.now c.requires within n wrote, few a.writer a.model a.first_value a.last_value a.residuals.now c.requires within);
-      short = omega (arith, long a.writer a.model a.first_value a.last_value a.residuals.now c.requires within n wrote);
+      in_stream = placed a.writer a.model a.first_value a.last_value a.residuals.now c.requires within room n wrote;
+      few = omega (arith, counted a.writer a.model a.first_value a.last_value a.residuals.now c.requires within room n wrote, few a.writer a.model a.first_value a.last_value a.residuals.now c.requires within room);
+      short = omega (arith, long a.writer a.model a.first_value a.last_value a.residuals.now c.requires within room n wrote);
     }
 
 pub returns-in-Refused : goal.returns-in-Refused
 returns-in-Refused c =
     let a = c.args in
-    absurd (not-answered-on (sym (ap says_write c.in-Refused.is) ∙ c.compress_values.ensures.answer ∙ accepted a.writer a.model a.first_value a.last_value a.residuals.now c.requires c.if-model-count.false))
+    let room : 1403 ≤ length aside = rw length-replicate (omega arith) in
+    absurd (not-answered-on (sym (ap says_write c.in-Refused.is) ∙ c.compress_values.ensures.answer ∙ accepted a.writer a.model a.first_value a.last_value a.residuals.now c.requires c.if-model-count.false room))
 
 pub returns-in-Written : goal.returns-in-Written
 unfolding write_answer values_after residuals_after
@@ -95,10 +94,11 @@ returns-in-Written c =
     let v = a.values_out.now in
     let r = a.residuals_out.now in
     let within = c.if-model-count.false in
+    let room : 1403 ≤ length aside = rw length-replicate (omega arith) in
     let n = c.in-Written.after in
     let wrote : stream.write_answer a.writer a.residuals.now aside ≡ answered_on n = sym c.compress_values.ensures.answer ∙ ap says_write c.in-Written.is in
     let free : NoneHolds (write_causes a.model a.writer.error_bound a.residuals.now) = (not-of (opened-allowed _ _ _ c.requires), (within, tt)) in
-    let same = ap (stored_by a.model a.first_value a.last_value n) c.compress_values.ensures.bytes ∙ same-stored a.writer a.model a.first_value a.last_value a.residuals.now c.requires within n wrote in
+    let same = ap (stored_by a.model a.first_value a.last_value n) c.compress_values.ensures.bytes ∙ same-stored a.writer a.model a.first_value a.last_value a.residuals.now c.requires within room n wrote in
     record {
       answer = c.hand_out.ensures.answer ∙ ap (λ (w : Stored). handed_answer w v r) same ∙ allowed _ _ _ free;
       values = c.hand_out.ensures.values ∙ ap (λ (w : Stored). handed_values w v r) same ∙ allowed _ _ _ free;
