@@ -29,7 +29,9 @@ judged c =
 clear : (c : In-Passed)
     → verdict (write_causes c.args.self c.args.values.now (lent_bytes (length c.args.buffer.now)))
     ≡ answered tt
-clear c = sym (judged c.before) ∙ ap says_verdict c.in-Passed.is
+clear c =
+    let a = c.args in
+    sym (c.judge_write.ensures ∙ ap (λ (n : ℕ). verdict (write_causes a.self a.values.now n)) c.lent_bytes.ensures) ∙ ap says_verdict c.in-Passed.is
 
 pub write_noting-requires : goal.write_noting-requires
 write_noting-requires c =
@@ -51,4 +53,5 @@ returns-in-Passed c =
     let a = c.args in
     let causes = write_causes a.self a.values.now (lent_bytes (length a.buffer.now)) in
     let h = clear (goal.at.returns-in-Passed c).In-Passed in
-    let w = (c.write_noting.ensures.state, c.write_noting.ensures.bytes, c.write_noting.ensures.words) in record { answer = ap answered_on w.0 ∙ judging.accepted (refusing a.self) (answered_on (writer_at a.self (wrote_by a.self a.values.now))) causes (none causes h); bytes = w.1.0 ∙ judging.accepted (keeping a.buffer.now) (laid_in a.buffer.now a.self.place (written_by a.self a.values.now)) causes (none causes h) }
+    let w = c.write_noting.ensures in
+    record { answer = ap answered_on w.state ∙ judging.accepted (refusing a.self) (answered_on (writer_at a.self (wrote_by a.self a.values.now))) causes (none causes h); bytes = w.bytes ∙ judging.accepted (keeping a.buffer.now) (laid_in a.buffer.now a.self.place (written_by a.self a.values.now)) causes (none causes h) }

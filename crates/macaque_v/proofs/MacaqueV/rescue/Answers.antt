@@ -14,7 +14,7 @@ use Rattle.macaque_v.specs.Read.{rescue_causes, rescue_answer, rescue_memory}
 use Rattle.macaque_v.specs.Inner.Read.{rescuing}
 use Rattle.macaque_v.proofs.Arriving.{opened-as, ends-in}
 use Rattle.macaque_v.proofs.MacaqueV.rescue.Goals as goal
-use Rattle.macaque_v.proofs.MacaqueV.rescue.Goals.{In-Passed, In-Passed-1}
+use Rattle.macaque_v.proofs.MacaqueV.rescue.Goals.{In-Passed}
 
 -- where no cause holds
 allows : (c : In-Passed) → NoneHolds (bound_causes c.args.error_bound) × (c.args.limit ≤ most_values) × (c.args.used ≤ length c.args.buffer.now)
@@ -24,12 +24,12 @@ allows c =
     (none-holds (rescue_causes a.error_bound (length a.buffer.now) a.used a.limit) _ c.judge_rescue.ensures c.in-Passed.is)
 
 pub slice_bounds-arrived-end-in-Passed : goal.slice_bounds-arrived-end-in-Passed
-slice_bounds-arrived-end-in-Passed c = sym (length-take-le c.before.before.before.before.before.args.used c.before.before.before.before.before.args.buffer.now (allows (goal.at.slice_bounds-arrived-end-in-Passed c).In-Passed-1).2)
+slice_bounds-arrived-end-in-Passed c = sym (length-take-le c.args.used c.args.buffer.now (allows (goal.at.slice_bounds-arrived-end-in-Passed c).In-Passed).2)
 
 pub open_behind-requires : goal.open_behind-requires
 open_behind-requires c =
-    let a = c.before.before.before.before.before.before.before.args in
-    ends-in (rescuing (take a.used a.buffer.now) a.limit a.opening) a.buffer.now a.used c.arrived-found.result (allows (goal.at.open_behind-requires c).In-Passed-1).2 c.arrived-found.ensures
+    let a = c.args in
+    ends-in (rescuing (take a.used a.buffer.now) a.limit a.opening) a.buffer.now a.used c.arrived-found.result (allows (goal.at.open_behind-requires c).In-Passed).2 c.arrived-found.ensures
 
 pub returns-in-Refused : goal.returns-in-Refused
 unfolding rescue_answer rescue_memory
@@ -42,7 +42,7 @@ returns-in-Refused c =
 pub returns-in-Passed : goal.returns-in-Passed
 unfolding rescue_answer rescue_memory
 returns-in-Passed c =
-    let a = c.before.before.before.before.before.before.before.before.before.before.args in
+    let a = c.args in
     let causes = rescue_causes a.error_bound (length a.buffer.now) a.used a.limit in
     let says = c.judge_rescue.ensures in
     let ok = c.in-Passed.is in
@@ -53,4 +53,4 @@ pub slice_bounds-arrived-end : goal.slice_bounds-arrived-end
 slice_bounds-arrived-end c = (allows (goal.at.slice_bounds-arrived-end c).In-Passed).2
 
 pub arrived-found-requires : goal.arrived-found-requires
-arrived-found-requires c = (allows (goal.at.arrived-found-requires c).In-Passed-1).1
+arrived-found-requires c = (allows (goal.at.arrived-found-requires c).In-Passed).1

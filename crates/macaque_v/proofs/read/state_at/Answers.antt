@@ -15,7 +15,7 @@ use Rattle.macaque_v.specs.declared.read_run.Aim.TheVariants as OfAim
 use Rattle.macaque_v.specs.declared.read_run.Tally.{Tally}
 use Rattle.macaque_v.proofs.ReadingAll.{starts, start-readable, early-unopened, late-unopened, right-reopened}
 use Rattle.macaque_v.proofs.read.state_at.Goals as goal
-use Rattle.macaque_v.proofs.read.state_at.Goals.{After-go_through, After-go_to_end, In-To-2}
+use Rattle.macaque_v.proofs.read.state_at.Goals.{After-go_through, After-go_to_end, In-To}
 
 -- what is taken in of the values behind k
 abbrev aside : Aim
@@ -29,11 +29,13 @@ told c =
     subst₂ (λ (first : Bool) (from : Cursor). WalkSays first a.bytes.now from a.k OfAim.All c.go_through.result)
     c.is_first-first.ensures c.start.ensures.0 c.go_through.ensures
 
-walked : (c : In-To-2)
+walked : (c : In-To)
     → Walked (is_first c.args.opening) c.args.bytes.now (start_of c.args.opening) c.args.k OfAim.All c.in-To.at c.in-To.tally
 walked c =
     let a = c.args in
-    subst (WalkSays (is_first a.opening) a.bytes.now (start_of a.opening) a.k OfAim.All) c.in-To.is (told c.before)
+    subst (WalkSays (is_first a.opening) a.bytes.now (start_of a.opening) a.k OfAim.All) c.in-To.is
+    (subst₂ (λ (first : Bool) (from : Cursor). WalkSays first a.bytes.now from a.k OfAim.All c.go_through.result)
+    c.is_first-first.ensures c.start.ensures.0 c.go_through.ensures)
 
 -- and going on to the end
 checked : (c : After-go_to_end)
@@ -49,7 +51,7 @@ go_through-requires c =
 
 pub go_to_end-requires : goal.go_to_end-requires
 go_to_end-requires c =
-    let R = (walked (goal.at.go_to_end-requires c).In-To-2).reads in
+    let R = (walked (goal.at.go_to_end-requires c).In-To).reads in
     (R.readable, omega (arith, R.counted))
 
 pub returns-in-Refused : goal.returns-in-Refused
@@ -63,7 +65,7 @@ pub returns-in-Refused-go_to_end : goal.returns-in-Refused-go_to_end
 returns-in-Refused-go_to_end c =
     let a = c.args in
     let at = c.in-To.at in
-    late-unopened a.bytes.now a.opening a.count a.k (omega arith) (walked (goal.at.returns-in-Refused-go_to_end c).In-To-2).reads
+    late-unopened a.bytes.now a.opening a.count a.k (omega arith) (walked (goal.at.returns-in-Refused-go_to_end c).In-To).reads
     (subst (WholeSays (is_first a.opening) a.bytes.now at (a.count - a.k) aside) c.in-Refused-go_to_end.is (checked (goal.at.returns-in-Refused-go_to_end c).After-go_to_end))
 
 pub returns-in-To-go_to_end : goal.returns-in-To-go_to_end
@@ -71,7 +73,7 @@ returns-in-To-go_to_end c =
     let s = c in
     let a = s.args in
     let at = c.in-To.at in
-    let W = walked (goal.at.returns-in-To-go_to_end c).In-To-2 in
+    let W = walked (goal.at.returns-in-To-go_to_end c).In-To in
     let says = subst (WholeSays (is_first a.opening) a.bytes.now at (a.count - a.k) aside) c.in-To-go_to_end.is (checked (goal.at.returns-in-To-go_to_end c).After-go_to_end) in (
       right-reopened a.bytes.now a.opening a.count a.k s.requires.0 W.reads says.0.reads says.1
           ∙ ap (λ (t : Tally). reopened (state_with at (known_in t))) (sym W.tally),

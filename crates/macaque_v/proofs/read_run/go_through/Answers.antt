@@ -28,10 +28,10 @@ returns-in-Refused c =
     let f = c.fill in
     let k = c.smaller-k.result in
     then-stops a.first a.bytes.now l.invariant.2.reads k
-    (subst (λ (q : Run). FillSays a.first a.bytes.now l.at k l.values f.new.1.1.1.1.0 q) c.in-Refused.is f.ensures) a.n (omega arith)
+    (subst (λ (q : Run). FillSays a.first a.bytes.now l.at k l.values f.new.out q) c.in-Refused.is f.ensures) a.n (omega arith)
 
 pub taken_in-tally-requires : goal.taken_in-tally-requires
-taken_in-tally-requires c = (omega (arith, c.fill.auto.1.1.1.1.0), omega (arith, c.loop-read.invariant.2.reads.counted))
+taken_in-tally-requires c = (omega (arith, c.fill.auto.out), omega (arith, c.loop-read.invariant.2.reads.counted))
 
 pub loop-read-preserved : goal.loop-read-preserved
 loop-read-preserved c =
@@ -39,10 +39,10 @@ loop-read-preserved c =
     let l = c.loop-read in
     let f = c.fill in
     let k = c.smaller-k.result in
-    let new = f.new.1.1.1.1.0 in
+    let new = f.new.out in
     let says = subst (λ (q : Run). FillSays a.first a.bytes.now l.at k l.values new q) c.in-To.is f.ensures in (
       omega arith,
-      omega (arith, f.auto.1.1.1.1.0),
+      omega (arith, f.auto.out),
       walked_more a.first a.bytes.now a.from a.aim l.read k l.at c.in-To.to l.tally c.taken_in-tally.result (take k new) l.invariant.2 says.0 c.taken_in-tally.ensures,
     )
 

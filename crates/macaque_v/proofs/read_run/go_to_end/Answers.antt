@@ -6,10 +6,10 @@ use Rattle.models.specs.Calls.{says_verdict}
 use Rattle.macaque_v.specs.Inner.ReadRun.{Walked, WalkSays}
 use Rattle.macaque_v.proofs.ReadingEnd.{ends-wrong, ends-early}
 use Rattle.macaque_v.proofs.read_run.go_to_end.Goals as goal
-use Rattle.macaque_v.proofs.read_run.go_to_end.Goals.{After-judge_end, In-To-2}
+use Rattle.macaque_v.proofs.read_run.go_to_end.Goals.{After-judge_end, In-To}
 
 -- the values were read
-walked : (c : In-To-2)
+walked : (c : In-To)
     → Walked c.args.first c.args.bytes.now c.args.from
     c.args.n c.args.aim c.in-To.to c.in-To.tally
 walked c =
@@ -18,7 +18,7 @@ walked c =
 
 pub judge_end-requires : goal.judge_end-requires
 judge_end-requires c =
-    let s = (walked (goal.at.judge_end-requires c).In-To-2).reads in
+    let s = (walked (goal.at.judge_end-requires c).In-To).reads in
     (s.readable, omega (arith, s.counted))
 
 pub returns-in-Refused : goal.returns-in-Refused
@@ -30,9 +30,9 @@ pub returns-in-Refused-judge_end : goal.returns-in-Refused-judge_end
 returns-in-Refused-judge_end c =
     let r = c in
     let e = (goal.at.returns-in-Refused-judge_end r).After-judge_end in
-    ends-wrong (walked e.before.before).reads (ap says_verdict (sym r.in-Refused-judge_end.is) ∙ e.judge_end.ensures)
+    ends-wrong (walked (goal.at.returns-in-Refused-judge_end r).In-To).reads (ap says_verdict (sym r.in-Refused-judge_end.is) ∙ e.judge_end.ensures)
 
 pub returns-in-Passed : goal.returns-in-Passed
 returns-in-Passed c =
     let e = c in
-    (walked (goal.at.returns-in-Passed e).In-To-2, sym e.judge_end.ensures ∙ ap says_verdict c.in-Passed.is)
+    (walked (goal.at.returns-in-Passed e).In-To, sym e.judge_end.ensures ∙ ap says_verdict c.in-Passed.is)

@@ -36,34 +36,28 @@ decode-requires c =
 
 pub overflow_add-result : goal.overflow_add-result
 overflow_add-result c =
-    let v = c in
-    let s = (goal.at.overflow_add-result v).Start in
-    let a = s.args in
-    let g = v.value-1.given in
+    let a = c.args in
+    let g = c.in-Got in
     omega (
       arith,
-      s.requires.0.near,
-      used-most a.first a.bytes.now a.at s.requires.0 (a.first && eqb a.at.count 0) (raw-is a.first a.at.count)
-          g.0.0 g.0.1.0 g.0.1.1.0 g.0.1.1.1.0 (step (goal.at.overflow_add-result v).After-decode ∙ ap says_decoded g.1),
+      c.requires.0.near,
+      used-most a.first a.bytes.now a.at c.requires.0 (a.first && eqb a.at.count 0) (raw-is a.first a.at.count)
+          g.value g.lead g.trail g.used (step (goal.at.overflow_add-result c).After-decode ∙ ap says_decoded g.is),
     )
 
 pub returns-in-Stopped : goal.returns-in-Stopped
 returns-in-Stopped c =
-    let r = c in
-    let d = (goal.at.returns-in-Stopped r).After-decode in
-    let s = d.before.before.before.before.before in
-    let a = s.args in
-    sym (next-is a.first a.bytes.now a.at s.requires.0 (a.first && eqb a.at.count 0) (raw-is a.first a.at.count) _ (step d ∙ ap says_decoded r.in-Stopped.is))
+    let a = c.args in
+    let d = (goal.at.returns-in-Stopped c).After-decode in
+    sym (next-is a.first a.bytes.now a.at c.requires.0 (a.first && eqb a.at.count 0) (raw-is a.first a.at.count) _ (step d ∙ ap says_decoded c.in-Stopped.is))
 
 pub returns-in-Got : goal.returns-in-Got
 returns-in-Got c =
-    let v = c in
-    let d = (goal.at.returns-in-Got v).After-decode in
-    let s = d.before.before.before.before.before in
-    let a = s.args in
-    let g = v.value-1.given in
+    let a = c.args in
+    let d = (goal.at.returns-in-Got c).After-decode in
+    let g = c.in-Got in
     let raw = a.first && eqb a.at.count 0 in
-    let says = step d ∙ ap says_decoded g.1 in (
-      sym (next-is a.first a.bytes.now a.at s.requires.0 raw (raw-is a.first a.at.count) _ says),
-      readable-next a.first a.bytes.now a.at s.requires.0 raw (raw-is a.first a.at.count) g.0.0 g.0.1.0 g.0.1.1.0 g.0.1.1.1.0 says,
+    let says = step d ∙ ap says_decoded g.is in (
+      sym (next-is a.first a.bytes.now a.at c.requires.0 raw (raw-is a.first a.at.count) _ says),
+      readable-next a.first a.bytes.now a.at c.requires.0 raw (raw-is a.first a.at.count) g.value g.lead g.trail g.used says,
     )

@@ -58,7 +58,7 @@ loop-j-preserved c =
     let word = c.word_ahead-word in
     let k = c.at_once-k in
     reached-repeats a.first a.bytes.now a.from (omega arith) a.i a.n a.out.now l.out l.last l.place l.j l.invariant (omega arith) word.result word.ensures
-    k.result k.ensures (omega arith) c.spread.new.0 c.spread.ensures
+    k.result k.ensures (omega arith) c.spread.new.out c.spread.ensures
 
 pub returns : goal.returns
 returns c =

@@ -19,7 +19,7 @@ pub returns : goal.returns
 returns c =
     let s = c in
     let a = s.args in
-    let new = c.spread.new.0 in
+    let new = c.spread.new.out in
     subst (ReadsOn a.first a.bytes.now a.at a.i a.n a.out.now new) (sym c.further.ensures)
     (on-repeats a.first a.bytes.now a.at a.i a.n a.out.now new s.requires.0 (omega arith) (s.requires.5 (omega arith)) a.k (omega arith) s.requires.4
     c.spread.ensures)

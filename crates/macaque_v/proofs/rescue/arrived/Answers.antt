@@ -28,7 +28,9 @@ stops : (c : After-fault_of-fault)
     → StopsBy (read_from (is_first c.args.opening) c.args.bytes.now (start_of c.args.opening) c.args.limit) c.in-Refused.r
 stops c =
     let a = c.args in
-    subst (WalkSays (is_first a.opening) a.bytes.now (start_of a.opening) a.limit OfAim.All) c.in-Refused.is (told c.before.before)
+    subst (WalkSays (is_first a.opening) a.bytes.now (start_of a.opening) a.limit OfAim.All) c.in-Refused.is
+    (subst₂ (λ (first : Bool) (from : Cursor). WalkSays first a.bytes.now from a.limit OfAim.All c.go_through.result)
+    c.is_first-first.ensures c.start-at.ensures.0 c.go_through.ensures)
 
 pub go_through-requires : goal.go_through-requires
 go_through-requires c =
