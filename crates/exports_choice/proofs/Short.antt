@@ -6,7 +6,7 @@ use Prim.Native.Nat.{ℕ, ◌<◌}
 use borrow.Author.Tests.{lt-ltb}
 use lib.ListN.{length}
 use lib.IntN.{ℤ}
-use Rattle.models.specs.Answers.{Said, refused, stateless}
+use Rattle.models.specs.Answers.{refused, stateless}
 use Rattle.models.specs.Bound.{bound_allowed}
 use Rattle.types.specs.Builder.{bounds_allowed, states_allowed}
 use Rattle.types.specs.Calls.{update_answer, finish_answer}

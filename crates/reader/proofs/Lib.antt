@@ -1,6 +1,5 @@
 -- The theorem about the calls, and the laws that the proofs of `reader` share.
 pub mod Allowed
-pub mod Held
 pub mod Promises
 pub mod Last
 pub mod Causes

@@ -29,26 +29,26 @@ module _ (b : ModelBuilder) (m : ℕ) (none : NoneHolds (finish_causes b m)) whe
 
   -- the model by whether Swing wins, and whether its line is lost
   abbrev by : Bool → Bool → SelectedModel
-  by wins lost = cond (wins && not lost) (swing_model b.swing m) (pmc_model b.pmc_mean m)
+  by wins gone = cond (wins && not gone) (swing_model b.swing m) (pmc_model b.pmc_mean m)
 
   abbrev lost : Bool
   lost = end_lost (swing_model b.swing m)
 
-  kept_by : (wins won lost : Bool) → (won ≡ true → wins ≡ true) → (by won lost).model_type_id ≡ 1 → by wins lost ≡ by won lost
+  kept_by : (wins won gone : Bool) → (won ≡ true → wins ≡ true) → (by won gone).model_type_id ≡ 1 → by wins gone ≡ by won gone
   unfolding pmc_model
   kept_by wins true false h i = ap (λ (t : Bool). by t false) (h refl)
   kept_by wins true true h i = absurd (never i)
-  kept_by wins false lost h i = absurd (never i)
+  kept_by wins false gone h i = absurd (never i)
 
-  more_by : (wins lost : Bool) → swing_wins m pmc swing ≡ wins → (by wins lost).model_type_id ≡ 1 → MoreForEvery m pmc (by wins lost).length
+  more_by : (wins gone : Bool) → swing_wins m pmc swing ≡ wins → (by wins gone).model_type_id ≡ 1 → MoreForEvery m pmc (by wins gone).length
   unfolding pmc_model swing_model
   more_by true false e i = wins-by-more m pmc swing e
   more_by true true e i = absurd (never i)
-  more_by false lost e i = absurd (never i)
+  more_by false gone e i = absurd (never i)
 
-  unearned-by : (wins lost : Bool) → swing_wins m pmc swing ≡ wins → (MoreForEvery m pmc swing → ⊥) → by wins lost ≡ pmc_model b.pmc_mean m
-  unearned-by true lost e h = absurd (h (wins-by-more m pmc swing e))
-  unearned-by false lost e h = refl
+  unearned-by : (wins gone : Bool) → swing_wins m pmc swing ≡ wins → (MoreForEvery m pmc swing → ⊥) → by wins gone ≡ pmc_model b.pmc_mean m
+  unearned-by true gone e h = absurd (h (wins-by-more m pmc swing e))
+  unearned-by false gone e h = refl
 
   pmc-by : (wins : Bool) → by wins true ≡ pmc_model b.pmc_mean m
   pmc-by true = refl
@@ -57,11 +57,11 @@ module _ (b : ModelBuilder) (m : ℕ) (none : NoneHolds (finish_causes b m)) whe
   still : won_by_costs m pmc swing ≡ true → swing_wins m pmc swing ≡ true
   still = let c = finish-has b m none in still-wins m pmc swing c.0 c.1 c.2 c.3 c.4
 
-  told-by : (wins won lost : Bool) → swing_wins m pmc swing ≡ wins → won_by_costs m pmc swing ≡ won → (by wins lost).bytes_per_value ≡ (by won lost).bytes_per_value
+  told-by : (wins won gone : Bool) → swing_wins m pmc swing ≡ wins → won_by_costs m pmc swing ≡ won → (by wins gone).bytes_per_value ≡ (by won gone).bytes_per_value
   unfolding pmc_model swing_model
-  told-by true true lost w o = refl
-  told-by false false lost w o = refl
-  told-by false true lost w o = absurd (true≢false (sym (still o) ∙ w))
+  told-by true true gone w o = refl
+  told-by false false gone w o = refl
+  told-by false true gone w o = absurd (true≢false (sym (still o) ∙ w))
   told-by true false true w o = refl
   told-by true false false w o = let c = finish-has b m none in wins-at-a-tie m pmc swing c.0 c.1 c.2 c.3 c.4 c.5 w o
 

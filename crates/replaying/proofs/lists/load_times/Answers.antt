@@ -1,10 +1,8 @@
 -- `replaying::lists::load_times` meets its contract: no place lies beyond the memory. Assumes nothing.
 use borrow.Author.Rules.{rules}
-use Prim.Native.Nat.{◌-◌, ◌≤◌}
-use lib.ListN.{length, length-set}
+use lib.ListN.{length-set}
 use native.Mathlib.Omega.{arith}
 use Rattle.replaying.proofs.Counting.{counts}
-use mathlib.Core.Path.{◌≡◌}
 use Rattle.replaying.proofs.lists.load_times.Goals as goal
 
 pub returns-then-to-i : goal.returns-then-to-i

@@ -1,6 +1,5 @@
 -- `ModelBuilder::bounds_allowed` meets its contract. Assumes nothing.
 use Rattle.types.specs.Builder.{bounds_allowed}
-use borrow.Author.Rules.{rules}
 use Rattle.types.proofs.ModelBuilder.bounds_allowed.Goals as goal
 
 pub returns : goal.returns

@@ -4,7 +4,6 @@ use Rattle.models.specs.Answers.{refusing}
 use Rattle.models.specs.Calls.{says_verdict}
 use Rattle.models.proofs.Judged.{when-passed, when-refused}
 use Rattle.types.specs.Calls.{finish_answer}
-use borrow.Author.Rules.{rules}
 use Rattle.types.proofs.ModelBuilder.finish.Goals as goal
 
 pub selected-requires : goal.selected-requires

@@ -1,6 +1,5 @@
 -- `ModelBuilder::judge_update` meets its contract: the tests are those of the list of causes. Assumes nothing.
 use Rattle.models.specs.Answers.{judge}
-use borrow.Author.Rules.{rules}
 use Rattle.types.proofs.ModelBuilder.judge_update.Goals as goal
 
 pub returns : goal.returns

@@ -6,7 +6,6 @@ use Rattle.pmc_mean.specs.Calls as OfPmc
 use Rattle.swing.specs.Calls as OfSwing
 use Rattle.types.specs.Builder.{fresh}
 use Rattle.types.specs.Calls.{new_answer}
-use borrow.Author.Rules.{rules}
 use Rattle.types.proofs.ModelBuilder.new.Goals as goal
 
 pub returns-in-Refused : goal.returns-in-Refused

@@ -4,7 +4,6 @@ use mir.Syntax.{w64}
 use mir.ValLaws.{to_z-of_z}
 use Rattle.models.specs.Answers.{state_after}
 use Rattle.types.specs.Calls.{says_update}
-use borrow.Author.Rules.{rules}
 use Rattle.types.proofs.ModelBuilder.next.Goals as goal
 
 pub returns-in-Fits : goal.returns-in-Fits

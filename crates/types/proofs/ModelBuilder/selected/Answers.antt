@@ -3,7 +3,6 @@ use Rattle.models.proofs.Judged.{none, passed}
 use Rattle.types.specs.Calls.{finish_causes}
 use Rattle.types.specs.Choice.{choice_of}
 use Rattle.types.proofs.Rooms.{finish-clears, finish-has}
-use borrow.Author.Rules.{rules}
 use Rattle.types.proofs.ModelBuilder.selected.Goals as goal
 
 pub swing_wins-wins-requires : goal.swing_wins-wins-requires

@@ -1,6 +1,5 @@
 -- `ModelBuilder::states_allowed` meets its contract. Assumes nothing.
 use Rattle.types.specs.Builder.{states_allowed}
-use borrow.Author.Rules.{rules}
 use Rattle.types.proofs.ModelBuilder.states_allowed.Goals as goal
 
 pub returns : goal.returns

@@ -1,15 +1,8 @@
 -- `ModelBuilder::stepped` meets its contract. The points from i on are left to step over. Assumes nothing.
-use mathlib.Core.Path.{◌≡◌, refl, sym, ap, ◌∙◌}
-use Prim.Native.Nat.{◌+◌, ◌≤◌, ◌-◌}
-use native.Mathlib.Omega.{arith}
-use mir.Syntax.{w64}
-use mir.ValLaws.{to_z-of_z}
-use borrow.Author.Rules.{rules}
-use borrow.Author.Tests.{not-true}
-use lib.IntN.{pos}
-use lib.ListN.{length, drop, get_or}
+use mathlib.Core.Path.{◌≡◌}
+use Prim.Native.Nat.{◌≤◌, ◌-◌}
+use lib.ListN.{length, drop}
 use Rattle.types.specs.Run.{run, points}
-use Rattle.types.proofs.Runs.{run-failed, points-here, points-done}
 use Rattle.types.proofs.ModelBuilder.stepped.Given as goal
 
 abbrev pub invariant-loop-i : goal.invariant-loop-i

@@ -8,7 +8,6 @@ use Rattle.models.proofs.Judged.{when-passed, when-refused}
 use Rattle.lines.specs.Line.{point_of}
 use Rattle.types.specs.Builder.{updated, answered_by}
 use Rattle.types.specs.Calls.{update_causes, update_answer}
-use borrow.Author.Rules.{rules}
 use Rattle.types.proofs.ModelBuilder.try_to_update_models.Goals as goal
 use Rattle.types.proofs.ModelBuilder.try_to_update_models.Goals.{After-judge_update, After-point_of-p, After-updated-b}
 

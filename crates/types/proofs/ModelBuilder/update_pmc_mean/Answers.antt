@@ -4,15 +4,14 @@ use borrow.Author.Tests.{not-true, not-false}
 use Rattle.types.specs.Builder.{update_pmc}
 use Rattle.pmc_mean.specs.Inner.Steps.{step_of}
 use Rattle.types.proofs.Rooms.{pmc-live}
-use borrow.Author.Rules.{rules}
 use Rattle.types.proofs.ModelBuilder.update_pmc_mean.Goals as goal
 
 pub returns-then-not-self : goal.returns-then-not-self
 unfolding update_pmc
-returns-then-not-self c = rw c.if-not-self.true
+returns-then-not-self c = rw (not-true c.args.self.pmc_mean_could_fit_all c.if-not-self.true)
 
 pub tried-t-requires : goal.tried-t-requires
-tried-t-requires c = c.requires c.if-not-self.false
+tried-t-requires c = c.requires (not-false _ c.if-not-self.false)
 
 pub returns : goal.returns
-returns c = c.with_pmc_mean.ensures ∙ pmc-live c.args.self _ (step_of c.tried-t.result) c.if-not-self.false c.tried-t.ensures
+returns c = c.with_pmc_mean.ensures ∙ pmc-live c.args.self _ (step_of c.tried-t.result) (not-false _ c.if-not-self.false) c.tried-t.ensures

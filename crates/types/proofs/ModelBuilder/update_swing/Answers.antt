@@ -4,17 +4,16 @@ use borrow.Author.Tests.{not-true, not-false}
 use Rattle.types.specs.Builder.{update_swing}
 use Rattle.swing.specs.Inner.Steps.{step_of}
 use Rattle.types.proofs.Rooms.{swing-live}
-use borrow.Author.Rules.{rules}
 use Rattle.types.proofs.ModelBuilder.update_swing.Goals as goal
 
 pub returns-then-not-self : goal.returns-then-not-self
 unfolding update_swing
-returns-then-not-self c = rw c.if-not-self.true
+returns-then-not-self c = rw (not-true c.args.self.swing_could_fit_all c.if-not-self.true)
 
 pub tried-t-requires : goal.tried-t-requires
 tried-t-requires c =
-    let room = c.requires.swing_fits c.if-not-self.false in
+    let room = c.requires.swing_fits (not-false _ c.if-not-self.false) in
     record { room = room.0; sound = room.1; time = c.requires.time }
 
 pub returns : goal.returns
-returns c = c.with_swing.ensures ∙ swing-live c.args.self _ (step_of c.tried-t.result) c.if-not-self.false c.tried-t.ensures
+returns c = c.with_swing.ensures ∙ swing-live c.args.self _ (step_of c.tried-t.result) (not-false _ c.if-not-self.false) c.tried-t.ensures

@@ -1,6 +1,5 @@
 -- `choice::choose` meets its contract. Assumes nothing.
 use Rattle.types.specs.Choice.{chosen}
-use borrow.Author.Rules.{rules}
 use Rattle.types.proofs.choice.choose.Goals as goal
 
 pub returns-then-wins-end_lost : goal.returns-then-wins-end_lost

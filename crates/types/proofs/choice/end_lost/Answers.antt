@@ -1,6 +1,5 @@
 -- `choice::end_lost` meets its contract. Assumes nothing.
 use Rattle.types.specs.Choice.{end_lost}
-use borrow.Author.Rules.{rules}
 use Rattle.types.proofs.choice.end_lost.Goals as goal
 
 pub returns : goal.returns

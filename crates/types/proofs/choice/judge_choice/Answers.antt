@@ -1,6 +1,5 @@
 -- `choice::judge_choice` meets its contract: the tests are those of the list of causes. Assumes nothing.
 use Rattle.models.specs.Answers.{judge}
-use borrow.Author.Rules.{rules}
 use Rattle.types.proofs.choice.judge_choice.Goals as goal
 
 pub returns : goal.returns

@@ -10,7 +10,6 @@ use Rattle.pmc_mean.specs.State.{usable}
 use Rattle.pmc_mean.specs.Calls.{cost_causes}
 use Rattle.pmc_mean.specs.declared.PMCMean.{PMCMean}
 use Rattle.types.specs.Choice.{pmc_model}
-use borrow.Author.Rules.{rules}
 use Rattle.types.proofs.choice.select_pmc_mean.Goals as goal
 
 limits : (s : PMCMean) (m : ℕ) → verdict (cost_causes s m) ≡ answered tt → (s.length ≤ most_values) × (m ≤ most_metadata)

@@ -3,7 +3,6 @@ use mathlib.Core.Path.{◌≡◌}
 use mathlib.Core.Bool.{true}
 use Prim.Native.Nat.{ℕ, ◌≤◌}
 use native.Mathlib.Omega.{arith}
-use borrow.Author.Rules.{rules}
 use Rattle.models.specs.Limits.{most_metadata}
 use Rattle.models.specs.Answers.{answered, verdict}
 use Rattle.models.proofs.Judged.{none, has-cost}

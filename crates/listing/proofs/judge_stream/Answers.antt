@@ -1,0 +1,40 @@
+-- `listing::judge_stream` meets its contract. Assumes nothing.
+use borrow.Author.Rules.{rules}
+use mathlib.Core.Path.{sym, ap, ◌∙◌, subst}
+use mathlib.Core.Bool.{true}
+use native.Mathlib.Omega.{arith}
+use Rattle.models.specs.Answers.{refused}
+use Rattle.macaque_v.specs.Inner.ReadRun.{ReadableAt, WholeSays}
+use Rattle.macaque_v.specs.Read.{start_of}
+use Rattle.macaque_v.specs.declared.Opening.TheVariants.{First}
+use Rattle.macaque_v.specs.declared.read_run.Cursor.{Cursor}
+use Rattle.macaque_v.specs.declared.read_run.Aim.TheVariants as OfAim
+use Rattle.macaque_v.proofs.ReadingAll.{start-readable}
+use Rattle.macaque_v.proofs.ReadingEnd.{ends-right}
+use Rattle.listing.specs.Calls.{counted}
+use Rattle.listing.proofs.judge_stream.Goals as goal
+use Rattle.listing.proofs.judge_stream.Goals.{After-go_to_end}
+
+-- what reading the whole stream says, from its start
+told : (c : After-go_to_end) → WholeSays true c.args.stream.now (start_of First) c.args.count OfAim.Nothing c.go_to_end.result
+told c =
+    let a = c.args in
+    subst (λ (from : Cursor). WholeSays true a.stream.now from a.count OfAim.Nothing c.go_to_end.result) c.start.ensures c.go_to_end.ensures
+
+pub go_to_end-requires : goal.go_to_end-requires
+go_to_end-requires c =
+    let a = c.args in
+    let e = c.start.ensures in
+    (subst (ReadableAt a.stream.now) (sym e) (start-readable a.stream.now First (omega arith)), omega (arith, ap (λ (at : Cursor). at.count) e))
+
+pub returns-in-Refused : goal.returns-in-Refused
+returns-in-Refused c =
+    let a = c.args in
+    let says = subst (WholeSays true a.stream.now (start_of First) a.count OfAim.Nothing) c.in-Refused.is (told (goal.at.returns-in-Refused c).After-go_to_end) in
+    sym (ap (counted a.count) says.stops ∙ ap refused says.numbered)
+
+pub returns-in-To : goal.returns-in-To
+returns-in-To c =
+    let a = c.args in
+    let says = subst (WholeSays true a.stream.now (start_of First) a.count OfAim.Nothing) c.in-To.is (told (goal.at.returns-in-To c).After-go_to_end) in
+    sym (ap (counted a.count) (ends-right says.0.reads says.1))

@@ -1,0 +1,85 @@
+-- `listing::row` meets its contract. Assumes nothing.
+use borrow.Author.Rules.{rules}
+use mathlib.Core.Path.{◌≡◌, sym, ap, ◌∙◌, subst}
+use mathlib.Core.Bool.{true, false}
+use mathlib.Core.List.{List}
+use Prim.Native.Nat.{ℕ}
+use native.Mathlib.Omega.{arith}
+use borrow.Author.Tests.{le-leb, lt-leb, not-true, not-false}
+use lib.ListN.{length}
+use Rattle.models.specs.Answers.{answered, judge}
+use Rattle.models.specs.Limits.{most_values}
+use Rattle.macaque_v.specs.Inner.ReadRun.{NextSays}
+use Rattle.macaque_v.specs.declared.read_run.Cursor.{Cursor}
+use Rattle.macaque_v.specs.declared.read_run.Run.{Run}
+use Rattle.listing.specs.Text.{row_text, laid}
+use Rattle.listing.specs.Calls.{may_stand, row_found, line_of, line_in, row_answer, row_memory}
+use Rattle.listing.specs.declared.Fields.{Fields}
+use Rattle.listing.proofs.Finding.{stands, found, unfound}
+use Rattle.listing.proofs.row.Goals as goal
+use Rattle.listing.proofs.row.Goals.{After-next, Else-at-ge-MOST_VALUES}
+
+-- reading may stand there, and goes on
+module _ (c : Else-at-ge-MOST_VALUES) where
+  abbrev bytes : List ℕ
+  bytes = c.args.stream.now
+
+  abbrev at : Cursor
+  at = c.args.at
+
+  allowed : may_stand (length bytes) at ≡ true
+  allowed = sym c.may_stand.ensures ∙ c.if-not-may_stand.false
+
+  answers : row_answer bytes at ≡ line_of at (row_found bytes at)
+  unfolding row_answer judge
+  answers = rw (allowed, lt-leb most_values at.count (omega arith))
+
+  leaves : (line : List ℕ) → row_memory bytes at line ≡ line_in line at (row_found bytes at)
+  unfolding row_memory judge
+  leaves line = rw (allowed, lt-leb most_values at.count (omega arith))
+
+-- what the reading step says
+module _ (c : After-next) where
+  told : (r : Run) → c.next.result ≡ r → NextSays true c.args.stream.now c.args.at r
+  told r e = subst (NextSays true c.args.stream.now c.args.at) e c.next.ensures
+
+pub returns-then-not-may_stand : goal.returns-then-not-may_stand
+unfolding row_answer row_memory judge
+returns-then-not-may_stand c =
+    let a = c.args in
+    let e : may_stand (length a.stream.now) a.at ≡ false = sym c.may_stand.ensures ∙ c.if-not-may_stand.true in
+    record { answer = rw e; text = rw e }
+
+pub returns-then-at-ge-MOST_VALUES : goal.returns-then-at-ge-MOST_VALUES
+unfolding row_answer row_memory judge
+returns-then-at-ge-MOST_VALUES c =
+    let a = c.args in
+    let e : may_stand (length a.stream.now) a.at ≡ true = sym c.may_stand.ensures ∙ c.if-not-may_stand.false in
+    let full = le-leb most_values a.at.count (omega arith) in
+    record { answer = rw (e, full); text = rw (e, full) }
+
+pub next-requires : goal.next-requires
+next-requires c = (stands (bytes (goal.at.next-requires c).Else-at-ge-MOST_VALUES) (at (goal.at.next-requires c).Else-at-ge-MOST_VALUES) (allowed (goal.at.next-requires c).Else-at-ge-MOST_VALUES) (omega arith), omega arith)
+
+pub row_between-requires : goal.row_between-requires
+row_between-requires c =
+    let n = c in
+    let e = c in
+    ((stands (bytes (goal.at.row_between-requires e).Else-at-ge-MOST_VALUES) (at (goal.at.row_between-requires e).Else-at-ge-MOST_VALUES) (allowed (goal.at.row_between-requires e).Else-at-ge-MOST_VALUES) (omega arith)).within, (found (bytes (goal.at.row_between-requires e).Else-at-ge-MOST_VALUES) (at (goal.at.row_between-requires e).Else-at-ge-MOST_VALUES) _ (told (goal.at.row_between-requires n).After-next _ c.in-To.is).0).0)
+
+pub returns-in-Refused : goal.returns-in-Refused
+returns-in-Refused c =
+    let n = c in
+    let e = c in
+    let f = unfound (bytes (goal.at.returns-in-Refused e).Else-at-ge-MOST_VALUES) (at (goal.at.returns-in-Refused e).Else-at-ge-MOST_VALUES) c.in-Refused.r (told (goal.at.returns-in-Refused n).After-next _ c.in-Refused.is) in
+    record { answer = sym (answers (goal.at.returns-in-Refused e).Else-at-ge-MOST_VALUES ∙ ap (line_of (at (goal.at.returns-in-Refused e).Else-at-ge-MOST_VALUES)) f); text = sym (leaves (goal.at.returns-in-Refused e).Else-at-ge-MOST_VALUES _ ∙ ap (line_in _ (at (goal.at.returns-in-Refused e).Else-at-ge-MOST_VALUES)) f) }
+
+pub returns-in-To : goal.returns-in-To
+returns-in-To c =
+    let n = c in
+    let e = c in
+    let next = c.in-To.next in
+    let f = (found (bytes (goal.at.returns-in-To e).Else-at-ge-MOST_VALUES) (at (goal.at.returns-in-To e).Else-at-ge-MOST_VALUES) next (told (goal.at.returns-in-To n).After-next _ c.in-To.is).0).1 in
+    let is = c.row_between.ensures in
+    let line = e.args.line.now in
+    let l = c.row-length.ensures in record { answer = ap (λ (k : ℕ). answered (record { length = k; next = next })) (l.length ∙ ap (λ (r : Fields). length (row_text (at (goal.at.returns-in-To e).Else-at-ge-MOST_VALUES).count r)) is) ∙ sym (answers (goal.at.returns-in-To e).Else-at-ge-MOST_VALUES ∙ ap (line_of (at (goal.at.returns-in-To e).Else-at-ge-MOST_VALUES)) f); text = l.text ∙ ap (λ (r : Fields). laid (row_text (at (goal.at.returns-in-To e).Else-at-ge-MOST_VALUES).count r) line) is ∙ sym (leaves (goal.at.returns-in-To e).Else-at-ge-MOST_VALUES line ∙ ap (line_in line (at (goal.at.returns-in-To e).Else-at-ge-MOST_VALUES)) f) }

@@ -1,0 +1,8 @@
+-- `place_table::entry::cursor_at` meets its contract. Assumes nothing.
+use borrow.Author.Rules.{rules}
+use mathlib.Core.Path.{◌≡◌, refl}
+use Rattle.place_table.proofs.entry.cursor_at.Goals as goal
+
+pub returns : goal.returns
+returns c =
+    rw (c.low.ensures, c.low-2.ensures, c.low-3.ensures)

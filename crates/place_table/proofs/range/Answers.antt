@@ -1,0 +1,85 @@
+-- `place_table::range` meets its contract: refused by the first cause that holds, else what reading behind the entry gives. Assumes nothing.
+use borrow.Author.Rules.{rules}
+use mathlib.Core.Path.{◌≡◌, sym, ap, ap₂, ◌∙◌, subst}
+use mathlib.Core.Bool.{Bool}
+use mathlib.Core.List.{List, []}
+use Prim.Native.Nat.{ℕ, ◌-◌, ◌%◌, ◌/◌, ◌≤◌, ◌<◌}
+use native.Mathlib.Omega.{arith}
+use lib.ListN.{length}
+use Rattle.bits.specs.Bits.{bits_of}
+use Rattle.models.specs.Answers.{Said, answered, refused, keeping, NoneHolds}
+use Rattle.models.proofs.Judged.{none-holds, when-passed, when-refused}
+use Rattle.stream.specs.Calls.{drawn, drawn_in}
+use Rattle.places.specs.Table.{read_range}
+use Rattle.places.specs.Calls.{table_in}
+use Rattle.places.proofs.Any.{range-empty}
+use Rattle.macaque_v.specs.State.{stream_in, is_first}
+use Rattle.macaque_v.specs.Inner.ReadRun.{ReadableAt}
+use Rattle.macaque_v.specs.declared.read_run.Cursor.{Cursor}
+use Rattle.place_table.specs.Calls.{range_causes, range_answer, range_memory}
+use Rattle.place_table.specs.Inner.Range.{values_behind}
+use Rattle.place_table.proofs.Ranging.{Starts, range-behind, in_order, lent, may-begin, fits}
+use Rattle.place_table.proofs.range.Goals as goal
+use Rattle.place_table.proofs.range.Goals.{In-Passed}
+
+-- nothing refuses
+clear : (c : In-Passed)
+    → NoneHolds (range_causes (length c.args.bytes.now) c.args.count c.args.table.now c.args.entries c.args.p c.args.q (length c.args.out.now))
+clear c = none-holds _ _ c.judge_range.ensures c.in-Passed.is
+
+pub returns-then-q-p : goal.returns-then-q-p
+unfolding range_answer range_memory
+returns-then-q-p c =
+    let a = c.args in
+    let causes = range_causes (length a.bytes.now) a.count a.table.now a.entries a.p a.q (length a.out.now) in
+    let says = c.judge_range.ensures in
+    let ok = c.in-Passed.is in
+    let free = clear (goal.at.returns-then-q-p c).In-Passed in
+    let le : a.q ≤ a.p = c.if-q-p.true in
+    let same : a.p ≡ a.q = omega (arith, (in_order a.bytes.now a.table.now a.count a.entries a.p a.q (length a.out.now) free).0) in
+    let none : answered [] ≡ read_range (stream_in (is_first a.opening)) (bits_of a.bytes.now) (table_in a.table.now a.entries) a.p a.q =
+    sym (ap (read_range (stream_in (is_first a.opening)) (bits_of a.bytes.now) (table_in a.table.now a.entries) a.p) (sym same) ∙ range-empty (stream_in (is_first a.opening)) (bits_of a.bytes.now) (table_in a.table.now a.entries) a.p) in
+    record { answer = ap drawn none ∙ when-passed causes _ says refused _ ok; values = ap (drawn_in a.out.now) none ∙ when-passed causes _ says (keeping a.out.now) _ ok }
+
+pub cursor_at-at-requires : goal.cursor_at-at-requires
+cursor_at-at-requires c =
+    let a = c.args in
+    let free = clear (goal.at.cursor_at-at-requires c).In-Passed in
+    let lt : a.p < a.q = c.if-q-p.false in
+    let T = may-begin a.bytes.now a.table.now a.count a.entries a.p a.q (length a.out.now) free lt in
+    let L = lent a.bytes.now a.table.now a.count a.entries a.p a.q (length a.out.now) free lt in
+    let o = in_order a.bytes.now a.table.now a.count a.entries a.p a.q (length a.out.now) free in
+    (omega (arith, T.used, L), omega (arith, o.1, o.2, lt))
+
+pub draw_behind-requires : goal.draw_behind-requires
+draw_behind-requires c =
+    let a = c.args in
+    let free = clear (goal.at.draw_behind-requires c).In-Passed in
+    let lt : a.p < a.q = c.if-q-p.false in
+    let T = may-begin a.bytes.now a.table.now a.count a.entries a.p a.q (length a.out.now) free lt in
+    let o = in_order a.bytes.now a.table.now a.count a.entries a.p a.q (length a.out.now) free in
+    let at = c.cursor_at-at.ensures in
+    let counted = ap (λ (x : Cursor). x.count) at in
+    (subst (ReadableAt a.bytes.now) (sym at) T.readable, omega (arith, o.1, o.2, lt, counted), omega arith, fits a.bytes.now a.table.now a.count a.entries a.p a.q (length a.out.now) free)
+
+pub returns-in-Refused : goal.returns-in-Refused
+unfolding range_answer range_memory
+returns-in-Refused c =
+    let a = c.args in
+    let causes = range_causes (length a.bytes.now) a.count a.table.now a.entries a.p a.q (length a.out.now) in
+    let says = c.judge_range.ensures in
+    record { answer = when-refused causes _ says refused _ _ c.in-Refused.is; values = when-refused causes _ says (keeping a.out.now) _ _ c.in-Refused.is }
+
+pub returns-else-q-p : goal.returns-else-q-p
+unfolding range_answer range_memory
+returns-else-q-p c =
+    let a = c.args in
+    let causes = range_causes (length a.bytes.now) a.count a.table.now a.entries a.p a.q (length a.out.now) in
+    let says = c.judge_range.ensures in
+    let ok = c.in-Passed.is in
+    let free = clear (goal.at.returns-else-q-p c).In-Passed in
+    let lt : a.p < a.q = c.if-q-p.false in
+    let d = c.draw_behind.ensures in
+    let T = may-begin a.bytes.now a.table.now a.count a.entries a.p a.q (length a.out.now) free lt in
+    let values = ap₂ (λ (first : Bool) (at : Cursor). values_behind first a.bytes.now at (a.p % 64) (a.q - a.p)) c.is_first.ensures c.cursor_at-at.ensures
+    ∙ sym (range-behind (is_first a.opening) a.bytes.now a.table.now a.entries a.p a.q lt T) in record { answer = d.answer ∙ ap drawn values ∙ when-passed causes _ says refused _ ok; values = d.values ∙ ap (drawn_in a.out.now) values ∙ when-passed causes _ says (keeping a.out.now) _ ok }
