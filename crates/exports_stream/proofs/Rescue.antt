@@ -253,8 +253,8 @@ pub fault-tells : {A : Type 0} (causes : List Cause) (q : Said A) → ((judge it
 unfolding judge
 fault-tells [] (answered m) z = absurd (z refl)
 fault-tells [] (refused f) z = inr (refl, refl)
-fault-tells (n when true ∷ causes) q z = inl refl
-fault-tells (n when false ∷ causes) q z = fault-tells causes q z
+fault-tells (n when true ∷ more) q z = inl refl
+fault-tells (n when false ∷ more) q z = fault-tells more q z
 
 -- so it is 1, 3, 12 or 4 by the causes of the row, else the 6 or 7 that the call behind meets (`what-rescue-refuses`)
 pub what-a-rescued-row-refuses : (buf : List ℕ) (used limit mode value kind bound : ℕ) (row : List ℕ) → ((rescue_fault buf used limit mode value kind bound row).number ≡ 0 → ⊥)

@@ -1,0 +1,6 @@
+-- `comparing::may_go` meets its contract. Assumes nothing.
+use borrow.Author.Rules.{rules}
+use Rattle.comparing.proofs.may_go.Goals as goal
+
+pub returns : goal.returns
+returns c = rw c.may_use.ensures
