@@ -257,8 +257,8 @@ pub refused-keeps : {X : Type 0} (before after : X) (causes : List Cause) (q : S
 unfolding judge
 refused-keeps before after [] (answered r) same h = absurd (h refl)
 refused-keeps before after [] (refused f) same h = same f refl
-refused-keeps before after (n when true ∷ causes) q same h = refl
-refused-keeps before after (n when false ∷ causes) q same h = refused-keeps before after causes q same h
+refused-keeps before after (n when true ∷ more) q same h = refl
+refused-keeps before after (n when false ∷ more) q same h = refused-keeps before after more q same h
 
 pub a-refused-reopening-changes-nothing : (buf : List ℕ) (used count k mode value kind bound : ℕ) (row words : List ℕ) (in_use : ℕ)
     → ((table_reopen_fault buf used count k mode value kind bound row words in_use).number ≡ 0 → ⊥)

@@ -1,0 +1,9 @@
+-- `exports_reader::row::read_position` meets its contract: words of 32 bits are their own low bits. Assumes nothing.
+use borrow.Author.Rules.{rules}
+use Rattle.exports_reader.proofs.Faces.{low-words}
+use Rattle.exports_reader.proofs.row.read_position.Goals as goal
+
+pub returns : goal.returns
+returns c =
+    let s = c in
+    rw (c.low.ensures, c.low-2.ensures, c.low-3.ensures) (low-words s.args.row.now s.requires.stands)

@@ -1,0 +1,18 @@
+-- `exports_reader::row::stands_for_reader` meets its contract: a row that is too short stands for none; else word by word. Assumes nothing.
+use borrow.Author.Rules.{rules}
+use borrow.Author.Tests.{le-leb}
+use native.Mathlib.Omega.{arith}
+use mathlib.Core.Path.{sym}
+use lib.ListN.{length}
+use Rattle.exports_reader.specs.Row.{reader_length, stands_for_reader}
+use Rattle.exports_reader.proofs.Faces.{short-stands-for-none}
+use Rattle.exports_reader.proofs.row.stands_for_reader.Goals as goal
+
+pub returns-then-row-lt-WORDS : goal.returns-then-row-lt-WORDS
+returns-then-row-lt-WORDS c = sym (short-stands-for-none c.args.row.now (omega arith))
+
+pub returns : goal.returns
+unfolding stands_for_reader
+returns c =
+    let held = le-leb reader_length (length c.args.row.now) (omega arith) in
+    rw (held, c.is_small.ensures, c.is_small-2.ensures, c.is_small-3.ensures)
