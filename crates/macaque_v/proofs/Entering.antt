@@ -8,7 +8,7 @@ use native.Mathlib.Omega.{arith}
 use borrow.Author.Tests.{eqb-true, eqb-false}
 use lib.Dec.{eqb}
 use lib.ListN.{length, take, get_or, set}
-use lib.Seq.{sets, take-suc, take_all, length-take-le}
+use lib.Seq.{take-suc, take_all, length-take-le}
 use Rattle.stream.specs.Format.{State, raw_next}
 use Rattle.stream.specs.Write.{kept_from}
 use Rattle.places.specs.Table.{spacing, Entry, entry_of, noted, entries_for, entries}

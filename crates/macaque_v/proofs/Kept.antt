@@ -3,7 +3,7 @@
 use mathlib.Core.Path.{◌≡◌, refl, sym, ap, ◌∙◌, subst}
 use mathlib.Core.Bool.{Bool, true, false}
 use mathlib.Core.List.{List, [], ◌∷◌, ◌++◌, append_assoc}
-use Prim.Native.Nat.{ℕ, zero, suc, ◌+◌, ◌^◌, ◌≤◌, ◌<◌}
+use Prim.Native.Nat.{ℕ, zero, suc, ◌^◌, ◌≤◌, ◌<◌}
 use native.Mathlib.Omega.{arith}
 use borrow.Author.Tests.{le-ltb, not-false}
 use lib.ListN.{length, take, drop, get_or}
@@ -17,7 +17,7 @@ use Rattle.models.specs.Calls.{within_answer}
 use Rattle.models.specs.declared.ErrorBound.{ErrorBound}
 use Rattle.models.proofs.Judged.{same_answer}
 use Rattle.models.proofs.Judged as judging
-use Rattle.stream.specs.Format.{Mode, raw_next, State}
+use Rattle.stream.specs.Format.{Mode, raw_next}
 use Rattle.stream.specs.Write.{Keeps, kept_one, kept_from, kept}
 use Rattle.stream.specs.Calls.{Coder}
 use Rattle.stream.specs.Made.{MadeBy}

@@ -1,6 +1,5 @@
 -- Reading value after value in lent bytes: where reading is, one value more, and the end. Assumes nothing.
 use Rattle.std.specs.Prelude.{Bool, List, [], ℕ, ◌+◌, drop}
-use Rattle.std.proofs.Math.Option.{none}
 use Rattle.bits.specs.Bits.{bits_of}
 use Rattle.models.specs.Answers.{Said, Done, answered, refused}
 use Rattle.stream.specs.Format.{State, window_in, bare}

@@ -1,6 +1,6 @@
 -- Parameters read back bit for bit, each NaN as 7FC00000, against the finished minimum and maximum; and which form is written. Assumes nothing.
 use mathlib.Core.Path.{◌≡◌, refl, ap, ◌∙◌}
-use mathlib.Core.Bool.{true, false, false≢true}
+use mathlib.Core.Bool.{true, false≢true}
 use mathlib.Core.List.{List}
 use Prim.Native.Nat.{ℕ, ◌<◌, ◌≤◌, ◌^◌}
 use borrow.Author.Tests.{eqb-true, eq-eqb, le-ltb}

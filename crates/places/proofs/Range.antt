@@ -16,7 +16,7 @@ use Rattle.models.specs.Answers.{answered, refused}
 use Rattle.models.proofs.Tests.{and_both}
 use Rattle.stream.proofs.Branches.{or_some}
 use Rattle.stream.specs.Calls.{fault_at}
-use Rattle.stream.specs.Format.{Format, opening, Stream, State, fresh, is_opening, leaves_a_bit, Mode, with_first, without_first, raw_next, opened_on, is_raw}
+use Rattle.stream.specs.Format.{Format, opening, Stream, State, fresh, is_opening, leaves_a_bit, Mode, with_first, without_first, raw_next, is_raw}
 use Rattle.stream.specs.Write.{kept, Keeps}
 use Rattle.stream.specs.Read.{StreamRefusal, Reading, done, stopped, read_n, read_all}
 use Rattle.places.specs.Table.{Entry, last_before, entry_of, entries_in, MadeBeside, check_table, entry_before, reads_from, reads_in_all, state_from, may_start, without, read_range}

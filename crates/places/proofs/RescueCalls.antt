@@ -27,7 +27,7 @@ use Rattle.stream.proofs.AnyStream.{cut_left}
 use Rattle.stream.proofs.Calls.{split, joined, in-theory}
 use Rattle.stream.proofs.RescueCalls.{rescue-says, by-the-stream, cut-reads, what-is-rescued}
 use Rattle.places.specs.Table.{Entry, entries_for, entries, entries_in, MadeBeside, table_of}
-use Rattle.places.specs.Calls.{words_each, entries_lent, table_in, laid_entries, Beside, resumed_beside, check_answer, MadeByBeside, OwnTable, over}
+use Rattle.places.specs.Calls.{words_each, entries_lent, table_in, laid_entries, Beside, resumed_beside, check_answer, MadeByBeside, OwnTable}
 use Rattle.places.specs.Rescue.{table_rescue_causes, table_anew, table_rescue_answer, table_rescue_memory, table_rescue_table, RescuesBeside, SavesBeside}
 use Rattle.places.proofs.Entries.{own-number}
 use Rattle.places.proofs.Words.{laid-behind, laid_table, laid-length}

@@ -1,6 +1,6 @@
 -- What a state that may be used, and a time that follows it, tell of its times; and that a step gives such a state. Assumes nothing.
 use mathlib.Core.Path.{◌≡◌, refl, ap}
-use mathlib.Core.Bool.{true, false, ◌&&◌, ◌||◌, false≢true}
+use mathlib.Core.Bool.{true, ◌&&◌, ◌||◌, false≢true}
 use mathlib.Core.Logic.{⊎_elim}
 use Prim.Native.Nat.{ℕ, ◌<◌, ◌≤◌}
 use native.Mathlib.Omega.{arith}

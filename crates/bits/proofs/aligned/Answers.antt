@@ -1,6 +1,5 @@
 -- `bits::aligned`: shifts that lose nothing, joined. Assumes nothing.
 use Rattle.bits.proofs.Words.{aligned-is}
-use borrow.Author.Rules.{rules}
 use Rattle.bits.proofs.aligned.Goals as goal
 
 pub returns : goal.returns

@@ -1,7 +1,6 @@
 -- `bits::byte_of`: a shift and a mask of eight bits. Assumes nothing.
 use Prim.Native.Nat.{◌/◌, ◌^◌}
 use lib.Bits.{and_mask, mask_lt}
-use borrow.Author.Rules.{rules}
 use Rattle.bits.proofs.byte_of.Goals as goal
 
 pub overflow_cast-result : goal.overflow_cast-result

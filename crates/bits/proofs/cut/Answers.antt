@@ -8,7 +8,6 @@ use Rattle.bits.specs.Bits.{field, bits_of, write, up, cut_at}
 use Rattle.bits.proofs.Below.{below_set}
 use Rattle.bits.proofs.InBytes.{cut_in-is, cut_in-whole}
 use Rattle.bits.proofs.Chunks.{byte-write}
-use borrow.Author.Rules.{rules}
 use Rattle.bits.proofs.cut.Goals as goal
 
 pub returns-then-off-ne0 : goal.returns-then-off-ne0

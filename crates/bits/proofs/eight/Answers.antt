@@ -1,7 +1,6 @@
 -- `bits::eight`: the sum of eight bytes is the field of 64 bits. Assumes nothing.
 use mathlib.Core.Path.{◌∙◌}
 use Rattle.bits.proofs.Chunks.{eight_is}
-use borrow.Author.Rules.{rules}
 use Rattle.bits.proofs.eight.Goals as goal
 use Rattle.bits.proofs.eight.Goals.{After-word_of}
 

@@ -6,7 +6,6 @@ use Rattle.bits.specs.Bits.{value, field_at, bits_of}
 use Rattle.bits.proofs.Fields.{field_at-part}
 use Rattle.bits.proofs.Bytes.{length-bits_of}
 use Rattle.bits.proofs.Words.{shl-shr-word}
-use borrow.Author.Rules.{rules}
 use Rattle.bits.proofs.get.Goals as goal
 
 pub returns-then-width-eq0 : goal.returns-then-width-eq0

@@ -1,11 +1,7 @@
 -- `bits::get_by_bytes`. The invariant: v is the field of the bits that are done. Assumes nothing.
-use Prim.Native.Nat.{ℕ, ◌+◌, ◌*◌, ◌/◌, ◌%◌, ◌^◌, ◌<◌, ◌≤◌, ◌-◌}
-use mathlib.Core.Path.{◌≡◌, refl, sym, ap, ap₂, ◌∙◌}
-use native.Mathlib.Omega.{arith}
-use Rattle.bits.specs.Bits.{value, field_at, bits_of}
-use Rattle.bits.proofs.Fields.{field_at-lt}
-use Rattle.bits.proofs.Chunks.{got-more}
-use Rattle.bits.proofs.Words.{shl-fits, mod-is-lt}
+use Prim.Native.Nat.{◌≤◌, ◌-◌}
+use mathlib.Core.Path.{◌≡◌}
+use Rattle.bits.specs.Bits.{field_at, bits_of}
 use Rattle.bits.proofs.get_by_bytes.Given as goal
 
 abbrev pub invariant-loop-done : goal.invariant-loop-done

@@ -1,6 +1,5 @@
 -- `bits::joined`: a shift that loses nothing, and bits that do not meet. Assumes nothing.
 use Rattle.bits.proofs.Words.{shl-or}
-use borrow.Author.Rules.{rules}
 use Rattle.bits.proofs.joined.Goals as goal
 
 pub returns : goal.returns

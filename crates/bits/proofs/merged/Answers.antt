@@ -1,6 +1,5 @@
 -- `bits::merged`: what is kept and what comes in do not meet, and make a byte. Assumes nothing.
 use Rattle.bits.proofs.Words.{merged-lt, merged-is}
-use borrow.Author.Rules.{rules}
 use Rattle.bits.proofs.merged.Goals as goal
 
 pub overflow_cast-result : goal.overflow_cast-result

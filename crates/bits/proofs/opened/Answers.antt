@@ -1,5 +1,4 @@
 -- `bits::opened`: what the byte has before the place, or nothing where the place is the end. Assumes nothing.
-use borrow.Author.Rules.{rules}
 use mathlib.Core.Path.{refl}
 use native.Mathlib.Omega.{arith}
 use Prim.Native.Nat.{◌/◌}

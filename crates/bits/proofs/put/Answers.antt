@@ -5,7 +5,6 @@ use native.Mathlib.Omega.{arith}
 use Rattle.bits.specs.Bits.{field, bits_of, laid}
 use Rattle.bits.proofs.InBytes.{laid_in-nothing, laid_in-is}
 use Rattle.bits.proofs.Chunks.{word-laid}
-use borrow.Author.Rules.{rules}
 use Rattle.bits.proofs.put.Goals as goal
 
 pub returns-then-width-eq0 : goal.returns-then-width-eq0

@@ -1,12 +1,8 @@
 -- `bits::put_word`. The invariant: the first k bytes of the word are laid at the place. Assumes nothing.
-use borrow.Author.Rules.{rules}
-use Prim.Native.Nat.{ℕ, ◌+◌, ◌*◌, ◌/◌, ◌%◌, ◌^◌, ◌≤◌, ◌-◌}
-use mathlib.Core.Path.{◌≡◌, refl, sym, ap, ◌∙◌}
-use native.Mathlib.Omega.{arith}
-use lib.ListN.{length, set, length-set}
-use lib.Pow.{shr-shr}
+use Prim.Native.Nat.{◌*◌, ◌/◌, ◌^◌, ◌≤◌, ◌-◌}
+use mathlib.Core.Path.{◌≡◌}
+use lib.ListN.{length}
 use Rattle.bits.specs.Bits.{field, bits_of, laid}
-use Rattle.bits.proofs.Chunks.{put_byte}
 use Rattle.bits.proofs.put_word.Given as goal
 
 abbrev pub invariant-loop-k : goal.invariant-loop-k

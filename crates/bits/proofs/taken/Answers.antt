@@ -2,7 +2,6 @@
 use Prim.Native.Nat.{◌/◌, ◌^◌}
 use lib.Pow.{pow_pos}
 use Rattle.bits.proofs.Words.{one_shl, masked}
-use borrow.Author.Rules.{rules}
 use Rattle.bits.proofs.taken.Goals as goal
 
 pub overflow_sub-result : goal.overflow_sub-result

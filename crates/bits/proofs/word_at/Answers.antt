@@ -7,7 +7,6 @@ use Rattle.bits.specs.Bits.{field_at, bits_of}
 use Rattle.bits.proofs.Fields.{field_at-add, field_at-lt}
 use Rattle.bits.proofs.Bytes.{length-bits_of}
 use Rattle.bits.proofs.Words.{shl-low}
-use borrow.Author.Rules.{rules}
 use Rattle.bits.proofs.word_at.Goals as goal
 
 pub returns : goal.returns

@@ -3,7 +3,6 @@ use Prim.Native.Nat.{ℕ, ◌+◌, ◌*◌, ◌%◌, ◌^◌}
 use mathlib.Core.Path.{◌≡◌, ap, ◌∙◌}
 use native.Mathlib.Omega.{arith}
 use lib.Bits.{bit_or, or_shifted}
-use borrow.Author.Rules.{rules}
 use Rattle.bits.proofs.word_of.Goals as goal
 
 pub returns : goal.returns

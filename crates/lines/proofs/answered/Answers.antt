@@ -1,5 +1,4 @@
 -- `lines::answered` meets its contract. Assumes nothing.
-use borrow.Author.Rules.{rules}
 use Rattle.lines.specs.Line.{answered_as}
 use Rattle.lines.proofs.answered.Goals as goal
 

@@ -3,8 +3,7 @@ use lib.Ieee as Ieee
 use native.Mathlib.Omega.{arith}
 use mir.Syntax.{w64}
 use mir.ValLaws.{to_z-of_z}
-use borrow.Author.Rules.{rules}
-use lib.Dec.{leb, le→leb}
+use lib.Dec.{le→leb}
 use Rattle.lines.specs.Values.{average_sum}
 use Rattle.lines.proofs.Exact.{time-fits}
 use Rattle.lines.proofs.Ordered.{start-in-time, end-in-time}

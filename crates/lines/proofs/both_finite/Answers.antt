@@ -1,5 +1,4 @@
 -- `lines::both_finite` meets its contract. Assumes nothing.
-use borrow.Author.Rules.{rules}
 use Rattle.lines.proofs.both_finite.Goals as goal
 
 pub returns : goal.returns

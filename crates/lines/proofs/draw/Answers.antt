@@ -1,13 +1,10 @@
-use mathlib.Core.Path.{sym, ◌∙◌, ◌≡◌, refl}
-use Prim.Native.Nat.{◌≤◌, ◌-◌}
+use mathlib.Core.Path.{sym, ◌∙◌, refl}
 use native.Mathlib.Omega.{arith}
 use mir.Syntax.{w64}
 use mir.ValLaws.{to_z-of_z}
 use borrow.Author.Rules.{rules}
 use lib.IntN.{pos}
-use lib.ListN.{get_or, length, drop, length-set}
-use lib.Seq.{sets}
-use mathlib.Core.List.{map}
+use lib.ListN.{get_or, length-set}
 use Rattle.lines.specs.Values.{line_drawn_at}
 use Rattle.lines.proofs.Exact.{time-fits}
 use Rattle.lines.proofs.Ordered.{in-order-at, sets-here, sets-done, sets-drawn}

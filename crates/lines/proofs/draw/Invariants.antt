@@ -1,17 +1,10 @@
 -- `lines::draw` meets its contract: what is left to store, from i on. Assumes nothing.
-use mathlib.Core.Path.{sym, ◌∙◌, ◌≡◌, refl}
+use mathlib.Core.Path.{◌≡◌}
 use Prim.Native.Nat.{◌≤◌, ◌-◌}
-use native.Mathlib.Omega.{arith}
-use mir.Syntax.{w64}
-use mir.ValLaws.{to_z-of_z}
-use borrow.Author.Rules.{rules}
-use lib.IntN.{pos}
-use lib.ListN.{get_or, length, drop, length-set}
+use lib.ListN.{length, drop}
 use lib.Seq.{sets}
 use mathlib.Core.List.{map}
 use Rattle.lines.specs.Values.{line_drawn_at}
-use Rattle.lines.proofs.Exact.{time-fits}
-use Rattle.lines.proofs.Ordered.{in-order-at, sets-here, sets-done, sets-drawn}
 use Rattle.lines.proofs.draw.Given as goal
 
 abbrev pub invariant-loop-i : goal.invariant-loop-i

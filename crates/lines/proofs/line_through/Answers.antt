@@ -2,7 +2,6 @@
 use lib.Ieee as Ieee
 use mir.Syntax.{w64}
 use mir.ValLaws.{to_z-of_z}
-use borrow.Author.Rules.{rules}
 use Rattle.lines.specs.Line.{line_through}
 use Rattle.lines.proofs.Exact.{time-whole, time-fits}
 use Rattle.lines.proofs.line_through.Goals as goal

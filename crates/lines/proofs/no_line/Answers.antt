@@ -1,5 +1,4 @@
 -- `lines::no_line` meets its contract. Assumes nothing.
-use borrow.Author.Rules.{rules}
 use Rattle.lines.specs.Values.{no_line}
 use Rattle.lines.proofs.no_line.Goals as goal
 

@@ -1,7 +1,6 @@
 -- `lines::point_of` meets its contract. Assumes nothing.
 use mir.Syntax.{w64}
 use mir.ValLaws.{to_z-of_z}
-use borrow.Author.Rules.{rules}
 use Rattle.lines.proofs.point_of.Goals as goal
 
 pub returns : goal.returns

@@ -1,14 +1,11 @@
 use lib.Ieee as Ieee
-use mathlib.Core.Path.{sym, ◌∙◌, ◌≡◌, refl}
-use Prim.Native.Nat.{◌≤◌, ◌-◌}
+use mathlib.Core.Path.{sym, ◌∙◌, refl}
 use native.Mathlib.Omega.{arith}
 use mir.Syntax.{w64}
 use mir.ValLaws.{to_z-of_z}
 use borrow.Author.Rules.{rules}
 use lib.IntN.{pos}
-use lib.ListN.{get_or, length, drop}
-use Rattle.models.specs.Floats.{zero_f}
-use Rattle.lines.specs.Values.{sum_from}
+use lib.ListN.{get_or}
 use Rattle.lines.proofs.Exact.{time-fits}
 use Rattle.lines.proofs.Ordered.{in-order-at, sum-here, sum_done}
 use Rattle.lines.proofs.total.Goals as goal

@@ -1,17 +1,9 @@
 -- `lines::total` meets its contract: the sum so far, and the times from i on. Assumes nothing.
-use lib.Ieee as Ieee
-use mathlib.Core.Path.{sym, ◌∙◌, ◌≡◌, refl}
+use mathlib.Core.Path.{◌≡◌}
 use Prim.Native.Nat.{◌≤◌, ◌-◌}
-use native.Mathlib.Omega.{arith}
-use mir.Syntax.{w64}
-use mir.ValLaws.{to_z-of_z}
-use borrow.Author.Rules.{rules}
-use lib.IntN.{pos}
-use lib.ListN.{get_or, length, drop}
+use lib.ListN.{length, drop}
 use Rattle.models.specs.Floats.{zero_f}
 use Rattle.lines.specs.Values.{sum_from}
-use Rattle.lines.proofs.Exact.{time-fits}
-use Rattle.lines.proofs.Ordered.{in-order-at, sum-here, sum_done}
 use Rattle.lines.proofs.total.Given as goal
 
 abbrev pub invariant-loop-i : goal.invariant-loop-i

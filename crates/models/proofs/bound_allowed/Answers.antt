@@ -1,6 +1,5 @@
 -- `models::bound_allowed` meets its contract, variant by variant.
 -- Assumes nothing.
-use borrow.Author.Rules.{rules}
 use lib.Ieee as Ieee
 use Rattle.models.specs.Bound.{bound_allowed}
 use Rattle.models.proofs.bound_allowed.Goals as goal

@@ -1,5 +1,4 @@
 -- `models::fault_of` meets its contract, number by number. Assumes nothing.
-use borrow.Author.Rules.{rules}
 use Rattle.models.proofs.fault_of.Goals as goal
 
 pub returns : goal.returns

@@ -1,6 +1,5 @@
 -- `models::is_near` meets its contract, variant by variant.
 -- Assumes nothing.
-use borrow.Author.Rules.{rules}
 use lib.Ieee as Ieee
 use Rattle.models.specs.Bound.{near_in}
 use Rattle.models.proofs.Laws.{size-at-most, percent-at-most}

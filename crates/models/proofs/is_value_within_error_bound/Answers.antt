@@ -1,5 +1,4 @@
 -- `models::is_value_within_error_bound` meets its contract. Assumes nothing.
-use borrow.Author.Rules.{rules}
 use Rattle.models.specs.Answers.{judge}
 use Rattle.models.specs.Calls.{within_answer}
 use Rattle.models.proofs.is_value_within_error_bound.Goals as goal

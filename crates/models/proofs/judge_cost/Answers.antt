@@ -1,6 +1,5 @@
 -- `models::judge_cost` meets its contract. Assumes nothing.
 use Rattle.models.specs.Answers.{judge}
-use borrow.Author.Rules.{rules}
 use Rattle.models.proofs.judge_cost.Goals as goal
 
 pub returns : goal.returns

@@ -1,6 +1,5 @@
 -- `models::judge_model` meets its contract. Assumes nothing.
 use Rattle.models.specs.Answers.{judge}
-use borrow.Author.Rules.{rules}
 use Rattle.models.proofs.judge_model.Goals as goal
 
 pub returns : goal.returns

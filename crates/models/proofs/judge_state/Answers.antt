@@ -1,6 +1,5 @@
 -- `models::judge_state` meets its contract: the tests are those of the causes. Assumes nothing.
 use Rattle.models.specs.Answers.{judge}
-use borrow.Author.Rules.{rules}
 use Rattle.models.proofs.judge_state.Goals as goal
 
 pub returns : goal.returns

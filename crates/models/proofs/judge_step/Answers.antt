@@ -1,6 +1,5 @@
 -- `models::judge_step` meets its contract. Assumes nothing.
 use Rattle.models.specs.Answers.{judge}
-use borrow.Author.Rules.{rules}
 use Rattle.models.proofs.judge_step.Goals as goal
 
 pub returns : goal.returns

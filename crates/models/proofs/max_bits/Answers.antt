@@ -1,5 +1,4 @@
 -- `models::max_bits` meets its contract. Assumes nothing.
-use borrow.Author.Rules.{rules}
 use lib.Ieee as Ieee
 use lib.Ieee.{Float, binary32, of_bits}
 use Rattle.models.specs.Floats.{max_bits}

@@ -1,5 +1,4 @@
 -- `models::maximum_allowed_deviation` meets its contract. Assumes nothing.
-use borrow.Author.Rules.{rules}
 use Rattle.models.specs.Answers.{judge}
 use Rattle.models.specs.Calls.{deviation_answer}
 use Rattle.models.proofs.maximum_allowed_deviation.Goals as goal

@@ -1,5 +1,4 @@
 -- `models::min_bits` meets its contract. Assumes nothing.
-use borrow.Author.Rules.{rules}
 use lib.Ieee as Ieee
 use lib.Ieee.{binary32, of_bits}
 use Rattle.models.specs.Floats.{min_bits}

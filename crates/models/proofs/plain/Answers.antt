@@ -1,5 +1,4 @@
 -- `models::plain` meets its contract. Assumes nothing.
-use borrow.Author.Rules.{rules}
 use Rattle.models.specs.Floats.{plain_bits}
 use Rattle.models.proofs.plain.Goals as goal
 

@@ -1,5 +1,4 @@
 -- `models::within` meets its contract: widening changes no value. Assumes nothing.
-use borrow.Author.Rules.{rules}
 use Rattle.models.proofs.within.Goals as goal
 
 pub returns : goal.returns

@@ -1,5 +1,4 @@
 -- `models::within_wide` meets its contract: near, or equal-or-NaN. Assumes nothing.
-use borrow.Author.Rules.{rules}
 use mathlib.Core.Path.{sym, ◌∙◌}
 use Rattle.models.specs.Floats.{equal_or_nan}
 use Rattle.models.specs.Bound.{within_in}

@@ -1,7 +1,6 @@
 -- `numbers::bits_of_f64` meets its contract. Assumes nothing.
 use lib.Ieee.{binary64}
 use Rattle.numbers.proofs.Nans.{equals_itself, pattern-of-nan}
-use borrow.Author.Rules.{rules}
 use Rattle.numbers.proofs.bits_of_f64.Goals as goal
 
 pub float_to_bits-result : goal.float_to_bits-result

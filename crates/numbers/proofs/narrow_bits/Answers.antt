@@ -6,7 +6,6 @@ use lib.Bits.{bit_and, and_mask, and_le_r}
 use Rattle.numbers.specs.Inner.Patterns.{digits, place}
 use Rattle.numbers.proofs.Read.{digits_lt}
 use Rattle.numbers.proofs.Convert.{narrow, narrow-is}
-use borrow.Author.Rules.{rules}
 use Rattle.numbers.proofs.narrow_bits.Goals as goal
 
 pub narrow_size-requires : goal.narrow_size-requires

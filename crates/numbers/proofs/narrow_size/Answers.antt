@@ -2,7 +2,6 @@
 use Prim.Native.Nat.{◌+◌, ◌^◌}
 use native.Mathlib.Omega.{arith}
 use Rattle.numbers.proofs.Shifts.{closest-le}
-use borrow.Author.Rules.{rules}
 use Rattle.numbers.proofs.narrow_size.Goals as goal
 
 pub overflow_add-less-2 : goal.overflow_add-less-2

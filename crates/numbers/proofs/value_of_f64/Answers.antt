@@ -2,7 +2,6 @@
 use mathlib.Core.Path.{refl}
 use lib.Ieee.{binary64}
 use Rattle.numbers.proofs.Nans.{masked-nan, masked-number}
-use borrow.Author.Rules.{rules}
 use Rattle.numbers.proofs.value_of_f64.Goals as goal
 
 pub float_from_bits-result : goal.float_from_bits-result

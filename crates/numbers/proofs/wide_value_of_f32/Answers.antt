@@ -5,7 +5,6 @@ use lib.Dec.{T}
 use lib.Ieee.{binary32, binary64, of_bits}
 use lib.Ieee.Bits.{nan_bits_is, of_bits-fits}
 use Rattle.numbers.proofs.Nans.{widens, masked-nan, masked-number, zero_by_zero}
-use borrow.Author.Rules.{rules}
 use Rattle.numbers.proofs.wide_value_of_f32.Goals as goal
 
 pub float_from_bits-result : goal.float_from_bits-result

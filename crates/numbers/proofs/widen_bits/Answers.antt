@@ -8,7 +8,6 @@ use lib.Ieee.{binary32}
 use Rattle.numbers.specs.Inner.Patterns.{digits, place, encoded}
 use Rattle.numbers.proofs.Read.{digits_lt, no_nan}
 use Rattle.numbers.proofs.Convert.{widened, widened-inf}
-use borrow.Author.Rules.{rules}
 use Rattle.numbers.proofs.widen_bits.Goals as goal
 use Rattle.numbers.proofs.widen_bits.Goals.{Else-mag-eq2139095040}
 

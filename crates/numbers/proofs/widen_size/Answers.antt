@@ -9,7 +9,6 @@ use lib.Ieee.{size}
 use lib.Ieee.Digits.{size-le}
 use Rattle.numbers.specs.Inner.Patterns.{encoded}
 use Rattle.numbers.proofs.Encode.{encoded-low, encoded-moved, moved-lt}
-use borrow.Author.Rules.{rules}
 use Rattle.numbers.proofs.widen_size.Goals as goal
 use Rattle.numbers.proofs.widen_size.Goals.{After-length-z}
 

@@ -3,7 +3,6 @@ use mathlib.Core.Path.{sym, ◌∙◌, subst}
 use lib.Dec.{T}
 use lib.Ieee.{binary64}
 use Rattle.numbers.proofs.Nans.{differs, equals_itself, widens, zero_by_zero}
-use borrow.Author.Rules.{rules}
 use Rattle.numbers.proofs.wider.Goals as goal
 
 pub float_to_float-result : goal.float_to_float-result

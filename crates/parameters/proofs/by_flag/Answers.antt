@@ -1,5 +1,4 @@
 -- `parameters::by_flag` meets its contract. Assumes nothing.
-use borrow.Author.Rules.{rules}
 use borrow.Author.Tests.{eq-eqb, ne_eqb}
 use Rattle.parameters.specs.Forms.{by_flag}
 use Rattle.parameters.proofs.by_flag.Goals as goal

@@ -1,5 +1,4 @@
 -- `parameters::decode_values_for_pmc_mean` meets its contract. Assumes nothing.
-use borrow.Author.Rules.{rules}
 use Rattle.parameters.specs.Forms.{pmc_mean_from}
 use Rattle.models.specs.Floats.{plain_bits}
 use Rattle.models.specs.Answers.{answered}

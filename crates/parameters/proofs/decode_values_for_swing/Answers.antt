@@ -1,5 +1,4 @@
 -- `parameters::decode_values_for_swing` meets its contract. Assumes nothing.
-use borrow.Author.Rules.{rules}
 use Rattle.parameters.specs.Forms.{swing_from}
 use lib.ListN.{length}
 use borrow.Author.Tests.{eq-eqb, ne_eqb}

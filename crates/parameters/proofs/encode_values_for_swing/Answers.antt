@@ -1,5 +1,4 @@
 -- `parameters::encode_values_for_swing` meets its contract. Assumes nothing.
-use borrow.Author.Rules.{rules}
 use Rattle.parameters.proofs.encode_values_for_swing.Goals as goal
 
 pub returns : goal.returns

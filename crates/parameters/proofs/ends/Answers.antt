@@ -1,5 +1,4 @@
 -- `parameters::ends` meets its contract. Assumes nothing.
-use borrow.Author.Rules.{rules}
 use Rattle.parameters.proofs.ends.Goals as goal
 
 pub returns : goal.returns

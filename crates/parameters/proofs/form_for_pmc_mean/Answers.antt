@@ -1,5 +1,4 @@
 -- `parameters::form_for_pmc_mean` meets its contract. Assumes nothing.
-use borrow.Author.Rules.{rules}
 use Rattle.parameters.specs.Forms.{pmc_mean_form}
 use borrow.Author.Tests.{eq-eqb, ne_eqb}
 use Rattle.parameters.proofs.form_for_pmc_mean.Goals as goal

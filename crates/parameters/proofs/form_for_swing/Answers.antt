@@ -1,5 +1,4 @@
 -- `parameters::form_for_swing` meets its contract. Assumes nothing.
-use borrow.Author.Rules.{rules}
 use Rattle.parameters.specs.Forms.{swing_form}
 use Rattle.parameters.proofs.form_for_swing.Goals as goal
 

@@ -1,5 +1,4 @@
 -- `parameters::hand_out` meets its contract. Assumes nothing.
-use borrow.Author.Rules.{rules}
 use Rattle.parameters.specs.Calls.{length_answer, bytes_after}
 use Rattle.parameters.specs.Forms.{form_bytes}
 use Rattle.models.specs.Answers.{answered, judge}

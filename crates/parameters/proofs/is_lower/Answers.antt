@@ -1,5 +1,4 @@
 -- `parameters::is_lower` meets its contract. Assumes nothing.
-use borrow.Author.Rules.{rules}
 use Rattle.parameters.proofs.is_lower.Goals as goal
 
 pub returns : goal.returns

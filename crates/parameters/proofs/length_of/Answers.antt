@@ -1,5 +1,4 @@
 -- `parameters::length_of` meets its contract. Assumes nothing.
-use borrow.Author.Rules.{rules}
 use Rattle.parameters.specs.Bytes.{little_endian}
 use Rattle.parameters.proofs.length_of.Goals as goal
 

@@ -1,5 +1,4 @@
 -- `parameters::pmc_mean_in` meets its contract. Assumes nothing.
-use borrow.Author.Rules.{rules}
 use Rattle.parameters.proofs.Read.{value_read}
 use native.Mathlib.Omega.{arith}
 use mathlib.Core.Path.{sym}

@@ -1,5 +1,4 @@
 -- `parameters::put` meets its contract. Assumes nothing.
-use borrow.Author.Rules.{rules}
 use mathlib.Core.Path.{◌∙◌}
 use Rattle.parameters.proofs.put.Goals as goal
 

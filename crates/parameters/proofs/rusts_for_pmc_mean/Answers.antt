@@ -1,5 +1,4 @@
 -- `parameters::rusts_for_pmc_mean` meets its contract. Assumes nothing.
-use borrow.Author.Rules.{rules}
 use Rattle.parameters.specs.Forms.{rusts_for_pmc_mean}
 use Rattle.parameters.proofs.rusts_for_pmc_mean.Goals as goal
 

@@ -1,5 +1,4 @@
 -- `parameters::rusts_for_swing` meets its contract. Assumes nothing.
-use borrow.Author.Rules.{rules}
 use Rattle.parameters.specs.Forms.{rusts_for_swing}
 use Rattle.parameters.proofs.rusts_for_swing.Goals as goal
 

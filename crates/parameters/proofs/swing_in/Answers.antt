@@ -1,5 +1,4 @@
 -- `parameters::swing_in` meets its contract. Assumes nothing.
-use borrow.Author.Rules.{rules}
 use Rattle.parameters.specs.Bytes.{little_endian}
 use Rattle.parameters.proofs.Read.{flagged-read, both_read}
 use Rattle.parameters.specs.Forms.{swing_from}

@@ -1,5 +1,4 @@
 -- `parameters::value_at` meets its contract. Assumes nothing.
-use borrow.Author.Rules.{rules}
 use Rattle.parameters.proofs.Bytes.{four_bytes}
 use mathlib.Core.Path.{◌∙◌}
 use Rattle.parameters.proofs.value_at.Goals as goal

@@ -1,5 +1,4 @@
 -- `parameters::word_of` meets its contract. Assumes nothing.
-use borrow.Author.Rules.{rules}
 use Rattle.parameters.proofs.Bytes.{byte-first, two-parts}
 use Rattle.parameters.specs.Bytes.{little_endian}
 use native.Mathlib.Omega.{arith}

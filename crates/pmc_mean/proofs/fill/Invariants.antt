@@ -1,11 +1,8 @@
 -- `pmc_mean::fill` meets its contract: the first i places are filled. Assumes nothing.
-use mathlib.Core.Path.{◌≡◌, ap, ◌∙◌}
-use Prim.Native.Nat.{ℕ, ◌≤◌, ◌-◌}
-use native.Mathlib.Omega.{arith}
-use lib.ListN.{length, length-set}
-use borrow.Author.Rules.{rules}
+use mathlib.Core.Path.{◌≡◌}
+use Prim.Native.Nat.{◌≤◌, ◌-◌}
+use lib.ListN.{length}
 use Rattle.pmc_mean.specs.Grid.{filled}
-use Rattle.pmc_mean.proofs.Stores.{filled_none, filled_more}
 use Rattle.pmc_mean.proofs.fill.Given as goal
 
 abbrev pub invariant-loop-i : goal.invariant-loop-i

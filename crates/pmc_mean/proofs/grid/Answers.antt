@@ -5,7 +5,6 @@ use lib.ListN.{length}
 use Rattle.models.specs.Answers.{refused, keeping}
 use Rattle.models.proofs.Judged.{none-holds, when-passed, when-refused}
 use Rattle.pmc_mean.specs.Grid.{grid_causes, grid_memory}
-use borrow.Author.Rules.{rules}
 use Rattle.pmc_mean.proofs.grid.Goals as goal
 
 pub fill-requires : goal.fill-requires

@@ -1,6 +1,5 @@
 -- `pmc_mean::judge_grid` meets its contract: the tests are those of the list of causes. Assumes nothing.
 use Rattle.models.specs.Answers.{judge}
-use borrow.Author.Rules.{rules}
 use Rattle.pmc_mean.proofs.judge_grid.Goals as goal
 
 pub returns : goal.returns

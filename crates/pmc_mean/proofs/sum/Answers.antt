@@ -6,7 +6,6 @@ use borrow.Author.Tests.{lt-ltb, le-ltb}
 use Rattle.models.specs.Limits.{most_values}
 use Rattle.models.specs.Answers.{judge}
 use Rattle.pmc_mean.specs.Grid.{sum_answer}
-use borrow.Author.Rules.{rules}
 use Rattle.pmc_mean.proofs.sum.Goals as goal
 
 pub returns-then-length-gt-MOST_VALUES : goal.returns-then-length-gt-MOST_VALUES

@@ -1,5 +1,4 @@
 -- `judge_line` meets its contract: the tests are those of the list of causes. Assumes nothing.
-use borrow.Author.Rules.{rules}
 use Rattle.models.specs.Answers.{judge}
 use Rattle.swing.proofs.judge_line.Goals as goal
 

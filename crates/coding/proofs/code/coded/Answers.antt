@@ -1,5 +1,4 @@
 -- `coding::code::coded` meets its contract: a raw value is its own bits. Assumes nothing.
-use borrow.Author.Rules.{rules}
 use mathlib.Core.Path.{refl, subst⁻¹}
 use mathlib.Core.Bool.{Bool}
 use native.Mathlib.Omega.{arith}

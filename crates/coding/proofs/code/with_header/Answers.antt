@@ -1,5 +1,4 @@
 -- `coding::code::with_header` meets its contract: the header and the low bits do not meet. Assumes nothing.
-use borrow.Author.Rules.{rules}
 use Prim.Native.Nat.{◌+◌, ◌*◌}
 use native.Mathlib.Omega.{arith}
 use Rattle.coding.proofs.Coding.{header_is}

@@ -1,5 +1,4 @@
 -- `coding::decode::in_full` meets its contract: its bits are the first 32. Assumes nothing.
-use borrow.Author.Rules.{rules}
 use native.Mathlib.Omega.{arith}
 use Rattle.stream.specs.Format.{window_in}
 use Rattle.coding.proofs.Decoding.{raw-cut, raw-got}

@@ -1,5 +1,4 @@
 -- `coding::decode::in_place` meets its contract: what stands below the window is masked off. Assumes nothing.
-use borrow.Author.Rules.{rules}
 use Prim.Native.Nat.{◌+◌, ◌-◌, ◌*◌, ◌/◌, ◌%◌, ◌^◌}
 use native.Mathlib.Omega.{arith}
 use lib.Bits.{and_le_l}

@@ -1,5 +1,4 @@
 -- `coding::decode::in_window` meets its contract, branch by branch. Assumes nothing.
-use borrow.Author.Rules.{rules}
 use mathlib.Core.Path.{◌≡◌, ◌∙◌, ap}
 use mathlib.Core.Bool.{false, not}
 use Prim.Native.Nat.{◌+◌, ◌<◌}

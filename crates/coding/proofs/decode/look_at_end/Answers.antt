@@ -1,5 +1,4 @@
 -- `coding::decode::look_at_end` meets its contract: there are 45 bits, or it takes all of them. Assumes nothing.
-use borrow.Author.Rules.{rules}
 use mathlib.Core.Path.{refl}
 use Prim.Native.Nat.{◌-◌, ◌*◌, ◌/◌, ◌%◌, ◌^◌}
 use native.Mathlib.Omega.{arith}

@@ -1,5 +1,4 @@
 -- `coding::decode::with_window` meets its contract, branch by branch. Assumes nothing.
-use borrow.Author.Rules.{rules}
 use mathlib.Core.Logic.{inl, inr}
 use native.Mathlib.Omega.{arith}
 use Rattle.stream.specs.Format.{window_in}

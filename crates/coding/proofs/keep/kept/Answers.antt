@@ -1,5 +1,4 @@
 -- `coding::keep::kept` meets its contract, bound by bound. Assumes nothing.
-use borrow.Author.Rules.{rules}
 use mathlib.Core.Path.{sym, ap, ◌∙◌}
 use Rattle.models.specs.declared.ErrorBound.{ErrorBound}
 use Rattle.coding.specs.Keep.{keep_rule}

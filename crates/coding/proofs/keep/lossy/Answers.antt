@@ -1,5 +1,4 @@
 -- `coding::keep::lossy` meets its contract, test by test. Assumes nothing.
-use borrow.Author.Rules.{rules}
 use mathlib.Core.Path.{◌≡◌, sym, ap, ◌∙◌}
 use lib.Ieee.{Float, binary32, of_bits}
 use Rattle.models.specs.Bound.{within}

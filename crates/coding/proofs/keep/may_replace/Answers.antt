@@ -1,5 +1,4 @@
 -- `coding::keep::may_replace` meets its contract: each step says what it gives. Assumes nothing.
-use borrow.Author.Rules.{rules}
 use Rattle.coding.proofs.keep.may_replace.Goals as goal
 
 pub returns : goal.returns

@@ -1,5 +1,4 @@
 -- `coding::keep::shortest` meets its contract: what was guessed is tested, and otherwise all is tried. Assumes nothing.
-use borrow.Author.Rules.{rules}
 use mathlib.Core.Path.{sym, ◌∙◌}
 use Rattle.coding.proofs.keep.shortest.Goals as goal
 

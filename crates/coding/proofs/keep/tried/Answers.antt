@@ -1,10 +1,9 @@
-use borrow.Author.Rules.{rules}
 use mathlib.Core.Path.{◌≡◌, refl, sym, ap, ap₂, ◌∙◌}
-use Prim.Native.Nat.{ℕ, ◌≤◌}
+use Prim.Native.Nat.{ℕ}
 use native.Mathlib.Omega.{arith}
 use lib.Ieee.{Float, binary32, of_bits}
 use Rattle.models.specs.Bound.{within}
-use Rattle.coding.specs.Keep.{may_replace, cleared, shortened, most_cleared}
+use Rattle.coding.specs.Keep.{may_replace, cleared, shortened}
 use Rattle.coding.proofs.Keeping.{shortened-yes, shortened-no}
 use Rattle.coding.proofs.keep.tried.Goals as goal
 use Rattle.coding.proofs.keep.tried.Goals.{After-may_replace}

@@ -1,14 +1,11 @@
-use mathlib.Core.Path.{◌≡◌}
-use Prim.Native.Nat.{◌≤◌, ◌-◌}
 use native.Mathlib.Omega.{arith}
 use mir.Syntax.{w64}
 use mir.ValLaws.{to_z-of_z}
 use mir.Val.{to_z}
 use borrow.Author.Rules.{rules}
-use borrow.Author.Tests.{not-true, not-false}
 use lib.IntN.{pos}
-use lib.ListN.{get_or, length, drop}
-use Rattle.lines.specs.Times.{in_order, after}
+use lib.ListN.{get_or}
+use Rattle.lines.specs.Times.{after}
 use Rattle.lines.proofs.Ordered.{after-all, after-here, drop-end}
 use Rattle.lines.proofs.times.in_order.Goals as goal
 

@@ -1,5 +1,4 @@
 -- `macaque_v::MacaqueV::compress_values` meets its contract: refused by the first cause that holds, else written. Assumes nothing.
-use borrow.Author.Rules.{rules}
 use mathlib.Core.Path.{◌≡◌, sym, ap, ◌∙◌}
 use mathlib.Core.Bool.{false≢true}
 use Prim.Native.Nat.{ℕ}

@@ -1,5 +1,4 @@
 -- `macaque_v::MacaqueV::has_room` meets its contract: the values take no more than the most that they can. Assumes nothing.
-use borrow.Author.Rules.{rules}
 use mathlib.Core.Path.{◌≡◌, sym, ap, ◌∙◌}
 use mathlib.Core.Bool.{Bool}
 use Prim.Native.Nat.{◌*◌}

@@ -1,5 +1,4 @@
 -- `macaque_v::MacaqueV::judge_start` meets its contract: the tests are those of the list of causes. Assumes nothing.
-use borrow.Author.Rules.{rules}
 use Rattle.models.specs.Answers.{judge}
 use Rattle.macaque_v.proofs.MacaqueV.judge_start.Goals as goal
 

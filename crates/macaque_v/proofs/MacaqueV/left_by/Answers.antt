@@ -1,5 +1,4 @@
 -- `macaque_v::MacaqueV::left_by` meets its contract. Assumes nothing.
-use borrow.Author.Rules.{rules}
 use mathlib.Core.Path.{◌≡◌, refl, sym, ap, ap₂, ◌∙◌}
 use Prim.Native.Nat.{ℕ, zero, suc, ◌+◌}
 use Rattle.macaque_v.specs.State.{ends_in, state_of}

@@ -1,5 +1,4 @@
 -- `macaque_v::MacaqueV::most_bytes` meets its contract: it rounds up what `most_bits` answers. Assumes nothing.
-use borrow.Author.Rules.{rules}
 use mathlib.Core.Path.{◌≡◌, sym, ap, ◌∙◌}
 use Prim.Native.Nat.{ℕ, ◌≤◌}
 use native.Mathlib.Omega.{arith}

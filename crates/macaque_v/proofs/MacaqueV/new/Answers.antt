@@ -1,5 +1,4 @@
 -- `macaque_v::MacaqueV::new` meets its contract. Assumes nothing.
-use borrow.Author.Rules.{rules}
 use lib.Ieee.{of_bits}
 use Rattle.models.specs.Answers.{judge}
 use Rattle.macaque_v.specs.Calls.{new_answer}

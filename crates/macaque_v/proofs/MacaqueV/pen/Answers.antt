@@ -1,6 +1,5 @@
 -- `macaque_v::MacaqueV::pen` meets its contract. Assumes nothing.
-use borrow.Author.Rules.{rules}
-use mathlib.Core.Path.{◌≡◌, ap, ap₂, ◌∙◌}
+use mathlib.Core.Path.{ap, ap₂, ◌∙◌}
 use mathlib.Core.Bool.{Bool}
 use lib.Ieee.{Float}
 use Rattle.macaque_v.specs.Inner.Total.{added_to}

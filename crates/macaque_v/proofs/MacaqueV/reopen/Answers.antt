@@ -1,5 +1,4 @@
 -- `macaque_v::MacaqueV::reopen` meets its contract: refused by the first cause that holds, else by the stream, else reopened. Assumes nothing.
-use borrow.Author.Rules.{rules}
 use mathlib.Core.Path.{◌∙◌}
 use borrow.Author.Tests.{ltb-false}
 use lib.Dec.{ltb}

@@ -1,5 +1,4 @@
 -- `macaque_v::MacaqueV::rescue` meets its contract: refused by the first cause that holds, else by damage, else opened. Assumes nothing.
-use borrow.Author.Rules.{rules}
 use mathlib.Core.Path.{sym, ◌∙◌}
 use Prim.Native.Nat.{◌≤◌}
 use lib.ListN.{length, take}

@@ -1,8 +1,7 @@
-use borrow.Author.Rules.{rules}
 use mathlib.Core.Path.{◌≡◌, sym, ap, ◌∙◌, subst}
 use mathlib.Core.Bool.{Bool, true}
 use mathlib.Core.List.{List}
-use Prim.Native.Nat.{ℕ, ◌+◌, ◌-◌, ◌*◌, ◌/◌, ◌^◌, ◌≤◌, ◌<◌}
+use Prim.Native.Nat.{ℕ, ◌+◌, ◌*◌, ◌/◌, ◌^◌, ◌≤◌, ◌<◌}
 use native.Mathlib.Omega.{arith}
 use lib.ListN.{length}
 use lib.Seq.{take_all}
@@ -10,7 +9,6 @@ use lib.Dec.{ltb, eqb}
 use Rattle.bits.specs.Bits.{field}
 use Rattle.bits.proofs.Fields.{length-field}
 use Rattle.bits.proofs.InBytes.{length-laid_in}
-use Rattle.models.specs.Limits.{most_values}
 use Rattle.stream.specs.Format.{State}
 use Rattle.stream.specs.Write.{bits_one}
 use Rattle.places.specs.Table.{spacing}
@@ -307,9 +305,13 @@ shape_of-table-then-lay-i c = c.loop-i.invariant.3.long
 pub returns-then-lay-i : goal.returns-then-lay-i
 returns-then-lay-i c =
     let l = c in
-    let t = c.if-lay-i.true in record { state = c.left_by.ensures ∙ left (goal.at.returns-then-lay-i c).After-loop-i.before; bytes = lay-end (lay (goal.at.returns-then-lay-i l).At-loop-i.before) (self (goal.at.returns-then-lay-i l).At-loop-i.before) (values (goal.at.returns-then-lay-i l).At-loop-i.before) (buffer₀ (goal.at.returns-then-lay-i l).At-loop-i.before) l.loop-i.i l.loop-i.buffer l.loop-i.waiting c.put.new.bytes l.loop-i.invariant.2 (and_left (lay (goal.at.returns-then-lay-i l).At-loop-i.before) (ltb 0 l.loop-i.i) t)
-            (ltb-true 0 l.loop-i.i (and_right (lay (goal.at.returns-then-lay-i l).At-loop-i.before) (ltb 0 l.loop-i.i) t)) c.loop-i-test.false c.put.ensures
-            ∙ ap (λ (b : List ℕ). laid_where (lay (goal.at.returns-then-lay-i l).At-loop-i.before) b (self (goal.at.returns-then-lay-i l).At-loop-i.before).place (written_by (self (goal.at.returns-then-lay-i l).At-loop-i.before) (values (goal.at.returns-then-lay-i l).At-loop-i.before))) (begun (goal.at.returns-then-lay-i l).At-loop-i.before); words = all_noted (goal.at.returns-then-lay-i c).After-loop-i.before }
+    let t = c.if-lay-i.true in record {
+      state = c.left_by.ensures ∙ left (goal.at.returns-then-lay-i c).After-loop-i.before;
+      bytes = lay-end (lay (goal.at.returns-then-lay-i l).At-loop-i.before) (self (goal.at.returns-then-lay-i l).At-loop-i.before) (values (goal.at.returns-then-lay-i l).At-loop-i.before) (buffer₀ (goal.at.returns-then-lay-i l).At-loop-i.before) l.loop-i.i l.loop-i.buffer l.loop-i.waiting c.put.new.bytes l.loop-i.invariant.2 (and_left (lay (goal.at.returns-then-lay-i l).At-loop-i.before) (ltb 0 l.loop-i.i) t)
+          (ltb-true 0 l.loop-i.i (and_right (lay (goal.at.returns-then-lay-i l).At-loop-i.before) (ltb 0 l.loop-i.i) t)) c.loop-i-test.false c.put.ensures
+          ∙ ap (λ (b : List ℕ). laid_where (lay (goal.at.returns-then-lay-i l).At-loop-i.before) b (self (goal.at.returns-then-lay-i l).At-loop-i.before).place (written_by (self (goal.at.returns-then-lay-i l).At-loop-i.before) (values (goal.at.returns-then-lay-i l).At-loop-i.before))) (begun (goal.at.returns-then-lay-i l).At-loop-i.before);
+      words = all_noted (goal.at.returns-then-lay-i c).After-loop-i.before;
+    }
 
 pub shape_of-buffer : goal.shape_of-buffer
 shape_of-buffer c =
@@ -321,8 +323,12 @@ shape_of-table c = c.loop-i.invariant.3.long
 
 pub returns : goal.returns
 returns c =
-    let l = c in record { state = c.left_by-2.ensures ∙ left (goal.at.returns c).After-loop-i.before; bytes = lay-none (lay (goal.at.returns l).At-loop-i.before) (self (goal.at.returns l).At-loop-i.before) (values (goal.at.returns l).At-loop-i.before) (buffer₀ (goal.at.returns l).At-loop-i.before) l.loop-i.i l.loop-i.buffer l.loop-i.waiting (λ n. (l.slice_known-3-1.given n).fits) l.loop-i.invariant.2 c.if-lay-i.false c.loop-i-test.false
-            ∙ ap (λ (b : List ℕ). laid_where (lay (goal.at.returns l).At-loop-i.before) b (self (goal.at.returns l).At-loop-i.before).place (written_by (self (goal.at.returns l).At-loop-i.before) (values (goal.at.returns l).At-loop-i.before))) (begun (goal.at.returns l).At-loop-i.before); words = all_noted (goal.at.returns c).After-loop-i.before }
+    let l = c in record {
+      state = c.left_by-2.ensures ∙ left (goal.at.returns c).After-loop-i.before;
+      bytes = lay-none (lay (goal.at.returns l).At-loop-i.before) (self (goal.at.returns l).At-loop-i.before) (values (goal.at.returns l).At-loop-i.before) (buffer₀ (goal.at.returns l).At-loop-i.before) l.loop-i.i l.loop-i.buffer l.loop-i.waiting (λ n. (l.slice_known-3-1.given n).fits) l.loop-i.invariant.2 c.if-lay-i.false c.loop-i-test.false
+          ∙ ap (λ (b : List ℕ). laid_where (lay (goal.at.returns l).At-loop-i.before) b (self (goal.at.returns l).At-loop-i.before).place (written_by (self (goal.at.returns l).At-loop-i.before) (values (goal.at.returns l).At-loop-i.before))) (begun (goal.at.returns l).At-loop-i.before);
+      words = all_noted (goal.at.returns c).After-loop-i.before;
+    }
 
 pub offset_bounds-values-i : goal.offset_bounds-values-i
 offset_bounds-values-i c = omega (arith, within (goal.at.offset_bounds-values-i c).In-loop-i-2.before, (start (outer (goal.at.offset_bounds-values-i c).At-loop-i-2.before)).requires.0)

@@ -1,5 +1,4 @@
 -- `macaque_v::noting::first_due` meets its contract. Assumes nothing.
-use borrow.Author.Rules.{rules}
 use mathlib.Core.Path.{refl, sym, subst}
 use mathlib.Core.Bool.{Bool}
 use Prim.Native.Nat.{◌+◌, ◌-◌, ◌%◌}

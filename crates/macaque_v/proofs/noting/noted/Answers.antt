@@ -1,5 +1,4 @@
 -- `macaque_v::noting::noted` meets its contract: the entry, where the value has one. Assumes nothing.
-use borrow.Author.Rules.{rules}
 use borrow.Author.Tests.{eq-eqb, ne_eqb}
 use mathlib.Core.Path.{refl, ap, ◌∙◌}
 use mathlib.Core.List.{[], ◌∷◌}

@@ -1,5 +1,4 @@
 -- `macaque_v::noting::put_entry` meets its contract: the four words of the entry. Assumes nothing.
-use borrow.Author.Rules.{rules}
 use mathlib.Core.Path.{refl}
 use Prim.Native.Nat.{◌+◌, ◌*◌, ◌≤◌}
 use native.Mathlib.Omega.{arith}

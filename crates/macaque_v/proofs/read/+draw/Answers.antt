@@ -1,6 +1,6 @@
 -- `macaque_v::read::draw` meets its contract: a block is read, what stands behind it is found, and it is copied. Assumes nothing.
 use mathlib.Core.Path.{◌≡◌, sym, ap, ◌∙◌}
-use Prim.Native.Nat.{ℕ, ◌+◌, ◌-◌, ◌<◌}
+use Prim.Native.Nat.{◌+◌, ◌-◌}
 use native.Mathlib.Omega.{arith}
 use lib.ListN.{length, take}
 use Rattle.models.specs.Calls.{says_verdict, says_grid}
@@ -54,12 +54,12 @@ returns-after-k-n t c =
     let R = c.in-To.ensures.0 in
     let q : Right us (values_from a.whole a.first a.bytes.now a.at a.n) (a.i + k) a.out.now c.if-k-n.out =
     elim c.if-k-n.branch [
-      then-k-n+in-Drawn w ↦
+      | then-k-n+in-Drawn w ↦
           let all = from_then a.whole a.first a.bytes.now a.at R a.n (omega arith) in
           right-rest us (a.i + k) a.out.now c.if-k-n.out (values_from a.whole a.first a.bytes.now to (a.n - k)) all
           (ap says_grid (sym w.in-Drawn.is) ∙ w.draw.ensures.answer) (w.out-is ∙ w.draw.ensures.values)
           (ap length w.out-is ∙ w.draw.auto.out)
-    | else-k-n+in-Passed w ↦
+      | else-k-n+in-Passed w ↦
           let e : k ≡ a.n = omega arith in
           right-none us (a.i + k) a.out.now c.if-k-n.out
           (ap (values_from a.whole a.first a.bytes.now a.at) (sym e)

@@ -1,5 +1,4 @@
 -- `macaque_v::read::grid` meets its contract: refused by the first cause that holds, else by the stream, else drawn. Assumes nothing.
-use borrow.Author.Rules.{rules}
 use mathlib.Core.Path.{sym, ap, ap₂, ◌∙◌}
 use mathlib.Core.Bool.{Bool, true}
 use Prim.Native.Nat.{◌≤◌}
@@ -50,7 +49,10 @@ returns-in-Passed c =
     let says = c.judge_grid.ensures in
     let values = ap₂ (λ (first : Bool) (at : Cursor). values_from true first a.bytes.now at a.count)
     c.is_first.ensures c.start.ensures.0
-    ∙ sym (same-values a.bytes.now a.opening a.count) in record { answer = d.ensures.answer ∙ ap drawn values ∙ when-passed causes _ says refused _ ok; values = d.ensures.values
+    ∙ sym (same-values a.bytes.now a.opening a.count) in record {
+      answer = d.ensures.answer ∙ ap drawn values ∙ when-passed causes _ says refused _ ok;
+      values = d.ensures.values
           ∙ ap (drawn_at 0 a.out.now) values
           ∙ drawn-from-start a.out.now (values_in a.bytes.now a.count a.opening)
-          ∙ when-passed causes _ says (keeping a.out.now) _ ok }
+          ∙ when-passed causes _ says (keeping a.out.now) _ ok;
+    }

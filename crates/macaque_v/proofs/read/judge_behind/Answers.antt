@@ -1,5 +1,4 @@
 -- `macaque_v::read::judge_behind` meets its contract. Assumes nothing.
-use borrow.Author.Rules.{rules}
 use mathlib.Core.Path.{sym, ap, ◌∙◌}
 use mathlib.Core.Bool.{Bool}
 use Rattle.macaque_v.specs.Inner.Read.{end_where}

@@ -1,5 +1,4 @@
 -- `macaque_v::read::judge_grid` meets its contract: the tests are those of the list of causes. Assumes nothing.
-use borrow.Author.Rules.{rules}
 use Rattle.models.specs.Answers.{judge}
 use Rattle.macaque_v.proofs.read.judge_grid.Goals as goal
 

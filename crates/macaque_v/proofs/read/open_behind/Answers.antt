@@ -1,5 +1,4 @@
 -- `macaque_v::read::open_behind` meets its contract. Assumes nothing.
-use borrow.Author.Rules.{rules}
 use mathlib.Core.Path.{sym, ap, ◌∙◌, subst}
 use mathlib.Core.Bool.{Bool}
 use Rattle.models.specs.Answers.{answered}
@@ -23,5 +22,8 @@ returns-in-To c =
     let a = c.args in
     let at = c.in-To.at in
     let tally = c.in-To.tally in
-    let is = c.in-To.is in record { answer = ap (λ (first : Bool). answered (writer_of a.error_bound first (state_with at (known_in tally)))) c.is_first.ensures
-          ∙ sym (ap (opened_behind a.error_bound (is_first a.opening)) is); bytes = c.cut.ensures ∙ sym (ap (λ (w : Walk). cut_behind w a.buffer.now) is) }
+    let is = c.in-To.is in record {
+      answer = ap (λ (first : Bool). answered (writer_of a.error_bound first (state_with at (known_in tally)))) c.is_first.ensures
+          ∙ sym (ap (opened_behind a.error_bound (is_first a.opening)) is);
+      bytes = c.cut.ensures ∙ sym (ap (λ (w : Walk). cut_behind w a.buffer.now) is);
+    }

@@ -1,5 +1,4 @@
 -- `macaque_v::read::resume` meets its contract. Assumes nothing.
-use borrow.Author.Rules.{rules}
 use mathlib.Core.Path.{sym, ◌∙◌}
 use lib.ListN.{take}
 use lib.Seq.{length-take-le}

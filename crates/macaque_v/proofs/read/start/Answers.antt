@@ -1,5 +1,4 @@
 -- `macaque_v::read::start` meets its contract, by how the stream opens. Assumes nothing.
-use borrow.Author.Rules.{rules}
 use mathlib.Core.Path.{sym, ap}
 use native.Mathlib.Omega.{arith}
 use Rattle.macaque_v.specs.Read.{start_of}

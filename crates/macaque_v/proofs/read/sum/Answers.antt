@@ -1,5 +1,4 @@
 -- `macaque_v::read::sum` meets its contract. Assumes nothing.
-use borrow.Author.Rules.{rules}
 use mathlib.Core.Path.{◌≡◌, sym, ap, ◌∙◌, subst, subst₂}
 use mathlib.Core.Bool.{Bool}
 use native.Mathlib.Omega.{arith}

@@ -1,9 +1,7 @@
-use borrow.Author.Rules.{rules}
 use mathlib.Core.Path.{◌≡◌, sym, ap, ◌∙◌, subst}
-use Prim.Native.Nat.{ℕ, ◌+◌, ◌-◌, ◌≤◌}
+use Prim.Native.Nat.{ℕ}
 use native.Mathlib.Omega.{arith}
 use lib.ListN.{take}
-use lib.Ieee.{Float}
 use Rattle.stream.specs.Format.{gather_from}
 use Rattle.macaque_v.specs.State.{gather_sum, mode_of}
 use Rattle.macaque_v.proofs.Stepping.{raw-is}

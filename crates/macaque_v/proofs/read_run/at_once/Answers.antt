@@ -1,5 +1,4 @@
 -- `macaque_v::read_run::at_once` meets its contract: the first of some repeats are repeats too. Assumes nothing.
-use borrow.Author.Rules.{rules}
 use native.Mathlib.Omega.{arith}
 use Rattle.coding.proofs.Repeats.{fewer-at-top, none_at_top}
 use Rattle.macaque_v.proofs.read_run.at_once.Goals as goal

@@ -1,9 +1,8 @@
-use borrow.Author.Rules.{rules}
 use mathlib.Core.Path.{◌≡◌, refl, sym, ap, ◌∙◌}
 use mathlib.Core.List.{List, ◌++◌}
-use Prim.Native.Nat.{ℕ, ◌+◌, ◌-◌, ◌≤◌}
+use Prim.Native.Nat.{ℕ, ◌+◌}
 use native.Mathlib.Omega.{arith}
-use lib.ListN.{length, take, drop, get_or, set, length-set, take-append-drop}
+use lib.ListN.{take, drop, get_or, set, length-set, take-append-drop}
 use Rattle.macaque_v.proofs.ReadingRun.{copied_more}
 use Rattle.macaque_v.proofs.read_run.copy.Goals as goal
 

@@ -1,5 +1,4 @@
 -- `macaque_v::read_run::go_to_end` meets its contract: the values, then the end. Assumes nothing.
-use borrow.Author.Rules.{rules}
 use mathlib.Core.Path.{sym, ap, ◌∙◌, subst}
 use native.Mathlib.Omega.{arith}
 use Rattle.models.specs.Calls.{says_verdict}

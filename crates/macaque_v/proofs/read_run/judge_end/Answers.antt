@@ -1,5 +1,4 @@
 -- `macaque_v::read_run::judge_end` meets its contract. Assumes nothing.
-use borrow.Author.Rules.{rules}
 use mathlib.Core.Path.{sym, ap, ◌∙◌}
 use native.Mathlib.Omega.{arith}
 use Rattle.macaque_v.specs.Inner.ReadRun.{says_behind}

@@ -1,5 +1,4 @@
 -- `macaque_v::read_run::last_repeats` meets its contract: the repeats that the last bits begin with stand there. Assumes nothing.
-use borrow.Author.Rules.{rules}
 use native.Mathlib.Omega.{arith}
 use Rattle.coding.proofs.Repeats.{repeats-ahead}
 use Rattle.macaque_v.proofs.read_run.last_repeats.Goals as goal

@@ -1,5 +1,4 @@
 -- `macaque_v::read_run::next` meets its contract: what stops a value is told with the place where reading stands. Assumes nothing.
-use borrow.Author.Rules.{rules}
 use mathlib.Core.Path.{ap, ◌∙◌, subst}
 use Rattle.models.specs.Answers.{refused}
 use Rattle.macaque_v.specs.Inner.ReadRun.{StrideSays}

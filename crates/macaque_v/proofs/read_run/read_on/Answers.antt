@@ -1,12 +1,11 @@
-use borrow.Author.Rules.{rules}
 use mathlib.Core.Path.{◌≡◌, sym, subst}
 use mathlib.Core.Bool.{false}
-use Prim.Native.Nat.{◌+◌, ◌-◌, ◌<◌}
+use Prim.Native.Nat.{◌+◌, ◌<◌}
 use native.Mathlib.Omega.{arith}
 use borrow.Author.Tests.{ne_eqb}
 use Rattle.stream.specs.Format.{opening, window_in, unset}
-use Rattle.macaque_v.specs.Inner.ReadRun.{onward, ReadsOn}
-use Rattle.macaque_v.proofs.Repeating.{Reached, reached-start, reached-kept, reached-repeats}
+use Rattle.macaque_v.specs.Inner.ReadRun.{ReadsOn}
+use Rattle.macaque_v.proofs.Repeating.{reached-start, reached-kept, reached-repeats}
 use Rattle.macaque_v.proofs.read_run.read_on.Goals as goal
 use Rattle.macaque_v.proofs.read_run.read_on.Goals.{Else-lead-eq-OPENING_LEADING}
 

@@ -1,13 +1,7 @@
 -- `macaque_v::read_run::read_on` meets its contract: the places up to j hold what was read. Assumes nothing.
-use borrow.Author.Rules.{rules}
-use mathlib.Core.Path.{◌≡◌, sym, subst}
-use mathlib.Core.Bool.{false}
-use Prim.Native.Nat.{◌+◌, ◌-◌, ◌<◌}
-use native.Mathlib.Omega.{arith}
-use borrow.Author.Tests.{ne_eqb}
-use Rattle.stream.specs.Format.{opening, window_in, unset}
-use Rattle.macaque_v.specs.Inner.ReadRun.{onward, ReadsOn}
-use Rattle.macaque_v.proofs.Repeating.{Reached, reached-start, reached-kept, reached-repeats}
+use Prim.Native.Nat.{◌-◌}
+use Rattle.macaque_v.specs.Inner.ReadRun.{onward}
+use Rattle.macaque_v.proofs.Repeating.{Reached}
 use Rattle.macaque_v.proofs.read_run.read_on.Given as goal
 
 abbrev pub invariant-loop-j : goal.invariant-loop-j

@@ -1,5 +1,4 @@
 -- `macaque_v::read_run::refusal_of` meets its contract, stop by stop. Assumes nothing.
-use borrow.Author.Rules.{rules}
 use Rattle.macaque_v.proofs.read_run.refusal_of.Goals as goal
 
 pub returns-in-EndsEarly : goal.returns-in-EndsEarly

@@ -1,5 +1,4 @@
 -- `macaque_v::read_run::repeats` meets its contract: the repeats that the word ahead begins with stand there. Assumes nothing.
-use borrow.Author.Rules.{rules}
 use native.Mathlib.Omega.{arith}
 use Rattle.macaque_v.proofs.read_run.repeats.Goals as goal
 

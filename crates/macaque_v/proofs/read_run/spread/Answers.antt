@@ -1,9 +1,8 @@
-use borrow.Author.Rules.{rules}
 use mathlib.Core.Path.{◌≡◌, refl, sym, ap, ◌∙◌}
 use mathlib.Core.List.{List, ◌++◌}
-use Prim.Native.Nat.{ℕ, ◌+◌, ◌-◌, ◌≤◌}
+use Prim.Native.Nat.{ℕ, ◌+◌}
 use native.Mathlib.Omega.{arith}
-use lib.ListN.{length, take, drop, set, replicate, length-set, take-append-drop}
+use lib.ListN.{take, drop, set, replicate, length-set, take-append-drop}
 use Rattle.macaque_v.proofs.Repeating.{spread-more}
 use Rattle.macaque_v.proofs.read_run.spread.Goals as goal
 

@@ -1,11 +1,8 @@
 -- `macaque_v::read_run::spread` meets its contract: j places hold the value. Assumes nothing.
-use borrow.Author.Rules.{rules}
-use mathlib.Core.Path.{◌≡◌, refl, sym, ap, ◌∙◌}
-use mathlib.Core.List.{List, ◌++◌}
-use Prim.Native.Nat.{ℕ, ◌+◌, ◌-◌, ◌≤◌}
-use native.Mathlib.Omega.{arith}
-use lib.ListN.{length, take, drop, set, replicate, length-set, take-append-drop}
-use Rattle.macaque_v.proofs.Repeating.{spread-more}
+use mathlib.Core.Path.{◌≡◌}
+use mathlib.Core.List.{◌++◌}
+use Prim.Native.Nat.{◌+◌, ◌-◌, ◌≤◌}
+use lib.ListN.{length, take, drop, replicate}
 use Rattle.macaque_v.proofs.read_run.spread.Given as goal
 
 abbrev pub invariant-loop-j : goal.invariant-loop-j

@@ -1,5 +1,4 @@
 -- `macaque_v::read_run::take_repeats` meets its contract: each repeat is the last value again, two bits on. Assumes nothing.
-use borrow.Author.Rules.{rules}
 use mathlib.Core.Path.{sym, subst}
 use native.Mathlib.Omega.{arith}
 use Rattle.macaque_v.specs.Inner.ReadRun.{ReadsOn}

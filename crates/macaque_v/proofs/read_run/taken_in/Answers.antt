@@ -1,5 +1,4 @@
 -- `macaque_v::read_run::taken_in` meets its contract, by what is aimed at. Assumes nothing.
-use borrow.Author.Rules.{rules}
 use mathlib.Core.Path.{sym, ap, ◌∙◌}
 use lib.ListN.{take}
 use Rattle.macaque_v.specs.State.{mode_of}

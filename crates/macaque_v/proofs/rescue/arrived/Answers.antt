@@ -1,5 +1,4 @@
 -- `macaque_v::rescue::arrived` meets its contract: as many values as the limit, else as many as the refusal counts, or damage. Assumes nothing.
-use borrow.Author.Rules.{rules}
 use mathlib.Core.Path.{◌≡◌, sym, ap, ◌∙◌, subst, subst₂}
 use mathlib.Core.Bool.{Bool}
 use native.Mathlib.Omega.{arith}

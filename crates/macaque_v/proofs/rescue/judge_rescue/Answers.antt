@@ -1,5 +1,4 @@
 -- `macaque_v::rescue::judge_rescue` meets its contract: a reopening at the limit has the same causes. Assumes nothing.
-use borrow.Author.Rules.{rules}
 use mathlib.Core.Path.{ap, ◌∙◌}
 use Rattle.models.specs.Answers.{verdict}
 use Rattle.models.specs.Causes.{bound_causes}

@@ -1,5 +1,4 @@
 -- `macaque_v::size::most_coded` meets its contract. Assumes nothing.
-use borrow.Author.Rules.{rules}
 use mathlib.Core.Path.{◌≡◌}
 use native.Mathlib.Omega.{arith}
 use Rattle.stream.proofs.Promises.{without-a-first-value}

@@ -1,5 +1,4 @@
 -- `macaque_v::span::begun` meets its contract. Assumes nothing.
-use borrow.Author.Rules.{rules}
 use Rattle.macaque_v.proofs.span.begun.Goals as goal
 
 pub returns : goal.returns

@@ -1,5 +1,4 @@
 -- `macaque_v::span::said` meets its contract. Assumes nothing.
-use borrow.Author.Rules.{rules}
 use mathlib.Core.Path.{◌≡◌, sym, ap, ◌∙◌}
 use mathlib.Core.Bool.{Bool, cond, ◌||◌}
 use Prim.Native.Nat.{ℕ}

@@ -1,5 +1,4 @@
 -- `macaque_v::total::begun` meets its contract. Assumes nothing.
-use borrow.Author.Rules.{rules}
 use mathlib.Core.Path.{sym, ap}
 use mathlib.Core.Bool.{Bool}
 use lib.Ieee.{neg, of_bits}

@@ -1,5 +1,4 @@
 -- `macaque_v::total::joined` meets its contract. Assumes nothing.
-use borrow.Author.Rules.{rules}
 use mathlib.Core.Path.{ap}
 use lib.Ieee.{binary32, add}
 use Rattle.macaque_v.proofs.total.joined.Goals as goal

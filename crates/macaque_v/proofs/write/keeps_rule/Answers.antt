@@ -1,5 +1,4 @@
 -- `macaque_v::write::keeps_rule` meets its contract: the tests are those of the rule. Assumes nothing.
-use borrow.Author.Rules.{rules}
 use Rattle.stream.specs.Format.{keeps_rule}
 use Rattle.macaque_v.proofs.write.keeps_rule.Goals as goal
 

@@ -1,5 +1,4 @@
 -- `macaque_v::write::kept_of` meets its contract. Assumes nothing.
-use borrow.Author.Rules.{rules}
 use mathlib.Core.Path.{sym, ap, ◌∙◌}
 use mathlib.Core.Bool.{Bool}
 use Rattle.stream.specs.Write.{kept_one}

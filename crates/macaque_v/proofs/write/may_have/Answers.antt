@@ -1,5 +1,4 @@
 -- `macaque_v::write::may_have` meets its contract: at 32 bits one test does. Assumes nothing.
-use borrow.Author.Rules.{rules}
 use mathlib.Core.Path.{sym, ap}
 use mathlib.Core.Bool.{Bool, ◌&&◌, ◌||◌}
 use native.Mathlib.Omega.{arith}

@@ -3,7 +3,6 @@ use lib.Dec.{le→leb}
 use lib.Ieee as Ieee
 use native.Mathlib.Omega.{arith}
 use Rattle.pmc_mean.specs.State.{average}
-use borrow.Author.Rules.{rules}
 use Rattle.pmc_mean.proofs.PMCMean.average.Goals as goal
 
 pub int_to_float-n : goal.int_to_float-n

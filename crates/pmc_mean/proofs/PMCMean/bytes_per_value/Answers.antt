@@ -8,7 +8,6 @@ use Rattle.models.specs.Calls.{says_verdict}
 use Rattle.models.proofs.Judged.{none-holds, when-passed, when-refused, has-cost}
 use Rattle.pmc_mean.specs.State.{usable}
 use Rattle.pmc_mean.specs.Calls.{cost_causes, cost_answer}
-use borrow.Author.Rules.{rules}
 use Rattle.pmc_mean.proofs.PMCMean.bytes_per_value.Goals as goal
 use Rattle.pmc_mean.proofs.PMCMean.bytes_per_value.Goals.{After-judge_cost}
 

@@ -9,7 +9,6 @@ use Rattle.models.proofs.Judged.{none-holds, when-passed, when-refused, steps}
 use Rattle.pmc_mean.specs.State.{usable}
 use Rattle.pmc_mean.specs.Inner.Steps.{step_of}
 use Rattle.pmc_mean.specs.Calls.{fit_answer}
-use borrow.Author.Rules.{rules}
 use Rattle.pmc_mean.proofs.PMCMean.fit_value.Goals as goal
 use Rattle.pmc_mean.proofs.PMCMean.fit_value.Goals.{After-tried-t}
 

@@ -1,7 +1,5 @@
 -- `PMCMean::fits` meets its contract. Assumes nothing.
 use Rattle.pmc_mean.specs.State.{fits}
-use borrow.Author.Tests.{not-true, not-false}
-use borrow.Author.Rules.{rules}
 use Rattle.pmc_mean.proofs.PMCMean.fits.Goals as goal
 
 pub returns-then-not-within : goal.returns-then-not-within

@@ -1,6 +1,5 @@
 -- `PMCMean::judge_fit` meets its contract. Assumes nothing.
 use Rattle.models.specs.Answers.{judge}
-use borrow.Author.Rules.{rules}
 use Rattle.pmc_mean.proofs.PMCMean.judge_fit.Goals as goal
 
 pub returns : goal.returns

@@ -7,7 +7,6 @@ use Rattle.models.specs.Calls.{says_verdict}
 use Rattle.models.proofs.Judged.{none-holds, when-passed, when-refused, has-model}
 use Rattle.pmc_mean.specs.State.{usable}
 use Rattle.pmc_mean.specs.Calls.{model_causes, model_answer}
-use borrow.Author.Rules.{rules}
 use Rattle.pmc_mean.proofs.PMCMean.model.Goals as goal
 use Rattle.pmc_mean.proofs.PMCMean.model.Goals.{After-judge_model}
 

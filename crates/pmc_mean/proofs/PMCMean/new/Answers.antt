@@ -3,7 +3,6 @@ use lib.Ieee as Ieee
 use Rattle.models.specs.Answers.{judge}
 use Rattle.pmc_mean.specs.State.{fresh}
 use Rattle.pmc_mean.specs.Calls.{new_answer}
-use borrow.Author.Rules.{rules}
 use Rattle.pmc_mean.proofs.PMCMean.new.Goals as goal
 
 pub returns-then-not-bound_allowed : goal.returns-then-not-bound_allowed

@@ -1,7 +1,6 @@
 -- `PMCMean::tried` meets its contract. Assumes nothing.
 use Rattle.pmc_mean.specs.State.{tried, with_value}
 use native.Mathlib.Omega.{arith}
-use borrow.Author.Rules.{rules}
 use Rattle.pmc_mean.proofs.PMCMean.tried.Goals as goal
 
 pub fits-requires : goal.fits-requires

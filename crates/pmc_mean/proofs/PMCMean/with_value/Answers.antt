@@ -1,6 +1,5 @@
 -- `PMCMean::with_value` meets its contract. Assumes nothing.
 use Rattle.pmc_mean.specs.State.{with_value}
-use borrow.Author.Rules.{rules}
 use Rattle.pmc_mean.proofs.PMCMean.with_value.Goals as goal
 
 pub returns : goal.returns

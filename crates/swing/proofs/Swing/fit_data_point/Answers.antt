@@ -13,7 +13,6 @@ use Rattle.swing.specs.State.{usable, time_follows}
 use Rattle.swing.specs.Inner.Steps.{step_of}
 use Rattle.swing.specs.Calls.{fit_causes, fit_answer}
 use Rattle.swing.proofs.Allowed.{length-below, follows-allowed}
-use borrow.Author.Rules.{rules}
 use Rattle.swing.proofs.Swing.fit_data_point.Goals as goal
 use Rattle.swing.proofs.Swing.fit_data_point.Goals.{After-judge_fit, After-point_of-p, After-tried-t}
 

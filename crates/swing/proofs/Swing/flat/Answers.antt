@@ -1,6 +1,5 @@
 -- `Swing::flat` meets its contract. Assumes nothing.
 use Rattle.swing.specs.Step.{flat}
-use borrow.Author.Rules.{rules}
 use Rattle.swing.proofs.Swing.flat.Goals as goal
 
 pub returns-then-equal_or_nan : goal.returns-then-equal_or_nan

@@ -1,5 +1,4 @@
 -- `Swing::follows` meets its contract. Assumes nothing.
-use borrow.Author.Rules.{rules}
 use mir.Syntax.{w64}
 use mir.ValLaws.{to_z-of_z}
 use Rattle.swing.specs.State.{time_follows}

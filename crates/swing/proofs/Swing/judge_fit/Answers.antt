@@ -1,6 +1,5 @@
 -- `Swing::judge_fit` meets its contract. Assumes nothing.
 use Rattle.models.specs.Answers.{judge}
-use borrow.Author.Rules.{rules}
 use Rattle.swing.proofs.Swing.judge_fit.Goals as goal
 
 pub returns : goal.returns

@@ -1,7 +1,6 @@
 -- `Swing::last_value` meets its contract. Assumes nothing.
 use mir.Syntax.{w64}
 use mir.ValLaws.{to_z-of_z}
-use borrow.Author.Rules.{rules}
 use Rattle.swing.specs.Model.{last_value}
 use Rattle.lines.proofs.Exact.{time-fits}
 use Rattle.swing.proofs.Swing.last_value.Goals as goal

@@ -6,7 +6,6 @@ use Rattle.swing.specs.Step.{later_at, later}
 use Rattle.swing.specs.State.{upper_line, lower_line}
 use Rattle.lines.specs.Line.{value_at}
 use Rattle.lines.proofs.Exact.{time-fits}
-use borrow.Author.Rules.{rules}
 use Rattle.swing.proofs.Swing.later.Goals as goal
 use Rattle.swing.proofs.Swing.later.Goals.{After-struct_known-2-1}
 

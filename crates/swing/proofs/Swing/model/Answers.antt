@@ -6,7 +6,6 @@ use Rattle.models.proofs.Judged.{none-holds, when-passed, when-refused, has-mode
 use Rattle.swing.specs.State.{usable}
 use Rattle.swing.specs.Calls.{model_causes, model_answer}
 use Rattle.swing.proofs.Allowed.{start-allowed, end-allowed}
-use borrow.Author.Rules.{rules}
 use Rattle.swing.proofs.Swing.model.Goals as goal
 use Rattle.swing.proofs.Swing.model.Goals.{After-judge_model}
 

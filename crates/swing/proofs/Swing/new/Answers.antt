@@ -1,6 +1,5 @@
 -- `Swing::new` meets its contract. Assumes nothing.
 use lib.Ieee as Ieee
-use borrow.Author.Rules.{rules}
 use Rattle.models.specs.Answers.{judge}
 use Rattle.swing.specs.State.{fresh}
 use Rattle.swing.specs.Calls.{new_answer}

@@ -1,5 +1,4 @@
 -- `Swing::second` meets its contract. Assumes nothing.
-use borrow.Author.Rules.{rules}
 use Rattle.swing.specs.Step.{second}
 use Rattle.swing.proofs.Swing.second.Goals as goal
 

@@ -1,6 +1,5 @@
 -- `Swing::swung` meets its contract. Assumes nothing.
 use Rattle.swing.specs.Step.{upper_swung, lower_swung, swung}
-use borrow.Author.Rules.{rules}
 use Rattle.swing.proofs.Swing.swung.Goals as goal
 
 pub swung_to-upper-requires : goal.swung_to-upper-requires

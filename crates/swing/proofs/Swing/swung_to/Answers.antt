@@ -1,5 +1,4 @@
 -- `Swing::swung_to` meets its contract. Assumes nothing.
-use borrow.Author.Rules.{rules}
 use Rattle.swing.proofs.Swing.swung_to.Goals as goal
 
 pub line_through-requires : goal.line_through-requires

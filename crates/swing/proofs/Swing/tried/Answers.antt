@@ -2,7 +2,6 @@
 use borrow.Author.Tests.{eq-eqb, ne_eqb}
 use Rattle.swing.specs.Step.{tried}
 use Rattle.swing.proofs.Allowed.{start-allowed}
-use borrow.Author.Rules.{rules}
 use Rattle.swing.proofs.Swing.tried.Goals as goal
 
 pub returns-then-n-eq0 : goal.returns-then-n-eq0

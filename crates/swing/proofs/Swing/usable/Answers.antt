@@ -1,5 +1,4 @@
 -- `Swing::usable` meets its contract. Assumes nothing.
-use borrow.Author.Rules.{rules}
 use mir.Syntax.{w64}
 use mir.ValLaws.{to_z-of_z}
 use Rattle.swing.specs.State.{times_allowed, usable}

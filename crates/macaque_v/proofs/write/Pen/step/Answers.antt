@@ -1,5 +1,4 @@
 -- `macaque_v::write::Pen::step` meets its contract. Assumes nothing.
-use borrow.Author.Rules.{rules}
 use mathlib.Core.Path.{refl}
 use Rattle.macaque_v.proofs.write.Pen.step.Goals as goal
 
