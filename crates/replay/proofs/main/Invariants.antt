@@ -1,5 +1,4 @@
 -- `replay::main` is safe and ends: fewer turns are left after each. Assumes nothing.
-use Rattle.std.proofs.Common.{rules}
 use Rattle.replay.proofs.main.Given as goal
 
 abbrev pub invariant-loop-turns : goal.invariant-loop-turns
