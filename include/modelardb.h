@@ -1,6 +1,6 @@
 /* The C face of the proved library. Each part names the static library that holds its calls: NAME is made by
- * `rt staticlib NAME`, as target/staticlib/libNAME.a. Several of them link into one program. The first part is
- * that of `exports`.
+ * `tools/archives` of the crate NAME_c, as target/staticlib/libNAME.a. Several of them link into one program. The
+ * first part is that of `exports`.
  *
  * Floats cross as their bits. A NaN that is computed is answered as 7FC00000 or 7FF8000000000000; the values of a
  * stream keep their bits. A call that can be refused answers a modelardb_fault, whose number is 0 or that of the

@@ -81,14 +81,9 @@ fn not_there(folder: &Path, is_named: bool, missing: &[&str]) -> String {
     let remedy = if is_named {
         format!("That folder is named by the variable {FOLDER}, which takes a whole path.")
     } else {
-        let commands: Vec<String> = missing
-            .iter()
-            .map(|name| format!("rt staticlib {name}"))
-            .collect();
         format!(
-            "Make them in the repository's root with: {}\n\
-             Or let the variable {FOLDER} name a folder that holds all of them.",
-            commands.join(" && ")
+            "Make them in the repository's root with: tools/archives\n\
+             Or let the variable {FOLDER} name a folder that holds all of them."
         )
     };
     let folder = folder.display();

@@ -20,16 +20,14 @@ use models::{DeviationAnswer, ErrorBound, Fault, Refusal, ValueAnswer, Verdict, 
 // ---- numbers
 
 // The f64 pattern of an f32 pattern's value.
-#[unsafe(no_mangle)]
-pub extern "C" fn modelardb_widen(bits: u32) -> u64
+pub fn modelardb_widen(bits: u32) -> u64
     ensures { result ≡ to_bits binary64 (of_bits binary32 bits) }
 {
     numbers::bits_of_f64(numbers::widen(numbers::value_of_f32(bits)))
 }
 
 // The f32 pattern of an f64 pattern's value, rounded to the nearest.
-#[unsafe(no_mangle)]
-pub extern "C" fn modelardb_narrow(bits: u64) -> u32
+pub fn modelardb_narrow(bits: u64) -> u32
     ensures { result ≡ to_bits binary32 (narrowed (of_bits binary64 bits)) }
 {
     numbers::bits_of_f32(numbers::narrow(numbers::value_of_f64(bits)))
@@ -187,8 +185,7 @@ pub fn pattern_in(answer: FloatAnswer) -> ValueAnswer
 }
 
 // 1 into out[0] where the approximate value may stand for the real one, else 0.
-#[unsafe(no_mangle)]
-pub extern "C" fn modelardb_is_value_within_error_bound(
+pub fn modelardb_is_value_within_error_bound(
     kind: u32,
     bound: u32,
     real_value: u32,
@@ -206,8 +203,7 @@ pub extern "C" fn modelardb_is_value_within_error_bound(
 }
 
 // The f64 pattern of how far a line may pass from the value into out[0].
-#[unsafe(no_mangle)]
-pub extern "C" fn modelardb_maximum_allowed_deviation(
+pub fn modelardb_maximum_allowed_deviation(
     kind: u32,
     bound: u32,
     value: u64,

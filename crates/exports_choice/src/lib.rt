@@ -141,8 +141,7 @@ fn put_model(out: &mut [u64], m: SelectedModel) -> Fault
 // ---- the calls
 
 // The builder before any value into the row.
-#[unsafe(no_mangle)]
-pub extern "C" fn modelardb_model_builder_new(kind: u32, bound: u32, state: &mut [u64]) -> Fault
+pub fn modelardb_model_builder_new(kind: u32, bound: u32, state: &mut [u64]) -> Fault
     ensures fault { result ≡ fault_said builder_length (length state.old) (new_answer (bound_of kind bound)) }
     ensures row { state.new ≡ row_after builder_length builder_row state.old (new_answer (bound_of kind bound)) }
 {
@@ -154,8 +153,7 @@ pub extern "C" fn modelardb_model_builder_new(kind: u32, bound: u32, state: &mut
 
 // Tries one more point with each model that has not failed; the row becomes the builder after it. Some
 // model stands for all points so far where one of its two flags is 1.
-#[unsafe(no_mangle)]
-pub extern "C" fn modelardb_model_builder_try_to_update_models(
+pub fn modelardb_model_builder_try_to_update_models(
     state: &mut [u64],
     timestamp: i64,
     value: u32,
@@ -170,8 +168,7 @@ pub extern "C" fn modelardb_model_builder_try_to_update_models(
 }
 
 // The model that needs fewer bytes for each value, with metadata of m bytes, into `out`.
-#[unsafe(no_mangle)]
-pub extern "C" fn modelardb_model_builder_finish(state: &[u64], m: usize, out: &mut [u64]) -> Fault
+pub fn modelardb_model_builder_finish(state: &[u64], m: usize, out: &mut [u64]) -> Fault
     ensures fault { result ≡ ask_fault model_length (length out.old) (finish_answer (builder_in state.now) m) }
     ensures row { out.new ≡ ask_row model_length model_words out.old (finish_answer (builder_in state.now) m) }
 {
@@ -184,8 +181,7 @@ pub extern "C" fn modelardb_model_builder_finish(state: &[u64], m: usize, out: &
 
 // Fits both models to the points from the first one on, each until it fails, and the chosen one into
 // `out`.
-#[unsafe(no_mangle)]
-pub extern "C" fn modelardb_choose_model(
+pub fn modelardb_choose_model(
     timestamps: &[i64],
     values: &[u32],
     kind: u32,

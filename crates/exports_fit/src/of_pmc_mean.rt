@@ -12,8 +12,7 @@ use models::{Fault, GridAnswer, Verdict};
 use pmc_mean::{NewAnswer, PMCMean};
 
 // The state before any value into the row.
-#[unsafe(no_mangle)]
-pub extern "C" fn modelardb_pmc_mean_new(kind: u32, bound: u32, state: &mut [u64]) -> Fault
+pub fn modelardb_pmc_mean_new(kind: u32, bound: u32, state: &mut [u64]) -> Fault
     ensures fault { result ≡ fault_said pmc_length (length state.old) (new_answer (bound_of kind bound)) }
     ensures row { state.new ≡ row_after pmc_length pmc_fresh state.old (new_answer (bound_of kind bound)) }
 {
@@ -26,8 +25,7 @@ pub extern "C" fn modelardb_pmc_mean_new(kind: u32, bound: u32, state: &mut [u64
 }
 
 // Tries one more value; the row becomes the state after it, its last word 1 where the value fitted.
-#[unsafe(no_mangle)]
-pub extern "C" fn modelardb_pmc_mean_fit_value(state: &mut [u64], value: u32) -> Fault
+pub fn modelardb_pmc_mean_fit_value(state: &mut [u64], value: u32) -> Fault
     ensures fault { result ≡ step_fault (fit_answer (pmc_in state.old) value) }
     ensures row { state.new ≡ step_row pmc_step_row state.old (fit_answer (pmc_in state.old) value) }
 {
@@ -38,12 +36,7 @@ pub extern "C" fn modelardb_pmc_mean_fit_value(state: &mut [u64], value: u32) ->
 }
 
 // The f32 pattern of the bytes for each value into out[0].
-#[unsafe(no_mangle)]
-pub extern "C" fn modelardb_pmc_mean_bytes_per_value(
-    state: &[u64],
-    m: usize,
-    out: &mut [u32],
-) -> Fault
+pub fn modelardb_pmc_mean_bytes_per_value(state: &[u64], m: usize, out: &mut [u32]) -> Fault
     ensures fault { result ≡ ask_fault 1 (length out.old) (cost_answer (pmc_in state.now) m) }
     ensures row { out.new ≡ ask_row 1 word_of32 out.old (cost_answer (pmc_in state.now) m) }
 {
@@ -52,8 +45,7 @@ pub extern "C" fn modelardb_pmc_mean_bytes_per_value(
 }
 
 // The average's pattern into out[0].
-#[unsafe(no_mangle)]
-pub extern "C" fn modelardb_pmc_mean_model(state: &[u64], out: &mut [u32]) -> Fault
+pub fn modelardb_pmc_mean_model(state: &[u64], out: &mut [u32]) -> Fault
     ensures fault { result ≡ ask_fault 1 (length out.old) (model_answer (pmc_in state.now)) }
     ensures row { out.new ≡ ask_row 1 one_word out.old (model_answer (pmc_in state.now)) }
 {
@@ -62,8 +54,7 @@ pub extern "C" fn modelardb_pmc_mean_model(state: &[u64], out: &mut [u32]) -> Fa
 }
 
 // The pattern of the sum of `count` values into out[0].
-#[unsafe(no_mangle)]
-pub extern "C" fn modelardb_pmc_mean_sum(count: usize, value: u32, out: &mut [u32]) -> Fault
+pub fn modelardb_pmc_mean_sum(count: usize, value: u32, out: &mut [u32]) -> Fault
     ensures fault { result ≡ fault_said 1 (length out.old) (sum_answer count value) }
     ensures row { out.new ≡ row_after 1 one_word out.old (sum_answer count value) }
 {
@@ -71,8 +62,7 @@ pub extern "C" fn modelardb_pmc_mean_sum(count: usize, value: u32, out: &mut [u3
 }
 
 // The value `count` times to the front of `out`.
-#[unsafe(no_mangle)]
-pub extern "C" fn modelardb_pmc_mean_grid(value: u32, count: usize, out: &mut [u32]) -> Fault
+pub fn modelardb_pmc_mean_grid(value: u32, count: usize, out: &mut [u32]) -> Fault
     ensures fault { result ≡ plain_fault (verdict (grid_causes count (length out.old))) }
     ensures row { out.new ≡ grid_memory value count out.old }
 {

@@ -13,8 +13,7 @@ use models::{Fault, GridAnswer, Verdict};
 use swing::{NewAnswer, Swing};
 
 // The state before any point into the row.
-#[unsafe(no_mangle)]
-pub extern "C" fn modelardb_swing_new(kind: u32, bound: u32, state: &mut [u64]) -> Fault
+pub fn modelardb_swing_new(kind: u32, bound: u32, state: &mut [u64]) -> Fault
     ensures fault { result ≡ fault_said swing_length (length state.old) (new_answer (bound_of kind bound)) }
     ensures row { state.new ≡ row_after swing_length swing_fresh state.old (new_answer (bound_of kind bound)) }
 {
@@ -27,12 +26,7 @@ pub extern "C" fn modelardb_swing_new(kind: u32, bound: u32, state: &mut [u64]) 
 }
 
 // Tries one more point; the row becomes the state after it, its last word 1 where the point fitted.
-#[unsafe(no_mangle)]
-pub extern "C" fn modelardb_swing_fit_data_point(
-    state: &mut [u64],
-    timestamp: i64,
-    value: u32,
-) -> Fault
+pub fn modelardb_swing_fit_data_point(state: &mut [u64], timestamp: i64, value: u32) -> Fault
     ensures fault { result ≡ step_fault (fit_answer (swing_in state.old) timestamp value) }
     ensures row { state.new ≡ step_row swing_step_row state.old (fit_answer (swing_in state.old) timestamp value) }
 {
@@ -43,8 +37,7 @@ pub extern "C" fn modelardb_swing_fit_data_point(
 }
 
 // The f32 pattern of the bytes for each value into out[0].
-#[unsafe(no_mangle)]
-pub extern "C" fn modelardb_swing_bytes_per_value(state: &[u64], m: usize, out: &mut [u32]) -> Fault
+pub fn modelardb_swing_bytes_per_value(state: &[u64], m: usize, out: &mut [u32]) -> Fault
     ensures fault { result ≡ ask_fault 1 (length out.old) (cost_answer (swing_in state.now) m) }
     ensures row { out.new ≡ ask_row 1 word_of32 out.old (cost_answer (swing_in state.now) m) }
 {
@@ -53,8 +46,7 @@ pub extern "C" fn modelardb_swing_bytes_per_value(state: &[u64], m: usize, out: 
 }
 
 // The patterns of the line's first and last value into out[0] and out[1].
-#[unsafe(no_mangle)]
-pub extern "C" fn modelardb_swing_model(state: &[u64], out: &mut [u32]) -> Fault
+pub fn modelardb_swing_model(state: &[u64], out: &mut [u32]) -> Fault
     ensures fault { result ≡ ask_fault 2 (length out.old) (model_answer (swing_in state.now)) }
     ensures row { out.new ≡ ask_row 2 ends_row out.old (model_answer (swing_in state.now)) }
 {
@@ -63,8 +55,7 @@ pub extern "C" fn modelardb_swing_model(state: &[u64], out: &mut [u32]) -> Fault
 }
 
 // The pattern of the sum of `count` values, by the average of the line's ends, into out[0].
-#[unsafe(no_mangle)]
-pub extern "C" fn modelardb_swing_sum_by_average(
+pub fn modelardb_swing_sum_by_average(
     start_time: i64,
     end_time: i64,
     first_value: u32,
@@ -82,8 +73,7 @@ pub extern "C" fn modelardb_swing_sum_by_average(
 }
 
 // The pattern of the sum of the line's values at the timestamps into out[0].
-#[unsafe(no_mangle)]
-pub extern "C" fn modelardb_swing_sum_over(
+pub fn modelardb_swing_sum_over(
     start_time: i64,
     end_time: i64,
     first_value: u32,
@@ -101,8 +91,7 @@ pub extern "C" fn modelardb_swing_sum_over(
 }
 
 // The line's values at the timestamps to the front of `out`.
-#[unsafe(no_mangle)]
-pub extern "C" fn modelardb_swing_grid(
+pub fn modelardb_swing_grid(
     start_time: i64,
     end_time: i64,
     first_value: u32,

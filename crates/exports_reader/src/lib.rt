@@ -18,8 +18,7 @@ mod row;
 
 // A reader before the first value of a stream into the row: mode 0 for a stream that stores its first
 // value in full, mode 1 for one that opens on the value `opening`.
-#[unsafe(no_mangle)]
-pub extern "C" fn modelardb_reader_open(mode: u32, opening: u32, reader: &mut [u64]) -> Fault
+pub fn modelardb_reader_open(mode: u32, opening: u32, reader: &mut [u64]) -> Fault
     ensures fault { result ≡ open_fault mode reader.old }
     ensures row { reader.new ≡ open_row mode opening reader.old }
 {
@@ -32,8 +31,7 @@ pub extern "C" fn modelardb_reader_open(mode: u32, opening: u32, reader: &mut [u
 
 // The next value into out[0]; the row becomes the reader behind it. A row that is too short stands for no
 // reader, as one with wrong words does: it is refused with 2.
-#[unsafe(no_mangle)]
-pub extern "C" fn modelardb_reader_next(bytes: &[u8], reader: &mut [u64], out: &mut [u32]) -> Fault
+pub fn modelardb_reader_next(bytes: &[u8], reader: &mut [u64], out: &mut [u32]) -> Fault
     ensures fault { result ≡ ask_fault 1 (length out.old) (next_answer bytes.now (position_in reader.old)) }
     ensures row { reader.new ≡ next_row reader.old out.old (next_answer bytes.now (position_in reader.old)) }
     ensures value { out.new ≡ ask_row 1 one_value out.old (next_answer bytes.now (position_in reader.old)) }
@@ -53,8 +51,7 @@ pub extern "C" fn modelardb_reader_next(bytes: &[u8], reader: &mut [u64], out: &
 }
 
 // Whether the stream ends behind the values read; of a row that stands for no reader 2.
-#[unsafe(no_mangle)]
-pub extern "C" fn modelardb_reader_end(bytes: &[u8], reader: &[u64]) -> Fault
+pub fn modelardb_reader_end(bytes: &[u8], reader: &[u64]) -> Fault
     ensures { result ≡ end_fault bytes.now reader.now }
 {
     match position::end_from(bytes, row::position_in(reader)) {
@@ -65,8 +62,7 @@ pub extern "C" fn modelardb_reader_end(bytes: &[u8], reader: &[u64]) -> Fault
 
 // The last of a stream's values, `count` of them, into out[0], by a reader that holds the stream; +0
 // where there are none.
-#[unsafe(no_mangle)]
-pub extern "C" fn modelardb_reader_last_value(
+pub fn modelardb_reader_last_value(
     bytes: &[u8],
     count: usize,
     mode: u32,

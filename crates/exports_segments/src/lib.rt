@@ -21,8 +21,7 @@ mod rows;
 
 // PMC-Mean's parameter bytes to the front of `out`, and how many they are into row[0]. The residuals'
 // least and greatest value are 7FC00000 where there are none.
-#[unsafe(no_mangle)]
-pub extern "C" fn modelardb_encode_values_for_pmc_mean(
+pub fn modelardb_encode_values_for_pmc_mean(
     value: u32,
     residuals_min_value: u32,
     residuals_max_value: u32,
@@ -46,8 +45,7 @@ pub extern "C" fn modelardb_encode_values_for_pmc_mean(
 }
 
 // The same of Swing.
-#[unsafe(no_mangle)]
-pub extern "C" fn modelardb_encode_values_for_swing(
+pub fn modelardb_encode_values_for_swing(
     first_value: u32,
     last_value: u32,
     residuals_min_value: u32,
@@ -74,8 +72,7 @@ pub extern "C" fn modelardb_encode_values_for_swing(
 
 // The value that PMC-Mean's parameter bytes give, read against a segment's least and greatest value, into
 // out[0].
-#[unsafe(no_mangle)]
-pub extern "C" fn modelardb_decode_values_for_pmc_mean(
+pub fn modelardb_decode_values_for_pmc_mean(
     min_value: u32,
     max_value: u32,
     values: &[u8],
@@ -89,8 +86,7 @@ pub extern "C" fn modelardb_decode_values_for_pmc_mean(
 }
 
 // The first and the last value that Swing's parameter bytes give into out[0] and out[1].
-#[unsafe(no_mangle)]
-pub extern "C" fn modelardb_decode_values_for_swing(
+pub fn modelardb_decode_values_for_swing(
     min_value: u32,
     max_value: u32,
     values: &[u8],
@@ -108,8 +104,7 @@ pub extern "C" fn modelardb_decode_values_for_swing(
 // A segment's parameter bytes and residual bytes to the front of the two outputs; into the row its least
 // and its greatest value, and how many bytes each output took. Model 0 is PMC-Mean, whose last value is
 // not looked at, and 1 is Swing.
-#[unsafe(no_mangle)]
-pub extern "C" fn modelardb_segment_write(
+pub fn modelardb_segment_write(
     model: u32,
     first_value: u32,
     last_value: u32,
@@ -165,8 +160,7 @@ fn judge_write(model: u32, error_bound: ErrorBound, residuals: &[u32], room: usi
 // bytes, and its residual bytes
 
 // All its values to the front of `out`.
-#[unsafe(no_mangle)]
-pub extern "C" fn modelardb_segment_grid(
+pub fn modelardb_segment_grid(
     model: u32,
     timestamps: &[i64],
     min_value: u32,
@@ -187,8 +181,7 @@ pub extern "C" fn modelardb_segment_grid(
 }
 
 // The sum of all its values into out[0], the model's by the average of its ends.
-#[unsafe(no_mangle)]
-pub extern "C" fn modelardb_segment_sum_by_average(
+pub fn modelardb_segment_sum_by_average(
     model: u32,
     timestamps: &[i64],
     min_value: u32,
@@ -207,8 +200,7 @@ pub extern "C" fn modelardb_segment_sum_by_average(
 }
 
 // The sum of all its values into out[0], the model's over its timestamps.
-#[unsafe(no_mangle)]
-pub extern "C" fn modelardb_segment_sum_over(
+pub fn modelardb_segment_sum_over(
     model: u32,
     timestamps: &[i64],
     min_value: u32,

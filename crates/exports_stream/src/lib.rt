@@ -32,8 +32,7 @@ pub mod row;
 
 // A writer before any value into the row: mode 0 stores the first value in full, mode 1 opens on the
 // value `opening`.
-#[unsafe(no_mangle)]
-pub extern "C" fn modelardb_macaque_v_new(
+pub fn modelardb_macaque_v_new(
     kind: u32,
     bound: u32,
     mode: u32,
@@ -53,8 +52,7 @@ pub extern "C" fn modelardb_macaque_v_new(
 // Writes the values behind the state's place; the row becomes the state after them, its words of the
 // bound and of the mode as they were. A row that is too short stands for no state, as one with wrong words
 // does: it is refused with 2, behind 1 for its bound.
-#[unsafe(no_mangle)]
-pub extern "C" fn modelardb_macaque_v_compress_values(
+pub fn modelardb_macaque_v_compress_values(
     state: &mut [u64],
     values: &[u32],
     buffer: &mut [u8],
@@ -73,8 +71,7 @@ pub extern "C" fn modelardb_macaque_v_compress_values(
 
 // Writes the values behind the state's place, and behind the entries in use that of each value whose number is a
 // multiple of 64; the row becomes the state after them, and the number that of the entries now in use.
-#[unsafe(no_mangle)]
-pub extern "C" fn modelardb_table_compress_values(
+pub fn modelardb_table_compress_values(
     state: &mut [u64],
     values: &[u32],
     buffer: &mut [u8],
@@ -99,8 +96,7 @@ pub extern "C" fn modelardb_table_compress_values(
 
 // The writer behind the first k of the `count` values in the buffer's first `used` bytes into the row; the
 // bits behind them in the byte that they end in are zeroed.
-#[unsafe(no_mangle)]
-pub extern "C" fn modelardb_macaque_v_reopen(
+pub fn modelardb_macaque_v_reopen(
     buffer: &mut [u8],
     used: usize,
     count: usize,
@@ -128,8 +124,7 @@ pub extern "C" fn modelardb_macaque_v_reopen(
 
 // The writer behind the values that arrived whole in the buffer's first `used` bytes, `limit` at most, into the row, whose length says
 // how many they are; the bits behind them in the byte that they end in are zeroed.
-#[unsafe(no_mangle)]
-pub extern "C" fn modelardb_macaque_v_rescue(
+pub fn modelardb_macaque_v_rescue(
     buffer: &mut [u8],
     used: usize,
     limit: usize,
@@ -157,8 +152,7 @@ pub extern "C" fn modelardb_macaque_v_rescue(
 // ---- the reading calls
 
 // The values of a stream, `count` of them, into the first places of `out`.
-#[unsafe(no_mangle)]
-pub extern "C" fn modelardb_macaque_v_grid(
+pub fn modelardb_macaque_v_grid(
     bytes: &[u8],
     count: usize,
     mode: u32,
@@ -175,8 +169,7 @@ pub extern "C" fn modelardb_macaque_v_grid(
 }
 
 // The sum of the values of a stream, `count` of them, into out[0].
-#[unsafe(no_mangle)]
-pub extern "C" fn modelardb_macaque_v_sum(
+pub fn modelardb_macaque_v_sum(
     bytes: &[u8],
     count: usize,
     mode: u32,
@@ -193,8 +186,7 @@ pub extern "C" fn modelardb_macaque_v_sum(
 // ---- how large a stream can get
 
 // The most bits that `count` values take in a stream of this mode, by any bound; a refusal leaves the number.
-#[unsafe(no_mangle)]
-pub extern "C" fn modelardb_macaque_v_most_bits(count: usize, mode: u32, bits: &mut usize) -> Fault
+pub fn modelardb_macaque_v_most_bits(count: usize, mode: u32, bits: &mut usize) -> Fault
     ensures fault { result ≡ most_bits_fault count mode }
     ensures number { bits.new ≡ most_bits_number count mode bits.old }
 {
@@ -203,12 +195,7 @@ pub extern "C" fn modelardb_macaque_v_most_bits(count: usize, mode: u32, bits: &
 }
 
 // The bytes that hold them: a new writer that is lent so many refuses no such values for want of room.
-#[unsafe(no_mangle)]
-pub extern "C" fn modelardb_macaque_v_most_bytes(
-    count: usize,
-    mode: u32,
-    bytes: &mut usize,
-) -> Fault
+pub fn modelardb_macaque_v_most_bytes(count: usize, mode: u32, bytes: &mut usize) -> Fault
     ensures fault { result ≡ most_bytes_fault count mode }
     ensures number { bytes.new ≡ most_bytes_number count mode bytes.old }
 {

@@ -21,8 +21,7 @@ use place_table::{CheckAnswer, TableOpenAnswer};
 
 // The writer behind the first k of the `count` values in the buffer's first `used` bytes into the row, and how many
 // entries of their table are of these into `entries`. The table's words are neither read nor changed.
-#[unsafe(no_mangle)]
-pub extern "C" fn modelardb_table_reopen(
+pub fn modelardb_table_reopen(
     buffer: &mut [u8],
     used: usize,
     count: usize,
@@ -60,8 +59,7 @@ pub extern "C" fn modelardb_table_reopen(
 
 // The writer behind the values that arrived whole in the buffer's first `used` bytes, `limit` at most, into the row, and the table of them, made anew, into
 // the words; how many entries it has into `entries`. Neither the words nor the number that were there are looked at.
-#[unsafe(no_mangle)]
-pub extern "C" fn modelardb_table_rescue(
+pub fn modelardb_table_rescue(
     buffer: &mut [u8],
     used: usize,
     limit: usize,
@@ -99,8 +97,7 @@ pub extern "C" fn modelardb_table_rescue(
 // ---- the reading calls
 
 // Whether the entries in use are those of the stream, `count` values in these bytes.
-#[unsafe(no_mangle)]
-pub extern "C" fn modelardb_table_check(
+pub fn modelardb_table_check(
     bytes: &[u8],
     count: usize,
     mode: u32,
@@ -119,8 +116,7 @@ pub extern "C" fn modelardb_table_check(
 }
 
 // The values p to q - 1 of a stream of `count`, into the first places of `out`: read from the entry at or before p.
-#[unsafe(no_mangle)]
-pub extern "C" fn modelardb_table_range(
+pub fn modelardb_table_range(
     bytes: &[u8],
     count: usize,
     mode: u32,

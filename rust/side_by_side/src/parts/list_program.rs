@@ -8,7 +8,7 @@ use oracle::paper::listing::list;
 use std::io::Write;
 use std::process::{Command, Stdio};
 
-/// Where `rt` puts it.
+/// Where `./check` and `tools/programs` put it.
 const PROGRAM: &str = concat!(env!("CARGO_MANIFEST_DIR"), "/../../target/bin/list");
 
 /// "At most 32,768 bytes in all."
@@ -103,7 +103,7 @@ fn printed(input: &[u8]) -> String {
         .stdout(Stdio::piped())
         .spawn()
         .unwrap_or_else(|why| {
-            panic!("{PROGRAM} does not start ({why}): run `rt check list` first")
+            panic!("{PROGRAM} does not start ({why}): run `tools/programs` first")
         });
     let mut stdin = child.stdin.take().expect("a pipe");
     // The program reads one byte more than it may take, and then closes its end.

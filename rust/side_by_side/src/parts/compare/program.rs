@@ -7,7 +7,7 @@ use std::fs;
 use std::path::{Path, PathBuf};
 use std::process::{Command, Output};
 
-/// Where `rt` puts the program.
+/// Where `./check` and `tools/programs` put the program.
 const PROGRAM: &str = concat!(env!("CARGO_MANIFEST_DIR"), "/../../target/bin/compare");
 
 const SCRIPT: &str = concat!(env!("CARGO_MANIFEST_DIR"), "/../../tools/compare");
@@ -27,7 +27,7 @@ impl Program {
     pub fn new() -> Self {
         assert!(
             Path::new(PROGRAM).exists(),
-            "{PROGRAM} is not there: run `rt check compare` first"
+            "{PROGRAM} is not there: run `tools/programs` first"
         );
         let folder = std::env::temp_dir().join(format!("compare-{}", std::process::id()));
         fs::create_dir_all(&folder).expect("a folder for the files");
