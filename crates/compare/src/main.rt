@@ -7,7 +7,9 @@ use listing::line;
 use models::Refusal;
 
 const STDIN_FILENO: i32 = 0;
+
 const STDOUT_FILENO: i32 = 1;
+
 const RIGHT_FILENO: i32 = 3;
 
 // A step for each value of the longest stream, and the last one.

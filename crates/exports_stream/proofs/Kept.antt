@@ -8,7 +8,7 @@ use native.Mathlib.Omega.{arith}
 use borrow.Author.Tests.{le-leb, le-ltb, leb-true}
 use lib.Dec.{ltb}
 use lib.Ieee.{nan}
-use lib.ListN.{length, take, drop, get_or}
+use lib.ListN.{length, take, get_or}
 use Rattle.bits.specs.Bits.{Below, whole_bytes}
 use Rattle.models.specs.Answers.{no_fault, answered, answered_on}
 use Rattle.models.specs.Limits.{most_values}
@@ -32,7 +32,7 @@ use Rattle.exports.specs.Face.{bound_of, fault_said, row_after, plain_fault}
 use Rattle.exports.proofs.Back.{bound-of-held}
 use Rattle.exports.specs.Words.{small, bound_in, bound_front}
 use Rattle.exports_stream.specs.Row.{writer_length, stands_for_state, read_writer, writer_in, bytes_in_use, length_word}
-use Rattle.exports_stream.specs.Calls.{opening_of, write_fault, write_row, write_buffer, reopen_fault, reopen_row, reopen_buffer, grid_fault, grid_out, RowMade, RowOfItsBytes, RowKeptWithin, RowWritesOn, RowResumesAny}
+use Rattle.exports_stream.specs.Calls.{opening_of, write_fault, write_row, reopen_fault, reopen_row, reopen_buffer, grid_fault, grid_out, RowMade, RowOfItsBytes, RowKeptWithin, RowWritesOn, RowResumesAny}
 use Rattle.exports_stream.proofs.Words.{a-state, row_back}
 use Rattle.exports_stream.proofs.Promises.{a-made-row-stands, place-word, length-word, accepted-zero, reopened-fault, reopened-row, reopened-buffer}
 use Rattle.exports_stream.proofs.Sums.{row-of-the-reopened, a-written-row-stands, row-after-a-write}

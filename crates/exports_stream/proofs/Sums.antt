@@ -5,7 +5,7 @@ use mathlib.Core.Bool.{Bool, true, false, cond}
 use mathlib.Core.List.{List, [], ◌∷◌, ◌++◌}
 use mathlib.Core.Logic.{◌⊎◌, inl, inr}
 use mathlib.Core.Option.{Option, none, some}
-use Prim.Native.Nat.{ℕ, zero, ◌+◌, ◌^◌, ◌≤◌, ◌<◌}
+use Prim.Native.Nat.{ℕ, ◌^◌, ◌≤◌, ◌<◌}
 use native.Mathlib.Omega.{arith}
 use borrow.Author.Tests.{le-leb, lt-ltb, eq-eqb, ne_eqb}
 use lib.Dec.{eqb}
@@ -13,7 +13,7 @@ use lib.ListN.{length, take, drop}
 use lib.Ieee.{Float, binary32, of_bits, to_bits}
 use lib.Ieee.Bits.{of_bits-to_bits}
 use Rattle.bits.specs.Bits.{Below, bits_of, whole_bytes}
-use Rattle.models.specs.Answers.{fault, no_fault, Said, answered, refused, SaidOn, answered_on, refused_on, stateless, Cause, ◌when◌, judge, itself, keeping, NoneHolds}
+use Rattle.models.specs.Answers.{no_fault, Said, answered, refused, SaidOn, answered_on, refused_on, stateless, Cause, ◌when◌, judge, itself, keeping, NoneHolds}
 use Rattle.models.specs.declared.Fault.{Fault}
 use Rattle.models.specs.Limits.{most_values}
 use Rattle.models.specs.Bound.{bound_allowed, BoundHeld}

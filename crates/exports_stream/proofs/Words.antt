@@ -8,7 +8,7 @@ use native.Mathlib.Omega.{arith}
 use borrow.Author.Tests.{lt-ltb, le-ltb, le-leb, lt-leb, leb-true, ltb-true, eq-eqb}
 use lib.Dec.{eqb, leb}
 use lib.ListN.{length, drop, get_or}
-use lib.Ieee.{Float, binary32, of_bits, to_bits}
+use lib.Ieee.{Float, binary32, of_bits}
 use lib.Ieee.Bits.{of_bits-to_bits, of_bits-fits}
 use lib.Seq.{drop-cons}
 use Rattle.models.specs.Bound.{BoundHeld}

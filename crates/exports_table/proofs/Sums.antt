@@ -1,5 +1,5 @@
 -- The running sum through rows (document 02, W4), where a place table stands beside the stream: as through the rows of the plain calls. Assumes nothing.
-use mathlib.Core.Path.{◌≡◌, refl, sym, ap, ◌∙◌, subst}
+use mathlib.Core.Path.{◌≡◌, refl, sym, ap, ◌∙◌}
 use mathlib.Core.Bool.{Bool, true, false}
 use mathlib.Core.Logic.{◌⊎◌}
 use mathlib.Core.List.{List}
@@ -19,7 +19,7 @@ use Rattle.stream.specs.Read.{Reading, done, stopped, read_n, read_all, state_re
 use Rattle.places.specs.Calls as tables
 use Rattle.places.specs.Calls.{Beside}
 use Rattle.places.proofs.Any.{reads_in}
-use Rattle.macaque_v.specs.State.{Known, stream_in, writer_of, is_first, opening_value, opened}
+use Rattle.macaque_v.specs.State.{Known, stream_in, is_first, opening_value, opened}
 use Rattle.macaque_v.specs.Write.{coder_of}
 use Rattle.macaque_v.specs.Sums.{carried}
 use Rattle.macaque_v.specs.declared.MacaqueV.{MacaqueV}

@@ -5,6 +5,7 @@ use listing::{Judged, RowAnswer, line};
 use models::Refusal;
 
 const STDIN_FILENO: i32 = 0;
+
 const STDOUT_FILENO: i32 = 1;
 
 fn main() {

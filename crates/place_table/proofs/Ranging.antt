@@ -1,10 +1,10 @@
 -- Reading behind an entry: values that are passed over, those behind them, and what that makes of a range. Assumes nothing.
 use mathlib.Core.Path.{◌≡◌, refl, sym, ap, ap₂, ◌∙◌, subst}
 use mathlib.Core.Logic.{◌⊎◌, inl, inr}
-use mathlib.Core.Bool.{Bool, true, false, not, ◌&&◌, false≢true}
-use mathlib.Core.List.{List, [], ◌++◌}
-use mathlib.Core.Option.{Option, none, some}
-use Prim.Native.Nat.{ℕ, ◌+◌, ◌-◌, ◌*◌, ◌/◌, ◌%◌, ◌^◌, ◌≤◌, ◌<◌}
+use mathlib.Core.Bool.{Bool, true, false, ◌&&◌, false≢true}
+use mathlib.Core.List.{List}
+use mathlib.Core.Option.{some}
+use Prim.Native.Nat.{ℕ, ◌+◌, ◌-◌, ◌*◌, ◌%◌, ◌^◌, ◌≤◌, ◌<◌}
 use native.Mathlib.Nat.{min-le_left, min-le_right, mod-eq_of_lt}
 use native.Mathlib.Omega.{arith}
 use borrow.Author.Tests.{ltb-true, ltb-false, lt-ltb, leb-true, le-leb, not-false}
@@ -13,12 +13,12 @@ use lib.ListN.{length, drop, get_elem?}
 use lib.Seq.{drop_at}
 use Rattle.bits.specs.Bits.{bits_of}
 use Rattle.bits.proofs.Bytes.{length-bits_of}
-use Rattle.models.specs.Answers.{Said, answered, refused, NoneHolds}
+use Rattle.models.specs.Answers.{answered, refused, NoneHolds}
 use Rattle.models.specs.Limits.{most_values}
 use Rattle.models.specs.Refusals.{fault_of}
 use Rattle.models.specs.declared.Refusal.{Refusal}
 use Rattle.models.proofs.Tests.{and_parts, and_both, and-past, or-either, neither}
-use Rattle.stream.specs.Format.{macaque, opening, window_in, unset, Stream, State, bare, is_opening, leaves_a_bit}
+use Rattle.stream.specs.Format.{macaque, unset, Stream, bare, is_opening, leaves_a_bit}
 use Rattle.stream.specs.Read.{Reading, done, stopped, read_n}
 use Rattle.stream.specs.Calls.{lent_bytes, fault_at, values_read}
 use Rattle.places.specs.Table.{spacing, Entry, entry_before, reads_from, reads_in_all, state_from, may_start, without, read_range}
@@ -27,10 +27,10 @@ use Rattle.stream.proofs.Formats.{macaque-good, Framed}
 use Rattle.stream.proofs.Rule.{opening-says, framed-says}
 use Rattle.stream.proofs.Reading.{prepend, then_read, read-then}
 use Rattle.stream.proofs.Gathered.{Alike, read-any}
-use Rattle.places.proofs.Any.{range-empty, range-reads}
+use Rattle.places.proofs.Any.{range-reads}
 use Rattle.places.proofs.Words.{entry-in-use, no-entry-in-use}
 use Rattle.coding.specs.Inner.Ahead.{WindowSound}
-use Rattle.macaque_v.specs.State.{Known, gather_known, mode_of, stream_in, is_first}
+use Rattle.macaque_v.specs.State.{gather_known, mode_of, stream_in}
 use Rattle.macaque_v.specs.ReadRun.{state_at, ahead}
 use Rattle.macaque_v.specs.Inner.ReadRun.{read_from, Reads, StopsBy, ReadableAt}
 use Rattle.macaque_v.specs.Inner.Read.{values_from}

@@ -2,13 +2,12 @@
 use mathlib.Core.Path.{◌≡◌, refl, sym, ap, ap₂, ◌∙◌, subst}
 use mathlib.Core.Bool.{Bool, true, false, not, ◌||◌}
 use mathlib.Core.List.{List, [], ◌∷◌, ◌++◌}
-use Prim.Native.Nat.{ℕ, ◌+◌, ◌*◌, ◌^◌, ◌≤◌, ◌<◌}
+use Prim.Native.Nat.{ℕ, ◌+◌, ◌*◌, ◌^◌, ◌<◌}
 use lib.Dec.{leb, ltb}
 use lib.ListN.{length}
 use lib.Ieee.{Float}
 use Rattle.bits.specs.Bits.{Below, laid_in}
 use Rattle.models.specs.Answers.{answered, answered_on, Cause, ◌when◌, judge, judged_on, judged_memory}
-use Rattle.models.specs.Limits.{most_values}
 use Rattle.models.specs.declared.ErrorBound.{ErrorBound}
 use Rattle.stream.specs.Format.{Stream, State}
 use Rattle.stream.specs.Write.{next}
@@ -18,7 +17,6 @@ use Rattle.places.specs.Table.{Entry, noted, entries, entries_for}
 use Rattle.places.specs.Calls.{Beside, entries_lent, table_causes, laid_entries}
 use Rattle.macaque_v.specs.State.{Known, ends_in, state_of, opening_value}
 use Rattle.macaque_v.specs.Write.{stream_by, coder_by, writer_at, wrote_by}
-use Rattle.macaque_v.specs.Inner.Write.{entries_by}
 use Rattle.macaque_v.specs.Sums.{OfItsBytes, SumsAsTheCall, with_sum, carried}
 use Rattle.macaque_v.specs.declared.MacaqueV.{MacaqueV}
 use Rattle.macaque_v.specs.declared.Opening.{Opening}

@@ -3,7 +3,7 @@
 use Rattle.std.specs.Prelude.{◌≡◌, refl, List, ℕ}
 use Rattle.std.proofs.Common.{ap}
 use Rattle.models.specs.Answers.{Said, Done, answered, refused, SaidOn, answered_on, refused_on, Cause, Injective, told-apart}
-use Rattle.models.specs.Refusals.{fault_of, refusal_of, refusal-told, unsaid, unsaid_on}
+use Rattle.models.specs.Refusals.{fault_of, refusal-told, unsaid, unsaid_on}
 use Rattle.models.specs.Causes.{bound_causes}
 use Rattle.models.specs.declared.ErrorBound.{ErrorBound}
 use Rattle.stream.specs.Format.{macaque}

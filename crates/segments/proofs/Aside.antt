@@ -63,10 +63,10 @@ module _ (b : ErrorBound) (last : ℕ) (small : last < 2 ^ 32) (xs : List ℕ) (
       let vs : List ℕ = kept (keep_rule b) (stream_in false) (opened (On last)) xs in
       count-after (stream_in false) (opened (On last)) vs ∙ zero-add (length vs) ∙ length-kept (stream_in false) (keep_rule b) (opened (On last)) xs
 
-  module _ (m : MacaqueV) (opens : new_answer b (On last) ≡ answered m) (buf : List ℕ) (long : length buf ≡ 1403) where
+  module _ (m : MacaqueV) (opens : new_answer b (On last) ≡ answered m) (buf : List ℕ) (room : 1403 ≤ length buf) where
     pub written-aside : write_answer m xs buf ≡ answered_on (writer_of b false (residuals_on b last xs))
     written-aside =
-        a-write-has-room (a-fresh-writer b (On last) buf m opens) small (opened-allowed b last m opens) (λ i. omega arith) most_residuals (omega arith) (omega (arith, long)) xs (omega (arith, few))
+        a-write-has-room (a-fresh-writer b (On last) buf m opens) small (opened-allowed b last m opens) (λ i. omega arith) most_residuals (omega arith) room xs (omega (arith, few))
 
     module _ (n : MacaqueV) (h : write_answer m xs buf ≡ answered_on n) where
       same_writer : n ≡ writer_of b false (residuals_on b last xs)
@@ -75,8 +75,8 @@ module _ (b : ErrorBound) (last : ℕ) (small : last < 2 ^ 32) (xs : List ℕ) (
       pub aside-count : n.length ≡ length xs
       aside-count = ap (λ (w : MacaqueV). w.length) same_writer ∙ residuals-count
 
-      pub aside-long : length (write_memory m xs buf) ≡ 1403
-      aside-long = length-written m xs buf n h ∙ long
+      pub aside-long : length (write_memory m xs buf) ≡ length buf
+      aside-long = length-written m xs buf n h
 
       pub aside-place : n.place ≤ 8 * length (write_memory m xs buf)
       unfolding write_answer

@@ -1,5 +1,5 @@
 -- What is stored of a segment: the parameter bytes of its model, its residual bytes, its finished minimum and maximum. Assumes nothing.
-use Rattle.std.specs.Prelude.{false, cond, List, [], ◌∷◌, ◌++◌, ℕ, ◌+◌, eqb, length}
+use Rattle.std.specs.Prelude.{false, cond, List, [], ◌∷◌, ◌++◌, ℕ, eqb, length}
 use Rattle.models.specs.Floats.{min_bits, max_bits, plain_bits}
 use Rattle.models.specs.declared.ErrorBound.{ErrorBound}
 use Rattle.stream.specs.Format.{State}

@@ -1,5 +1,4 @@
 -- `compare::steps` is safe and ends: each turn brings it nearer to the most steps that there are. Assumes nothing.
-use borrow.Author.Rules.{rules}
 use Prim.Native.Nat.{◌-◌}
 use Rattle.compare.proofs.steps.Given as goal
 

@@ -1,5 +1,4 @@
 -- `comparing::judge_step` meets its contract: the tests are those of the list of causes. Assumes nothing.
-use borrow.Author.Rules.{rules}
 use Rattle.models.specs.Answers.{judge}
 use Rattle.comparing.proofs.judge_step.Goals as goal
 

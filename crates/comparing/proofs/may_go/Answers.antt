@@ -1,5 +1,4 @@
 -- `comparing::may_go` meets its contract. Assumes nothing.
-use borrow.Author.Rules.{rules}
 use Rattle.comparing.proofs.may_go.Goals as goal
 
 pub returns : goal.returns

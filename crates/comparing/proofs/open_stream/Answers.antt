@@ -1,5 +1,4 @@
 -- `comparing::open_stream` meets its contract, by what the last value's call says: an answer, or the stream's refusal. Assumes nothing.
-use borrow.Author.Rules.{rules}
 use mathlib.Core.Path.{◌≡◌, refl, sym, ap, ◌∙◌}
 use mathlib.Core.List.{List}
 use Prim.Native.Nat.{ℕ, ◌≤◌}

@@ -1,5 +1,4 @@
 -- `comparing::refusal` meets its contract: the side, and the line of the refusal behind it. Assumes nothing.
-use borrow.Author.Rules.{rules}
 use Rattle.models.specs.Refusals.{fault_of}
 use Rattle.listing.specs.Text.{field, refused_text}
 use Rattle.listing.proofs.Putting.{put_then, put-laid}

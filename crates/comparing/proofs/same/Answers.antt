@@ -1,5 +1,4 @@
 -- `comparing::same` meets its contract. Assumes nothing.
-use borrow.Author.Rules.{rules}
 use mathlib.Core.Path.{sym, ap₂}
 use Rattle.comparing.specs.Differences.{same_entry}
 use Rattle.comparing.proofs.same.Goals as goal

@@ -1,5 +1,4 @@
 -- `comparing::step` meets its contract: its causes, then the turns of both sides. Assumes nothing.
-use borrow.Author.Rules.{rules}
 use mathlib.Core.Path.{◌≡◌, ap, ap₂, ◌∙◌}
 use mathlib.Core.Bool.{not, ◌||◌}
 use mathlib.Core.List.{List}

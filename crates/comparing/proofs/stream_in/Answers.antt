@@ -1,5 +1,4 @@
 -- `comparing::stream_in` meets its contract: nothing, of a file that has no whole head. Assumes nothing.
-use borrow.Author.Rules.{rules}
 use mathlib.Core.Path.{sym, ap, ◌∙◌}
 use Prim.Native.Nat.{◌-◌}
 use native.Mathlib.Omega.{arith}

@@ -1,5 +1,4 @@
 -- `comparing::take_both` meets its contract, by what the turns of both sides say. Assumes nothing.
-use borrow.Author.Rules.{rules}
 use mathlib.Core.Path.{◌≡◌, sym, ap, ap₂, ◌∙◌}
 use mathlib.Core.List.{List}
 use Prim.Native.Nat.{ℕ}

@@ -1,5 +1,4 @@
 -- `comparing::take_turn` meets its contract. Assumes nothing.
-use borrow.Author.Rules.{rules}
 use mathlib.Core.Path.{◌≡◌, sym, ap, ◌∙◌}
 use borrow.Author.Tests.{eq-eqb, ne_eqb}
 use Rattle.models.specs.declared.ValueAnswer.{ValueAnswer}

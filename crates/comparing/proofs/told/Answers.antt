@@ -1,10 +1,8 @@
 -- `comparing::told` meets its contract: a difference, the last line, or nothing where both have the same value. Assumes nothing.
-use borrow.Author.Rules.{rules}
 use mathlib.Core.Path.{◌≡◌, refl, sym, ap, ap₂, ◌∙◌}
 use mathlib.Core.Bool.{true, false}
 use mathlib.Core.List.{List}
 use Prim.Native.Nat.{ℕ}
-use borrow.Author.Tests.{not-true, not-false}
 use lib.ListN.{length}
 use Rattle.models.specs.Answers.{answered}
 use Rattle.comparing.specs.Differences.{same_entry}

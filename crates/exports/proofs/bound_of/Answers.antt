@@ -1,5 +1,4 @@
 -- `exports::bound_of` meets its contract, kind by kind. Assumes nothing.
-use borrow.Author.Rules.{rules}
 use borrow.Author.Tests.{eq-eqb, ne_eqb}
 use lib.Ieee as Ieee
 use Rattle.exports.specs.Face.{bound_of}

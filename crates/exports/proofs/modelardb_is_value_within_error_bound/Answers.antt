@@ -9,7 +9,6 @@ use Rattle.models.specs.declared.ErrorBound.{ErrorBound}
 use Rattle.exports.specs.Face.{bound_of, one_word, word_of_truth}
 use Rattle.exports.specs.Inner.Put.{worded}
 use Rattle.exports.proofs.Rows.{refused-row, alike}
-use borrow.Author.Rules.{rules}
 use Rattle.exports.proofs.modelardb_is_value_within_error_bound.Goals as goal
 use Rattle.exports.proofs.modelardb_is_value_within_error_bound.Goals.{After-is_value_within_error_bound}
 

@@ -9,7 +9,6 @@ use Rattle.models.specs.Calls.{says_deviation, deviation_answer}
 use Rattle.exports.specs.Face.{bound_of, word_of64}
 use Rattle.exports.specs.Inner.Put.{worded, whole_row}
 use Rattle.exports.proofs.Rows.{refused-row, alike}
-use borrow.Author.Rules.{rules}
 use Rattle.exports.proofs.modelardb_maximum_allowed_deviation.Goals as goal
 use Rattle.exports.proofs.modelardb_maximum_allowed_deviation.Goals.{After-maximum_allowed_deviation}
 

@@ -1,5 +1,4 @@
 -- `exports::modelardb_narrow` meets its contract: each step says what it gives. Assumes nothing.
-use borrow.Author.Rules.{rules}
 use Rattle.exports.proofs.modelardb_narrow.Goals as goal
 
 pub returns : goal.returns

@@ -1,5 +1,4 @@
 -- `exports::modelardb_widen` meets its contract: each step says what it gives. Assumes nothing.
-use borrow.Author.Rules.{rules}
 use Rattle.exports.proofs.modelardb_widen.Goals as goal
 
 pub returns : goal.returns

@@ -3,7 +3,6 @@ use mathlib.Core.Path.{sym, ap}
 use Rattle.exports.specs.Face.{word_of32}
 use Rattle.exports.specs.Inner.Put.{worded, says_float}
 use Rattle.exports.specs.declared.FloatAnswer.{FloatAnswer}
-use borrow.Author.Rules.{rules}
 use Rattle.exports.proofs.pattern_in.Goals as goal
 
 pub returns-in-Refused : goal.returns-in-Refused

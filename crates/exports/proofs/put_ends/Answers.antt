@@ -3,7 +3,6 @@ use mathlib.Core.Path.{ap, ◌∙◌}
 use Rattle.models.specs.Refusals.{fault_of}
 use Rattle.exports.specs.Inner.Put.{says_pair, pair_row}
 use Rattle.exports.proofs.Rows.{refused-row, short_row, full-row, two-set}
-use borrow.Author.Rules.{rules}
 use Rattle.exports.proofs.put_ends.Goals as goal
 
 pub returns-then-out-lt2 : goal.returns-then-out-lt2

@@ -4,7 +4,6 @@ use Rattle.models.specs.Refusals.{fault_of}
 use Rattle.models.specs.declared.Verdict.{Verdict}
 use Rattle.exports.specs.Inner.Put.{whole_row, words_said}
 use Rattle.exports.proofs.Rows.{refused-row, short_row, full-row}
-use borrow.Author.Rules.{rules}
 use Rattle.exports.proofs.put_said.Goals as goal
 
 pub returns-then-row-words : goal.returns-then-row-words

@@ -4,7 +4,6 @@ use Rattle.models.specs.Refusals.{fault_of}
 use Rattle.models.specs.Calls.{says_value}
 use Rattle.exports.specs.Face.{one_word}
 use Rattle.exports.proofs.Rows.{refused-row, short_row, full-row, one_set}
-use borrow.Author.Rules.{rules}
 use Rattle.exports.proofs.put_value.Goals as goal
 
 pub returns-then-out-lt1 : goal.returns-then-out-lt1

@@ -1,5 +1,4 @@
 -- `exports_reader::modelardb_reader_end` meets its contract, by what the call behind it said. Assumes nothing.
-use borrow.Author.Rules.{rules}
 use mathlib.Core.Path.{◌≡◌, sym, ap, ◌∙◌}
 use Rattle.models.specs.Calls.{says_verdict}
 use Rattle.models.specs.declared.Verdict.{Verdict}

@@ -1,5 +1,4 @@
 -- `exports_reader::modelardb_reader_last_value` meets its contract, by what the call behind it said. Assumes nothing.
-use borrow.Author.Rules.{rules}
 use Rattle.exports_reader.proofs.modelardb_reader_last_value.Goals as goal
 
 pub returns : goal.returns

@@ -14,7 +14,6 @@ use Rattle.reader.specs.declared.position.Position.{Position}
 use Rattle.exports.proofs.Rows.{put, step-said, one_set}
 use Rattle.exports_reader.specs.Row.{reader_length, reader_row, position_in}
 use Rattle.exports_reader.proofs.Faces.{next-refused, next-no-room, next-answered, stands, has_words, reader-long}
-use borrow.Author.Rules.{rules}
 use Rattle.exports_reader.proofs.modelardb_reader_next.Goals as goal
 use Rattle.exports_reader.proofs.modelardb_reader_next.Goals.{After-step_from-step}
 

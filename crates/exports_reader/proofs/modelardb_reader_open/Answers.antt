@@ -11,7 +11,6 @@ use Rattle.exports.proofs.Rows.{put}
 use Rattle.exports_reader.specs.Row.{reader_length, reader_row}
 use Rattle.exports_reader.specs.Calls.{open_fault, open_row}
 use Rattle.exports_reader.proofs.Faces.{open_said, reader-long}
-use borrow.Author.Rules.{rules}
 use Rattle.exports_reader.proofs.modelardb_reader_open.Goals as goal
 
 pub returns-then-mode-gt1 : goal.returns-then-mode-gt1

@@ -1,5 +1,4 @@
 -- `exports_stream::judge_new` meets its contract: the tests are those of the list of causes. Assumes nothing.
-use borrow.Author.Rules.{rules}
 use Rattle.models.specs.Answers.{judge}
 use Rattle.exports_stream.proofs.judge_new.Goals as goal
 

@@ -1,5 +1,4 @@
 -- `exports_stream::judge_reopen` meets its contract: the causes of the call behind, then the row's. Assumes nothing.
-use borrow.Author.Rules.{rules}
 use mathlib.Core.Path.{sym, ap, ◌∙◌}
 use mathlib.Core.List.{[], ◌∷◌}
 use lib.Dec.{ltb}

@@ -14,7 +14,6 @@ use Rattle.exports.proofs.Rows.{step-said, put}
 use Rattle.exports_stream.specs.Row.{writer_length, written_row, writer_in}
 use Rattle.exports_stream.proofs.Faces.{stands}
 use Rattle.exports_stream.proofs.Words.{has_words, written-long}
-use borrow.Author.Rules.{rules}
 use Rattle.exports_stream.proofs.modelardb_macaque_v_compress_values.Goals as goal
 use Rattle.exports_stream.proofs.modelardb_macaque_v_compress_values.Goals.{After-compress_values}
 

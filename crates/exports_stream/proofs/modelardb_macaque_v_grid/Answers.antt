@@ -1,5 +1,4 @@
 -- `exports_stream::modelardb_macaque_v_grid` meets its contract, by what the call behind it said. Assumes nothing.
-use borrow.Author.Rules.{rules}
 use mathlib.Core.Path.{◌≡◌, sym, ap, ap₂, ◌∙◌}
 use Prim.Native.Nat.{ℕ}
 use lib.ListN.{length}

@@ -1,6 +1,5 @@
 -- `exports_stream::modelardb_macaque_v_most_bits` meets its contract, by what the call behind it said. Assumes nothing.
 use Rattle.exports_stream.specs.Size.{most_bits_fault, most_bits_number}
-use borrow.Author.Rules.{rules}
 use Rattle.exports_stream.proofs.modelardb_macaque_v_most_bits.Goals as goal
 
 pub returns : goal.returns

@@ -1,6 +1,5 @@
 -- `exports_stream::modelardb_macaque_v_most_bytes` meets its contract, by what the call behind it said. Assumes nothing.
 use Rattle.exports_stream.specs.Size.{most_bytes_fault, most_bytes_number}
-use borrow.Author.Rules.{rules}
 use Rattle.exports_stream.proofs.modelardb_macaque_v_most_bytes.Goals as goal
 
 pub returns : goal.returns

@@ -1,5 +1,4 @@
 -- `exports_stream::modelardb_macaque_v_new` meets its contract: refused by the first cause that holds, else by what the call behind it said. Assumes nothing.
-use borrow.Author.Rules.{rules}
 use mathlib.Core.Path.{◌≡◌, ap, ap₂, ◌∙◌}
 use borrow.Author.Tests.{ltb-false}
 use lib.ListN.{length}

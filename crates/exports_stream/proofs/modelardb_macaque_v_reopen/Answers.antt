@@ -1,5 +1,4 @@
 -- `exports_stream::modelardb_macaque_v_reopen` meets its contract: refused by the first cause that holds, else by what the call behind it said. Assumes nothing.
-use borrow.Author.Rules.{rules}
 use mathlib.Core.Path.{◌≡◌, ap₂, ◌∙◌}
 use Prim.Native.Nat.{ℕ}
 use borrow.Author.Tests.{ltb-false}

@@ -1,6 +1,5 @@
 -- `exports_stream::modelardb_macaque_v_sum` meets its contract, by what the call behind it said. Assumes nothing.
 use Rattle.exports_stream.specs.Calls.{sum_fault, sum_out}
-use borrow.Author.Rules.{rules}
 use Rattle.exports_stream.proofs.modelardb_macaque_v_sum.Goals as goal
 
 pub returns : goal.returns

@@ -16,7 +16,6 @@ use Rattle.exports_stream.specs.Row.{writer_length, writer_in}
 use Rattle.exports_stream.proofs.Words.{has_words, written-long}
 use Rattle.exports_stream.specs.Tabled.{beside_written, entries_after}
 use Rattle.exports_stream.proofs.Tabled.{stands}
-use borrow.Author.Rules.{rules}
 use Rattle.exports_stream.proofs.modelardb_table_compress_values.Goals as goal
 use Rattle.exports_stream.proofs.modelardb_table_compress_values.Goals.{After-compress_values, Start}
 

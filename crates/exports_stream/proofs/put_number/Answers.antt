@@ -3,7 +3,6 @@ use mathlib.Core.Path.{sym, ap, ◌∙◌}
 use Rattle.macaque_v.specs.Size.{says_size}
 use Rattle.exports.specs.Face.{plain_fault}
 use Rattle.exports_stream.specs.Size.{number_after}
-use borrow.Author.Rules.{rules}
 use Rattle.exports_stream.proofs.put_number.Goals as goal
 
 pub returns-in-Refused : goal.returns-in-Refused

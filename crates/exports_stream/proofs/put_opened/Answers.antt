@@ -10,7 +10,6 @@ use Rattle.exports.specs.Inner.Put.{worded}
 use Rattle.exports_stream.specs.Row.{writer_row}
 use Rattle.exports_stream.proofs.Faces.{put-plain}
 use Rattle.exports_stream.proofs.Words.{writer-long}
-use borrow.Author.Rules.{rules}
 use Rattle.exports_stream.proofs.put_opened.Goals as goal
 
 pub returns-in-Refused : goal.returns-in-Refused

@@ -1,5 +1,4 @@
 -- `exports_table::judge_rescue` meets its contract: the causes of the call behind, then the row's. Assumes nothing.
-use borrow.Author.Rules.{rules}
 use Rattle.exports_table.proofs.judge_rescue.Goals as goal
 
 pub returns : goal.returns

@@ -1,7 +1,6 @@
 -- `exports_table::judge_row` meets its contract. Assumes nothing.
-use borrow.Author.Rules.{rules}
 use mathlib.Core.Path.{sym, ap, ◌∙◌}
-use Rattle.models.specs.Answers.{◌when◌, judge}
+use Rattle.models.specs.Answers.{judge}
 use Rattle.models.specs.Calls.{says_verdict}
 use Rattle.models.proofs.Judged.{refused-first, passed_first}
 use Rattle.exports_table.proofs.judge_row.Goals as goal

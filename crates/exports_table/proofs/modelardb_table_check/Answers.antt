@@ -1,5 +1,4 @@
 -- `exports_table::modelardb_table_check` meets its contract, by what the call behind it said. Assumes nothing.
-use borrow.Author.Rules.{rules}
 use mathlib.Core.Path.{◌≡◌, sym, ap, ap₂, ◌∙◌}
 use Prim.Native.Nat.{ℕ}
 use Rattle.place_table.specs.Calls.{says_check, check_answer}

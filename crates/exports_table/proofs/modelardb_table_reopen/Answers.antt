@@ -1,5 +1,4 @@
 -- `exports_table::modelardb_table_reopen` meets its contract: refused by the first cause that holds, else by what the call behind it said. Assumes nothing.
-use borrow.Author.Rules.{rules}
 use mathlib.Core.Path.{◌≡◌, sym, ap, ap₂, ◌∙◌}
 use mathlib.Core.List.{List}
 use Prim.Native.Nat.{ℕ}

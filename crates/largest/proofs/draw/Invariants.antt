@@ -1,5 +1,5 @@
 -- `largest::draw` is safe and ends: each turn sets one more value. Assumes nothing.
-use Rattle.std.proofs.Common.{◌≡◌, ◌-◌, length, rules}
+use Rattle.std.proofs.Common.{◌≡◌, ◌-◌, length}
 use Rattle.largest.proofs.draw.Given as goal
 
 abbrev pub invariant-loop-i : goal.invariant-loop-i

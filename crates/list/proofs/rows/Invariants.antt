@@ -1,5 +1,4 @@
 -- `list::rows` is safe and ends: each turn brings it nearer to the count. Assumes nothing.
-use borrow.Author.Rules.{rules}
 use Prim.Native.Nat.{◌-◌}
 use Rattle.list.proofs.rows.Given as goal
 

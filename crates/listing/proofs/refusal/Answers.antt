@@ -1,5 +1,4 @@
 -- `listing::refusal` meets its contract: the line of the refusal, from the front on. Assumes nothing.
-use borrow.Author.Rules.{rules}
 use Rattle.models.specs.Refusals.{fault_of}
 use Rattle.listing.specs.Text.{refused_text}
 use Rattle.listing.proofs.Putting.{put-laid}

@@ -1,5 +1,4 @@
 -- `listing::row_between` meets its contract: the bits ahead tell the kind. Assumes nothing.
-use borrow.Author.Rules.{rules}
 use mathlib.Core.Path.{ap, ◌∙◌}
 use mathlib.Core.Bool.{Bool, true}
 use Prim.Native.Nat.{◌-◌}

@@ -1,5 +1,4 @@
 -- `listing::total` meets its contract. Assumes nothing.
-use borrow.Author.Rules.{rules}
 use Rattle.listing.specs.Text.{total_word, field, last_field, decimal, total_text}
 use Rattle.listing.proofs.Putting.{put_then, put-laid}
 use Rattle.listing.proofs.total.Goals as goal

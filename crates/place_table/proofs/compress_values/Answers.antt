@@ -1,10 +1,7 @@
 -- `place_table::compress_values` meets its contract: refused by the first cause that holds, else written and noted. Assumes nothing.
-use borrow.Author.Rules.{rules}
 use mathlib.Core.Path.{◌≡◌, sym, ap, ap₂, ◌∙◌}
-use mathlib.Core.List.{List}
-use Prim.Native.Nat.{ℕ, ◌+◌}
+use Prim.Native.Nat.{ℕ}
 use lib.ListN.{length}
-use Rattle.bits.specs.Bits.{laid_in}
 use Rattle.models.specs.Answers.{answered, answered_on, refused, verdict, refusing, keeping}
 use Rattle.models.specs.Refusals.{fault_of}
 use Rattle.models.specs.Calls.{says_verdict}
@@ -12,9 +9,8 @@ use Rattle.models.proofs.Judged.{none, turned-back}
 use Rattle.models.proofs.Judged as judging
 use Rattle.stream.specs.Calls.{lent_bytes}
 use Rattle.places.specs.Table.{entries_for}
-use Rattle.places.specs.Calls.{Beside, laid_entries}
-use Rattle.macaque_v.specs.Write.{writer_at, wrote_by}
-use Rattle.macaque_v.specs.Inner.Write.{written_by, entries_by}
+use Rattle.places.specs.Calls.{laid_entries}
+use Rattle.macaque_v.specs.Inner.Write.{entries_by}
 use Rattle.macaque_v.specs.declared.MacaqueV.{MacaqueV}
 use Rattle.macaque_v.proofs.Writing.{written_count}
 use Rattle.place_table.specs.Calls.{table_write_causes, table_write_answer, table_write_memory, table_write_table}

@@ -1,6 +1,5 @@
 -- `place_table::judge_check` meets its contract. Assumes nothing.
-use borrow.Author.Rules.{rules}
-use mathlib.Core.Path.{◌≡◌, ap, ◌∙◌}
+use mathlib.Core.Path.{ap, ◌∙◌}
 use mathlib.Core.Bool.{cond}
 use lib.Dec.{ltb}
 use Rattle.models.specs.Answers.{Said, Done, refused, fault, judge}

@@ -1,5 +1,4 @@
 -- `place_table::judge_reopen` meets its contract: the causes of the plain call, then the table's. Assumes nothing.
-use borrow.Author.Rules.{rules}
 use mathlib.Core.Path.{sym, ap, ◌∙◌}
 use Rattle.models.specs.Calls.{says_verdict}
 use Rattle.models.proofs.Judged.{refused-first, passed_first}

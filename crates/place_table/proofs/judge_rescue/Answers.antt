@@ -1,5 +1,4 @@
 -- `place_table::judge_rescue` meets its contract: the causes of the plain call, then the room for entries. Assumes nothing.
-use borrow.Author.Rules.{rules}
 use mathlib.Core.Path.{sym, ap, ◌∙◌}
 use mathlib.Core.List.{[], ◌∷◌}
 use Prim.Native.Nat.{ℕ}

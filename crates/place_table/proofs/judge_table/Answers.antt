@@ -1,6 +1,5 @@
 -- `place_table::judge_table` meets its contract. Assumes nothing.
-use borrow.Author.Rules.{rules}
-use mathlib.Core.Path.{◌≡◌, refl, sym, ap, ◌∙◌}
+use mathlib.Core.Path.{sym, ap, ◌∙◌}
 use mathlib.Core.Bool.{cond}
 use lib.Dec.{ltb}
 use Prim.Native.Nat.{◌/◌}

@@ -1,13 +1,12 @@
 -- `place_table::range` meets its contract: refused by the first cause that holds, else what reading behind the entry gives. Assumes nothing.
-use borrow.Author.Rules.{rules}
 use mathlib.Core.Path.{◌≡◌, sym, ap, ap₂, ◌∙◌, subst}
 use mathlib.Core.Bool.{Bool}
-use mathlib.Core.List.{List, []}
-use Prim.Native.Nat.{ℕ, ◌-◌, ◌%◌, ◌/◌, ◌≤◌, ◌<◌}
+use mathlib.Core.List.{[]}
+use Prim.Native.Nat.{◌-◌, ◌%◌, ◌≤◌, ◌<◌}
 use native.Mathlib.Omega.{arith}
 use lib.ListN.{length}
 use Rattle.bits.specs.Bits.{bits_of}
-use Rattle.models.specs.Answers.{Said, answered, refused, keeping, NoneHolds}
+use Rattle.models.specs.Answers.{answered, refused, keeping, NoneHolds}
 use Rattle.models.proofs.Judged.{none-holds, when-passed, when-refused}
 use Rattle.stream.specs.Calls.{drawn, drawn_in}
 use Rattle.places.specs.Table.{read_range}
@@ -18,7 +17,7 @@ use Rattle.macaque_v.specs.Inner.ReadRun.{ReadableAt}
 use Rattle.macaque_v.specs.declared.read_run.Cursor.{Cursor}
 use Rattle.place_table.specs.Calls.{range_causes, range_answer, range_memory}
 use Rattle.place_table.specs.Inner.Range.{values_behind}
-use Rattle.place_table.proofs.Ranging.{Starts, range-behind, in_order, lent, may-begin, fits}
+use Rattle.place_table.proofs.Ranging.{range-behind, in_order, lent, may-begin, fits}
 use Rattle.place_table.proofs.range.Goals as goal
 use Rattle.place_table.proofs.range.Goals.{In-Passed}
 

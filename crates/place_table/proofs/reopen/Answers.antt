@@ -1,5 +1,4 @@
 -- `place_table::reopen` meets its contract: refused by the first cause that holds, else what the plain call says. Assumes nothing.
-use borrow.Author.Rules.{rules}
 use mathlib.Core.Path.{◌≡◌, sym, ap, ◌∙◌}
 use mathlib.Core.List.{List}
 use Prim.Native.Nat.{ℕ}
@@ -42,6 +41,9 @@ returns-in-Passed c =
     let says = c.judge_reopen.ensures in
     let ok = c.in-Passed.is in
     let p = plainly a.buffer.now a.used a.count a.k a.opening a.error_bound (length a.table.now) a.entries (none-holds causes _ says ok) in
-    let r = c.reopen-opened.ensures in record { answer = c.with_entries.ensures ∙ ap beside_said (r.answer ∙ p.0)
+    let r = c.reopen-opened.ensures in record {
+      answer = c.with_entries.ensures ∙ ap beside_said (r.answer ∙ p.0)
           ∙ beside-resumed a.error_bound (is_first a.opening) (reopening (take a.used a.buffer.now) a.count a.k a.opening)
-          ∙ when-passed causes _ says refused _ ok; bytes = r.bytes ∙ p.1 ∙ when-passed causes _ says (keeping a.buffer.now) _ ok }
+          ∙ when-passed causes _ says refused _ ok;
+      bytes = r.bytes ∙ p.1 ∙ when-passed causes _ says (keeping a.buffer.now) _ ok;
+    }

@@ -1,6 +1,5 @@
 -- `place_table::rescue` meets its contract: refused by the first cause that holds, else by damage; else opened as the plain call does, with the table of
 -- what was found. Assumes nothing.
-use borrow.Author.Rules.{rules}
 use mathlib.Core.Path.{sym, ap, ◌∙◌}
 use Prim.Native.Nat.{◌≤◌}
 use lib.ListN.{length, take}

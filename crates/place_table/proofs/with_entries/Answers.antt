@@ -1,5 +1,4 @@
 -- `place_table::with_entries` meets its contract. Assumes nothing.
-use borrow.Author.Rules.{rules}
 use mathlib.Core.Path.{sym, ap, ◌∙◌}
 use Prim.Native.Nat.{ℕ}
 use Rattle.models.specs.Answers.{answered}

@@ -1,5 +1,4 @@
 -- `reader::last_value` meets its contract: it goes through the stream to its end, and reading stands at the last value. Assumes nothing.
-use borrow.Author.Rules.{rules}
 use mathlib.Core.Path.{◌≡◌, sym, ap, ◌∙◌, subst, subst₂}
 use mathlib.Core.Bool.{Bool}
 use Prim.Native.Nat.{ℕ}

@@ -1,5 +1,4 @@
 -- `segments::counted_length` meets its contract. Assumes nothing.
-use borrow.Author.Rules.{rules}
 use borrow.Author.Tests.{eq-eqb, ne_eqb}
 use Rattle.segments.proofs.counted_length.Goals as goal
 

@@ -1,5 +1,4 @@
 -- `segments::form_of` meets its contract. Assumes nothing.
-use borrow.Author.Rules.{rules}
 use Rattle.segments.specs.Segment.{form_of}
 use borrow.Author.Tests.{eq-eqb, ne_eqb}
 use Rattle.segments.proofs.form_of.Goals as goal

@@ -1,5 +1,4 @@
 -- `segments::hand_out` meets its contract. Assumes nothing.
-use borrow.Author.Rules.{rules}
 use Rattle.models.proofs.Tests.{neither}
 use Rattle.models.proofs.Judged.{accepted}
 use Prim.Native.Nat.{◌≤◌}
@@ -24,7 +23,7 @@ module _ (c : After-counted_length-residuals_length) where
 
   residuals-long : c.counted_length-residuals_length.result ≡ length (counted_bytes (take (whole_bytes c.args.after.place) c.args.stream.now) c.args.after.length)
   residuals-long =
-      c.counted_length-residuals_length.ensures ∙ sym (length-counted c.args.stream.now (whole_bytes c.args.after.place) c.args.after.length (omega (arith, (c.requires.in_stream, c.requires.few, c.requires.short))))
+      c.counted_length-residuals_length.ensures ∙ sym (length-counted c.args.stream.now (whole_bytes c.args.after.place) c.args.after.length (omega (arith, c.requires.in_stream, c.requires.few, c.requires.short)))
 
 -- both outputs hold what goes there
 fits : (c : Else-values_out-values_length) → (c.length_of-values_length.result ≤ length c.args.values_out.now) × (c.counted_length-residuals_length.result ≤ length c.args.residuals_out.now)
@@ -35,19 +34,22 @@ fits c =
 pub returns-then-values_out-values_length : goal.returns-then-values_out-values_length
 unfolding stored_by handed_answer handed_values handed_residuals judge
 returns-then-values_out-values_length c =
-    let q = c in
-    let short = rw (values-long (goal.at.returns-then-values_out-values_length q).After-counted_length-residuals_length, residuals-long (goal.at.returns-then-values_out-values_length q).After-counted_length-residuals_length) at c.if-values_out-values_length.true in
+    let short = rw (values-long (goal.at.returns-then-values_out-values_length c).After-counted_length-residuals_length, residuals-long (goal.at.returns-then-values_out-values_length c).After-counted_length-residuals_length) at c.if-values_out-values_length.true in
     rw short record { answer = refl; values = refl; bytes = refl }
 
 pub put-requires : goal.put-requires
 put-requires c = omega (arith, (fits (goal.at.put-requires c).Else-values_out-values_length).0, c.length_of-values_length.ensures)
 
 pub put_counted-requires : goal.put_counted-requires
-put_counted-requires c =
-    let at-start = c in let both = (omega (arith, (at-start.requires.in_stream, at-start.requires.few, at-start.requires.short)), (omega (arith, (at-start.requires.in_stream, at-start.requires.few, at-start.requires.short)), (at-start.requires.few, omega (arith, (fits (goal.at.put_counted-requires c).Else-values_out-values_length).1, c.counted_length-residuals_length.ensures)))) in record { in_stream = both.0; short = both.1; few = both.2; room = both.3 }
+put_counted-requires c = record {
+  in_stream = omega (arith, c.requires.in_stream, c.requires.few, c.requires.short);
+  short = omega (arith, c.requires.in_stream, c.requires.few, c.requires.short);
+  few = c.requires.few;
+  room = omega (arith, (fits (goal.at.put_counted-requires c).Else-values_out-values_length).1, c.counted_length-residuals_length.ensures);
+}
 
 pub returns : goal.returns
 unfolding stored_by handed_answer handed_values handed_residuals
 returns c =
-    let q = c in
-    let room = rw (values-long (goal.at.returns q).After-counted_length-residuals_length, residuals-long (goal.at.returns q).After-counted_length-residuals_length) at c.if-values_out-values_length.false in record { answer = ap answered (rw (c.max_bits.ensures, c.max_of.ensures, c.min_bits.ensures, c.min_of.ensures, values-long (goal.at.returns q).After-counted_length-residuals_length, residuals-long (goal.at.returns q).After-counted_length-residuals_length)) ∙ accepted _ _ _ (room, tt); values = c.put.ensures ∙ rw c.form_of-form.ensures (accepted _ _ _ (room, tt)); bytes = c.put_counted.ensures ∙ accepted _ _ _ (room, tt) }
+    let room = rw (values-long (goal.at.returns c).After-counted_length-residuals_length, residuals-long (goal.at.returns c).After-counted_length-residuals_length) at c.if-values_out-values_length.false in
+    record { answer = ap answered (rw (c.max_bits.ensures, c.max_of.ensures, c.min_bits.ensures, c.min_of.ensures, values-long (goal.at.returns c).After-counted_length-residuals_length, residuals-long (goal.at.returns c).After-counted_length-residuals_length)) ∙ accepted _ _ _ (room, tt); values = c.put.ensures ∙ rw c.form_of-form.ensures (accepted _ _ _ (room, tt)); bytes = c.put_counted.ensures ∙ accepted _ _ _ (room, tt) }

@@ -1,5 +1,4 @@
 -- `segments::last_of` meets its contract. Assumes nothing.
-use borrow.Author.Rules.{rules}
 use Rattle.segments.specs.Segment.{last_of}
 use borrow.Author.Tests.{eq-eqb, ne_eqb}
 use Rattle.segments.proofs.last_of.Goals as goal

@@ -1,5 +1,4 @@
 -- `segments::max_of` meets its contract. Assumes nothing.
-use borrow.Author.Rules.{rules}
 use mathlib.Core.Path.{◌∙◌}
 use borrow.Author.Tests.{eq-eqb, ne_eqb}
 use Rattle.segments.proofs.max_of.Goals as goal

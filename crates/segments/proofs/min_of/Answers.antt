@@ -1,5 +1,4 @@
 -- `segments::min_of` meets its contract. Assumes nothing.
-use borrow.Author.Rules.{rules}
 use mathlib.Core.Path.{◌∙◌}
 use borrow.Author.Tests.{eq-eqb, ne_eqb}
 use Rattle.segments.proofs.min_of.Goals as goal

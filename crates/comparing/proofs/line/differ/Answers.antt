@@ -1,5 +1,4 @@
 -- `comparing::line::differ` meets its contract. Assumes nothing.
-use borrow.Author.Rules.{rules}
 use Rattle.listing.specs.Text.{decimal, field, last_field}
 use Rattle.listing.proofs.Putting.{put_then, put-laid}
 use Rattle.comparing.specs.Text.{differ_word, differ_text}

@@ -1,5 +1,4 @@
 -- `comparing::line::difference` meets its contract: its three fields, one behind the other. Assumes nothing.
-use borrow.Author.Rules.{rules}
 use mathlib.Core.List.{List, ◌++◌}
 use Prim.Native.Nat.{ℕ}
 use Rattle.listing.specs.Text.{decimal, field, last_field}

@@ -1,5 +1,4 @@
 -- `comparing::line::entry` meets its contract. Assumes nothing.
-use borrow.Author.Rules.{rules}
 use mathlib.Core.Path.{refl, sym, subst}
 use mathlib.Core.List.{[], ◌∷◌, ◌++◌}
 use Prim.Native.Nat.{◌+◌}
@@ -13,8 +12,11 @@ use Rattle.comparing.proofs.line.entry.Goals as goal
 
 pub returns-in-Missing : goal.returns-in-Missing
 returns-in-Missing c =
-    let a = c.args in record { put = subst (λ (e : Entry). Put a.line.now a.at (entry_text e ++ (a.end ∷ [])) (set (set a.line.now a.at 45) (a.at + 1) a.end) (a.at + 2)) (sym c.in-Missing.is)
-          (put_byte (45 ∷ []) a.end (a.at + 2) refl (omega arith) (omega arith)); most = omega arith }
+    let a = c.args in record {
+      put = subst (λ (e : Entry). Put a.line.now a.at (entry_text e ++ (a.end ∷ [])) (set (set a.line.now a.at 45) (a.at + 1) a.end) (a.at + 2)) (sym c.in-Missing.is)
+          (put_byte (45 ∷ []) a.end (a.at + 2) refl (omega arith) (omega arith));
+      most = omega arith;
+    }
 
 pub returns-in-Value : goal.returns-in-Value
 returns-in-Value c =

@@ -1,5 +1,4 @@
 -- `words::bits_of` meets its contract, case by case. Assumes nothing.
-use borrow.Author.Rules.{rules}
 use mathlib.Core.Path.{sym, ap, ◌∙◌}
 use Rattle.exports.specs.Words.{bound_bits}
 use Rattle.exports.proofs.words.bits_of.Goals as goal

@@ -3,7 +3,6 @@ use lib.ListN.{length}
 use borrow.Author.Tests.{lt-ltb, le-ltb}
 use native.Mathlib.Omega.{arith}
 use Rattle.exports.specs.Words.{bound_front}
-use borrow.Author.Rules.{rules}
 use Rattle.exports.proofs.words.bound_front.Goals as goal
 
 pub returns-then-row-lt2 : goal.returns-then-row-lt2

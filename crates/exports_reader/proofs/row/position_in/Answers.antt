@@ -1,5 +1,4 @@
 -- `exports_reader::row::position_in` meets its contract: whether the row stands for a reader. Assumes nothing.
-use borrow.Author.Rules.{rules}
 use mathlib.Core.Path.{◌≡◌, sym, ◌∙◌}
 use mathlib.Core.Bool.{true}
 use Rattle.exports_reader.specs.Row.{stands_for_reader}

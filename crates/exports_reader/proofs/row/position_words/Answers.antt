@@ -1,6 +1,5 @@
 -- `row::position_words` meets its contract. Assumes nothing.
 use Rattle.exports_reader.specs.Row.{reader_row}
-use borrow.Author.Rules.{rules}
 use Rattle.exports_reader.proofs.row.position_words.Goals as goal
 
 pub returns : goal.returns

@@ -1,5 +1,4 @@
 -- `exports_reader::row::read_position` meets its contract: words of 32 bits are their own low bits. Assumes nothing.
-use borrow.Author.Rules.{rules}
 use Rattle.exports_reader.proofs.Faces.{low-words}
 use Rattle.exports_reader.proofs.row.read_position.Goals as goal
 

@@ -1,5 +1,4 @@
 -- `exports_reader::row::stands_for_reader` meets its contract: a row that is too short stands for none; else word by word. Assumes nothing.
-use borrow.Author.Rules.{rules}
 use borrow.Author.Tests.{le-leb}
 use native.Mathlib.Omega.{arith}
 use mathlib.Core.Path.{sym}

@@ -1,5 +1,4 @@
 -- `exports_stream::row::read_writer` meets its contract: words of 32 bits are their own low bits. Assumes nothing.
-use borrow.Author.Rules.{rules}
 use Rattle.exports_stream.proofs.Words.{low-words}
 use Rattle.exports_stream.proofs.row.read_writer.Goals as goal
 

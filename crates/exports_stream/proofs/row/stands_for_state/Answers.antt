@@ -1,5 +1,4 @@
 -- `exports_stream::row::stands_for_state` meets its contract: a row that is too short stands for none; else word by word. Assumes nothing.
-use borrow.Author.Rules.{rules}
 use borrow.Author.Tests.{le-leb}
 use native.Mathlib.Omega.{arith}
 use mathlib.Core.Path.{sym}

@@ -1,5 +1,4 @@
 -- `exports_stream::row::writer_of` meets its contract: whether the row stands for a state. Assumes nothing.
-use borrow.Author.Rules.{rules}
 use mathlib.Core.Path.{◌≡◌, sym, ap, ◌∙◌}
 use mathlib.Core.Bool.{true}
 use mathlib.Core.List.{List}

@@ -1,6 +1,5 @@
 -- `row::writer_words` meets its contract. Assumes nothing.
 use Rattle.exports_stream.specs.Row.{writer_row}
-use borrow.Author.Rules.{rules}
 use Rattle.exports_stream.proofs.row.writer_words.Goals as goal
 
 pub returns : goal.returns

@@ -1,5 +1,4 @@
 -- `listing::line::digit` meets its contract. Assumes nothing.
-use borrow.Author.Rules.{rules}
 use borrow.Author.Tests.{lt-ltb, le-ltb}
 use Rattle.listing.specs.Text.{digit_text}
 use Rattle.listing.proofs.line.digit.Goals as goal

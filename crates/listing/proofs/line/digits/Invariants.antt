@@ -1,13 +1,8 @@
 -- `listing::line::digits` meets its contract. The invariant: what is left to put completes the digits. Assumes nothing.
-use borrow.Author.Rules.{rules}
-use mathlib.Core.Path.{◌≡◌, refl, sym, ap, ◌∙◌}
-use Prim.Native.Nat.{ℕ, suc, ◌+◌, ◌-◌, ◌/◌, ◌≤◌}
-use native.Mathlib.Nat.{mod-lt}
-use native.Mathlib.Omega.{arith}
-use lib.ListN.{set}
+use mathlib.Core.Path.{◌≡◌}
+use Prim.Native.Nat.{◌≤◌}
 use lib.Seq.{sets}
 use Rattle.listing.specs.Text.{digits_of}
-use Rattle.listing.proofs.Putting.{digits_step}
 use Rattle.listing.proofs.line.digits.Given as goal
 
 abbrev pub invariant-loop-i : goal.invariant-loop-i

@@ -1,5 +1,4 @@
 -- `listing::line::kind_word` meets its contract. Assumes nothing.
-use borrow.Author.Rules.{rules}
 use mathlib.Core.Path.{sym, subst}
 use native.Mathlib.Omega.{arith}
 use Rattle.listing.specs.Text.{kind_word, field}

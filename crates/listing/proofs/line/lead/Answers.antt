@@ -1,5 +1,4 @@
 -- `listing::line::lead` meets its contract. Assumes nothing.
-use borrow.Author.Rules.{rules}
 use mathlib.Core.Path.{sym, subst}
 use native.Mathlib.Omega.{arith}
 use Rattle.listing.specs.Text.{lead_text, field}

@@ -1,11 +1,7 @@
 -- `listing::line::places` meets its contract. The invariant: i digits, and those of what is left. Assumes nothing.
-use borrow.Author.Rules.{rules}
-use mathlib.Core.Path.{◌≡◌, sym, ap, ◌∙◌}
-use Prim.Native.Nat.{ℕ, suc, ◌+◌, ◌-◌, ◌/◌, ◌≤◌}
-use native.Mathlib.Nat.{zero-add}
-use native.Mathlib.Omega.{arith}
+use mathlib.Core.Path.{◌≡◌}
+use Prim.Native.Nat.{◌+◌, ◌-◌, ◌≤◌}
 use Rattle.listing.specs.Text.{places_up_to, places}
-use Rattle.listing.proofs.Putting.{places-short, places-long}
 use Rattle.listing.proofs.line.places.Given as goal
 
 abbrev pub invariant-loop-i : goal.invariant-loop-i

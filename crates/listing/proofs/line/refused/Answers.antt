@@ -1,5 +1,4 @@
 -- `listing::line::refused` meets its contract: the word and three numbers, one behind the other. Assumes nothing.
-use borrow.Author.Rules.{rules}
 use mathlib.Core.Path.{subst}
 use mathlib.Core.List.{List, ◌++◌}
 use Prim.Native.Nat.{ℕ}

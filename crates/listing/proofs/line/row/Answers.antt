@@ -1,5 +1,4 @@
 -- `listing::line::row` meets its contract: its five fields, one behind the other. Assumes nothing.
-use borrow.Author.Rules.{rules}
 use mathlib.Core.List.{List, ◌++◌}
 use Prim.Native.Nat.{ℕ}
 use Rattle.listing.specs.Text.{kind_word, lead_text, decimal, hexadecimal, field, last_field, row_text}

@@ -1,5 +1,4 @@
 -- `listing::line::value` meets its contract. Assumes nothing.
-use borrow.Author.Rules.{rules}
 use Prim.Native.Nat.{◌+◌}
 use native.Mathlib.Omega.{arith}
 use Rattle.listing.specs.Text.{hexadecimal}

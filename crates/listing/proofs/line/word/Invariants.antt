@@ -1,12 +1,8 @@
 -- `listing::line::word` meets its contract. The invariant: what is left to put completes the word. Assumes nothing.
-use borrow.Author.Rules.{rules}
-use mathlib.Core.Path.{◌≡◌, sym, ap, ◌∙◌}
-use Prim.Native.Nat.{ℕ, ◌+◌, ◌-◌, ◌≤◌}
-use native.Mathlib.Nat.{add-zero}
-use native.Mathlib.Omega.{arith}
+use mathlib.Core.Path.{◌≡◌}
+use Prim.Native.Nat.{◌+◌, ◌-◌, ◌≤◌}
 use lib.ListN.{length, drop}
-use lib.Seq.{sets, drop-length}
-use Rattle.listing.proofs.Putting.{word-step}
+use lib.Seq.{sets}
 use Rattle.listing.proofs.line.word.Given as goal
 
 abbrev pub invariant-loop-i : goal.invariant-loop-i

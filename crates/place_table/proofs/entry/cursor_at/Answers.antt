@@ -1,6 +1,4 @@
 -- `place_table::entry::cursor_at` meets its contract. Assumes nothing.
-use borrow.Author.Rules.{rules}
-use mathlib.Core.Path.{◌≡◌, refl}
 use Rattle.place_table.proofs.entry.cursor_at.Goals as goal
 
 pub returns : goal.returns

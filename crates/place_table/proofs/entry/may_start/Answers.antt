@@ -1,16 +1,13 @@
 -- `place_table::entry::may_start` meets its contract. Assumes nothing.
-use borrow.Author.Rules.{rules}
-use mathlib.Core.Path.{◌≡◌, refl, sym, ap, ap₂, ◌∙◌}
+use mathlib.Core.Path.{sym, ap, ap₂, ◌∙◌}
 use mathlib.Core.Bool.{Bool, ◌&&◌, ◌||◌}
-use mathlib.Core.Option.{Option}
 use Prim.Native.Nat.{ℕ, ◌*◌}
 use native.Mathlib.Omega.{arith}
 use lib.Dec.{leb, ltb}
-use lib.ListN.{get_elem?}
-use Rattle.stream.specs.Format.{macaque, is_opening, leaves_a_bit}
+use Rattle.stream.specs.Format.{macaque, is_opening}
 use Rattle.stream.specs.Calls.{lent_bytes}
 use Rattle.places.specs.Table.{Entry, may_start}
-use Rattle.places.specs.Calls.{entry_at, table_in}
+use Rattle.places.specs.Calls.{entry_at}
 use Rattle.places.proofs.Words.{entry-in-use, no-entry-in-use}
 use Rattle.place_table.proofs.entry.may_start.Goals as goal
 

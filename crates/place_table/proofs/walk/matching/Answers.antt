@@ -1,5 +1,4 @@
 -- `place_table::walk::matching` meets its contract. Assumes nothing.
-use borrow.Author.Rules.{rules}
 use mathlib.Core.Path.{sym, ap}
 use mathlib.Core.Bool.{Bool, cond}
 use Rattle.models.specs.Answers.{answered}

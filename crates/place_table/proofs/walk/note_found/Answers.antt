@@ -1,5 +1,4 @@
 -- `place_table::walk::note_found` meets its contract. Assumes nothing.
-use borrow.Author.Rules.{rules}
 use mathlib.Core.Path.{sym, ap, ◌∙◌, subst}
 use Rattle.place_table.specs.Inner.Rescue.{FoundIn, noted_found}
 use Rattle.place_table.proofs.walk.note_found.Goals as goal

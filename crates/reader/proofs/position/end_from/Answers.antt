@@ -1,9 +1,7 @@
 -- `reader::position::end_from` meets its contract. Assumes nothing.
-use borrow.Author.Rules.{rules}
 use mathlib.Core.Path.{◌≡◌, sym, ◌∙◌}
 use mathlib.Core.Bool.{true}
 use native.Mathlib.Omega.{arith}
-use borrow.Author.Tests.{not-false}
 use lib.ListN.{length}
 use Rattle.models.specs.Answers.{judge}
 use Rattle.reader.specs.Calls.{may_use, end_answer}

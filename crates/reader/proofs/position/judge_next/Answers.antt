@@ -1,5 +1,4 @@
 -- `reader::position::judge_next` meets its contract: the tests are those of the list of causes. Assumes nothing.
-use borrow.Author.Rules.{rules}
 use Rattle.models.specs.Answers.{judge}
 use Rattle.reader.proofs.position.judge_next.Goals as goal
 

@@ -1,5 +1,4 @@
 -- `reader::position::may_use` meets its contract. Assumes nothing.
-use borrow.Author.Rules.{rules}
 use mathlib.Core.Path.{ap, ◌∙◌}
 use Prim.Native.Nat.{ℕ}
 use Rattle.stream.specs.Format.{macaque, window_in, keeps_rule}

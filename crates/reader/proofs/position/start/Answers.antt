@@ -1,5 +1,4 @@
 -- `reader::position::start` meets its contract. Assumes nothing.
-use borrow.Author.Rules.{rules}
 use mathlib.Core.Path.{ap₂}
 use mathlib.Core.Bool.{Bool}
 use Rattle.macaque_v.specs.declared.read_run.Cursor.{Cursor}

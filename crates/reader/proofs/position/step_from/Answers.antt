@@ -1,5 +1,4 @@
 -- `reader::position::step_from` meets its contract: its causes, then the value. Assumes nothing.
-use borrow.Author.Rules.{rules}
 use mathlib.Core.Path.{◌∙◌}
 use mathlib.Core.List.{List}
 use Prim.Native.Nat.{ℕ}

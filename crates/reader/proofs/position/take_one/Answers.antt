@@ -1,5 +1,4 @@
 -- `reader::position::take_one` meets its contract: the one step of every reading call. Assumes nothing.
-use borrow.Author.Rules.{rules}
 use mathlib.Core.Path.{ap, subst}
 use Rattle.macaque_v.specs.Inner.ReadRun.{NextSays}
 use Rattle.macaque_v.specs.declared.read_run.Run.{Run}
