@@ -1,6 +1,6 @@
 -- The number that 01, "Refusal numbers", and 02 for the place table (13), give to each cause, where in a stream it was met, and the result that is told from what was said of it.
 use Rattle.std.specs.Prelude.{◌≡◌, refl, cond, List, [], ◌∷◌, ℕ, ◌-◌, get_or}
-use Rattle.models.specs.Answers.{fault_in, Said, answered, refused, SaidOn, answered_on, refused_on, Stepped, Injective, told-apart}
+use Rattle.models.specs.Answers.{fault_in, Said, answered, refused, SaidOn, answered_on, refused_on, Stepped}
 use Rattle.models.specs.declared.Fault.{Fault}
 use Rattle.models.specs.declared.Refusal.{Refusal}
 use Rattle.models.specs.declared.Refusal.TheVariants.{BoundNotAllowed, StateNotAllowed, OverLimit, OutputTooShort, EndsEarly, NoWindow, WindowNotAllowed, Leftover, FormNotAllowed, TimesNotAllowed, NoModel, CountsDisagree, TableDoesNotMatch}
@@ -86,10 +86,6 @@ refusal-told TimesNotAllowed = refl
 refusal-told NoModel = refl
 refusal-told CountsDisagree = refl
 refusal-told TableDoesNotMatch = refl
-
--- no two refusals say the same number, value and place
-pub fault_of-injective : Injective fault_of
-fault_of-injective = told-apart fault_of refusal_of refusal-told
 
 -- ---- back from what is said: `answer` and `refuse` make the result of the values, or of the refusal that says the fault
 abbrev pub unsaid : {A R : Type 0} → (A → R) → (Refusal → R) → Said A → R
