@@ -1,19 +1,18 @@
 -- The promises on what is kept (document 02, W10), of the calls: every value that a write keeps passes the within test against its input, also behind a stream
 -- that was written by another rule; and what of such a stream is kept. Assumes nothing.
 use mathlib.Core.Path.{◌≡◌, refl, sym, ap, ◌∙◌, subst}
-use mathlib.Core.Bool.{Bool, true, false}
+use mathlib.Core.Bool.{true}
 use mathlib.Core.List.{List, [], ◌∷◌, ◌++◌, append_assoc}
-use Prim.Native.Nat.{ℕ, zero, suc, ◌^◌, ◌≤◌, ◌<◌}
+use Prim.Native.Nat.{ℕ, suc, ◌^◌, ◌≤◌, ◌<◌}
 use native.Mathlib.Omega.{arith}
 use borrow.Author.Tests.{le-ltb, not-false}
-use lib.ListN.{length, take, drop, get_or}
+use lib.ListN.{length, take, drop}
 use lib.Seq.{take_at, drop_at}
 use Rattle.bits.specs.Bits.{Below, whole_bytes}
-use Rattle.models.specs.Answers.{answered, refused, answered_on, judge, keeping, NoneHolds}
+use Rattle.models.specs.Answers.{answered, refused, answered_on, keeping, NoneHolds}
 use Rattle.models.specs.Limits.{most_values}
 use Rattle.models.specs.Bound.{bound_allowed}
 use Rattle.models.specs.Causes.{bound_causes}
-use Rattle.models.specs.Calls.{within_answer}
 use Rattle.models.specs.declared.ErrorBound.{ErrorBound}
 use Rattle.models.proofs.Judged.{same_answer}
 use Rattle.models.proofs.Judged as judging
@@ -25,7 +24,6 @@ use Rattle.stream.specs.Needs.{GoodCoder}
 use Rattle.stream.proofs.Calls as calls
 use Rattle.stream.proofs.Formats.{macaque-good}
 use Rattle.coding.specs.Keep.{keep_rule}
-use Rattle.coding.proofs.Greatest.{may-replace-itself, kept-may-replace}
 use Rattle.macaque_v.specs.State.{Known, stream_in, state_of, writer_of, is_first, opening_value}
 use Rattle.macaque_v.specs.Calls.{write_answer, write_memory}
 use Rattle.macaque_v.specs.Read.{values_in, grid_causes, drawn, drawn_in, grid_answer, grid_memory, reopen_answer}
@@ -37,29 +35,17 @@ use Rattle.macaque_v.specs.declared.Opening.{Opening}
 use Rattle.macaque_v.proofs.Accepting.{no-bound-refuses}
 use Rattle.macaque_v.proofs.Promises.{grid-reads-back, any-stream-resumes}
 use Rattle.macaque_v.proofs.Sums.{a-write-stays-of-its-bytes, a-write-reads-on, whole-of-its-bytes}
+use Rattle.macaque_v.proofs.KeptOne.{one_passes, and_one}
 
 -- ---- what is kept passes the test
 
 module _ (b : ErrorBound) (ok : bound_allowed b ≡ true) where
-  one_passes : (raw : Bool) (l x : ℕ) → within_answer b x (kept_one (keep_rule b) raw l x) ≡ answered true
-  unfolding within_answer judge
-  one_passes true l x = rw ok (ap answered (may-replace-itself b x))
-  one_passes false l x = rw ok (ap answered (kept-may-replace b l x))
-
-  -- one more in front
-  and_one : (x v : ℕ) (xs vs : List ℕ) → within_answer b x v ≡ answered true → KeptWithin b xs vs → KeptWithin b (x ∷ xs) (v ∷ vs)
-  and_one x v xs vs first rest = record { as_many = ap suc rest.as_many; passes = each }
-    where
-      each : (i : ℕ) → i < length (x ∷ xs) → within_answer b (get_or (x ∷ xs) i 0) (get_or (v ∷ vs) i 0) ≡ answered true
-      each zero h = first
-      each (suc i) h = rest.passes i (omega (arith, h))
-
   pub all_pass : (mode : Mode) (n l : ℕ) (xs : List ℕ) → KeptWithin b xs (kept_from (keep_rule b) mode n l xs)
   unfolding kept_from
   all_pass mode n l [] = record { as_many = refl; passes = λ i h. absurd (omega (arith, h)) }
   all_pass mode n l (x ∷ xs) =
       let v : ℕ = kept_one (keep_rule b) (raw_next mode n) l x in
-      and_one x v xs (kept_from (keep_rule b) mode (suc n) v xs) (one_passes (raw_next mode n) l x) (all_pass mode (suc n) v xs)
+      and_one b ok x v xs (kept_from (keep_rule b) mode (suc n) v xs) (one_passes b ok (raw_next mode n) l x) (all_pass mode (suc n) v xs)
 
 -- ---- of a stream that writes, stops and resumes have made: each value that the grid draws passes the test against its input
 

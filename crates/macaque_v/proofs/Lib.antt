@@ -2,6 +2,7 @@
 pub mod Promises
 pub mod Held
 pub mod Sums
+pub mod KeptOne
 pub mod Kept
 pub mod Sizes
 pub mod Room

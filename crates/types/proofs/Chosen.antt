@@ -16,7 +16,7 @@ use Rattle.types.specs.Run.{run}
 use Rattle.types.specs.declared.ModelBuilder.{ModelBuilder}
 use Rattle.types.specs.declared.SelectedModel.{SelectedModel}
 use Rattle.types.proofs.Rooms.{finish-has}
-use Rattle.types.proofs.Wins.{wins-with-two}
+use Rattle.types.proofs.TwoValues.{wins-with-two}
 use Rattle.types.proofs.Parts.{run-lengths}
 
 -- what both models have, the chosen one has

@@ -1,7 +1,7 @@
 -- By whole numbers Swing wins exactly where it took more than one value more for every m that PMC-Mean took. Assumes nothing.
 use mathlib.Core.Path.{◌≡◌, ap, ◌∙◌}
 use mathlib.Core.Bool.{true}
-use Prim.Native.Nat.{ℕ, ◌+◌, ◌-◌, ◌*◌, ◌≤◌, ◌<◌}
+use Prim.Native.Nat.{ℕ, ◌+◌, ◌-◌, ◌*◌, ◌<◌}
 use native.Mathlib.Nat.{mul-add, add-mul, one-mul, lt_of_mul-lt-mul_left}
 use native.Mathlib.Omega.{arith}
 use borrow.Author.Tests.{ltb-true, lt-ltb}
@@ -24,13 +24,3 @@ pub more-wins : (m pmc swing : ℕ) → MoreForEvery m pmc swing → swing_wins 
 unfolding swing_wins
 more-wins m pmc swing (more, is, h) =
     lt-ltb ((m + 1) * pmc) (m * swing) (omega (arith, h, one_more m pmc, ap (λ (k : ℕ). m * k) is, mul-add m pmc more))
-
--- so a model that wins over one of a value or more stands for two
-pub wins-with-two : (m pmc swing : ℕ) → 1 ≤ pmc → swing_wins m pmc swing ≡ true → 2 ≤ swing
-wins-with-two m pmc swing some h = go (wins-by-more m pmc swing h)
-  where
-    none : (more : ℕ) → more ≡ 0 → pmc < m * more → ⊥
-    none more e l = omega (arith, ap (λ (k : ℕ). m * k) e, l)
-
-    go : MoreForEvery m pmc swing → 2 ≤ swing
-    go (more, is, l) = let any : more ≡ 0 → ⊥ = λ e. none more e l in omega (arith, is, any, some)
