@@ -1,19 +1,18 @@
 -- What a verdict on a call's causes tells of all that the call judges by them: its answer, the state, lent memory. Assumes nothing.
 use mathlib.Core.Path.{◌≡◌, refl, sym, ap, ◌∙◌}
 use mathlib.Core.Bool.{Bool, true, false, cond, ◌&&◌}
+use Rattle.std.specs.Prelude.{Result, Ok, Err}
 use mathlib.Core.List.{List, [], ◌∷◌, ◌++◌}
 use Prim.Native.Nat.{ℕ, ◌≤◌}
 use borrow.Author.Tests.{leb-true, eqb-false, not-false}
 use lib.Dec.{leb}
 use Rattle.models.specs.Limits.{most_values, most_metadata}
-use Rattle.models.specs.Answers.{Fault, fault, Said, answered, refused, SaidOn, answered_on, refused_on, refusing, Cause, ◌when◌, judge, judged, verdict, Stepped, state_after, judged_on, NoneHolds}
+use Rattle.models.specs.Answers.{Fault, fault, Said, answered, refused, SaidOn, answered_on, refused_on, refusing, Cause, ◌when◌, judge, judged, verdict, Done, Stepped, state_after, judged_on, NoneHolds}
 use Rattle.models.specs.Refusals.{fault_of}
 use Rattle.models.specs.Causes.{step_causes, model_causes, cost_causes}
-use Rattle.models.specs.Calls.{says_verdict}
+use Rattle.models.specs.Calls.{said_by}
 use Rattle.models.specs.declared.ErrorBound.{ErrorBound}
 use Rattle.models.specs.declared.Refusal.{Refusal}
-use Rattle.models.specs.declared.Verdict.{Verdict}
-use Rattle.models.specs.declared.Verdict.TheVariants.{Passed, Refused}
 use Rattle.models.proofs.Tests.{and_right, by-test, never}
 
 -- ---- an answer is no refusal, and either tells what it holds
@@ -95,15 +94,15 @@ pub passed_first : (first later : List Cause) → verdict first ≡ answered tt 
 passed_first first later h = judged-parts refused first later (answered tt) ∙ sym (accepted refused (verdict later) first (none first h))
 
 -- ---- by the verdict v that a function gave on them
-module _ (causes : List Cause) (v : Verdict) (says : says_verdict v ≡ verdict causes) where
-  pub none-holds : v ≡ Passed → NoneHolds causes
-  none-holds e = none causes (sym says ∙ ap says_verdict e)
+module _ (causes : List Cause) (v : Result Done Refusal) (says : said_by v ≡ verdict causes) where
+  pub none-holds : v ≡ Ok tt → NoneHolds causes
+  none-holds e = none causes (sym says ∙ ap said_by e)
 
-  pub when-passed : {X : Type 0} (refuse : Fault → X) (x : X) → v ≡ Passed → x ≡ judge refuse causes x
+  pub when-passed : {X : Type 0} (refuse : Fault → X) (x : X) → v ≡ Ok tt → x ≡ judge refuse causes x
   when-passed refuse x e = accepted refuse x causes (none-holds e)
 
-  pub when-refused : {X : Type 0} (refuse : Fault → X) (x : X) (r : Refusal) → v ≡ Refused r → refuse (fault_of r) ≡ judge refuse causes x
-  when-refused refuse x r e = turned-back refuse x causes (fault_of r) (sym says ∙ ap says_verdict e)
+  pub when-refused : {X : Type 0} (refuse : Fault → X) (x : X) (r : Refusal) → v ≡ Err r → refuse (fault_of r) ≡ judge refuse causes x
+  when-refused refuse x r e = turned-back refuse x causes (fault_of r) (sym says ∙ ap said_by e)
 
 -- ---- what the calls on a model's state judge, where nothing refuses them: its bound b, whether it may be used, its length n
 module _ (b : ErrorBound) (usable : Bool) (n : ℕ) where

@@ -2,6 +2,8 @@
 use Rattle.std.specs.Prelude.{◌≡◌, Bool, true, false, cond, List, [], ◌∷◌, ℕ}
 use Rattle.std.proofs.Common.{sym, ap, ◌∙◌}
 pub use Rattle.models.specs.declared.Fault.{Fault}
+-- what a step answers: whether the value fits, and the state that it hands back
+pub use Rattle.models.specs.declared.Stepped.{Stepped}
 
 -- what a refusal says: the number of its cause, and of a stream's own, 5 to 8, the number of the value that was being read, counted from 0, and the bit
 -- place. "Other numbers .. show 0 and 0."
@@ -34,11 +36,6 @@ refusing s f = refused_on f s
 
 abbrev pub keeping : {X : Type 0} → X → Fault → X
 keeping x f = x
-
--- what a step answers: whether the value fits, and the state that it hands back
-pub record Stepped (S : Type 0) : Type 0 where
-  pub fits : Bool
-  pub state : S
 
 -- "each step hands the fitted state back", "a failed fit changes nothing"
 abbrev pub fitting : {S : Type 0} → S → Stepped S

@@ -1,6 +1,6 @@
 -- The number that 01, "Refusal numbers", and 02 for the place table (13), give to each cause, where in a stream it was met, and the result that is told from what was said of it.
-use Rattle.std.specs.Prelude.{◌≡◌, refl, cond, List, [], ◌∷◌, ℕ, ◌-◌, get_or}
-use Rattle.models.specs.Answers.{fault_in, Said, answered, refused, SaidOn, answered_on, refused_on, Stepped}
+use Rattle.std.specs.Prelude.{◌≡◌, refl, List, [], ◌∷◌, ℕ, ◌-◌, get_or}
+use Rattle.models.specs.Answers.{fault_in}
 use Rattle.models.specs.declared.Fault.{Fault}
 use Rattle.models.specs.declared.Refusal.{Refusal}
 use Rattle.models.specs.declared.Refusal.TheVariants.{BoundNotAllowed, StateNotAllowed, OverLimit, OutputTooShort, EndsEarly, NoWindow, WindowNotAllowed, Leftover, FormNotAllowed, TimesNotAllowed, NoModel, CountsDisagree, TableDoesNotMatch}
@@ -86,17 +86,3 @@ refusal-told TimesNotAllowed = refl
 refusal-told NoModel = refl
 refusal-told CountsDisagree = refl
 refusal-told TableDoesNotMatch = refl
-
--- ---- back from what is said: `answer` and `refuse` make the result of the values, or of the refusal that says the fault
-abbrev pub unsaid : {A R : Type 0} → (A → R) → (Refusal → R) → Said A → R
-unsaid answer refuse (answered a) = answer a
-unsaid answer refuse (refused f) = refuse (refusal_of f)
-
-abbrev pub unsaid_on : {S A R : Type 0} → (A → R) → (Refusal → S → R) → SaidOn S A → R
-unsaid_on answer refuse (answered_on a) = answer a
-unsaid_on answer refuse (refused_on f s) = refuse (refusal_of f) s
-
--- back from what is said of a step
-abbrev pub unsaid_step : {S R : Type 0} → (S → R) → (S → R) → (Refusal → S → R) → SaidOn S (Stepped S) → R
-unsaid_step fits fails refuse (answered_on t) = cond t.fits (fits t.state) (fails t.state)
-unsaid_step fits fails refuse (refused_on f s) = refuse (refusal_of f) s

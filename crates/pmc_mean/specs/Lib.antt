@@ -2,4 +2,3 @@ pub mod State
 pub mod Calls
 pub mod Grid
 pub mod Run
-pub mod Inner

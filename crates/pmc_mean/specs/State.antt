@@ -3,7 +3,8 @@ use Rattle.std.specs.Prelude.{Bool, cond, ◌&&◌, ◌+◌, leb, pos, Float}
 use Rattle.std.specs.Float.Ieee as Ieee
 use Rattle.std.specs.Float.{nan, binary64}
 use Rattle.numbers.specs.Narrowed.{narrowed}
-use Rattle.models.specs.Answers.{Stepped, fitting, failing}
+use Rattle.models.specs.declared.Stepped.{Stepped}
+use Rattle.models.specs.Answers.{fitting, failing}
 use Rattle.models.specs.Floats.{zero_f, min_f, max_f}
 use Rattle.models.specs.Bound.{within}
 use Rattle.models.specs.Limits.{most_values}

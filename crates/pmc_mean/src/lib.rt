@@ -6,13 +6,12 @@
 ghost use Rattle.std.specs.Prelude.{◌≡◌, ◌<◌, ◌≤◌, length};
 ghost use Rattle.models.specs.Limits.{most_values};
 ghost use Rattle.models.specs.Answers.{verdict};
-ghost use Rattle.models.specs.Calls.{says_verdict, says_value, says_grid};
+ghost use Rattle.models.specs.Calls.{said_by, said_on};
 ghost use Rattle.pmc_mean.specs.State.{usable, average, fits, tried, with_value};
-ghost use Rattle.pmc_mean.specs.Inner.Steps.{step_of};
-ghost use Rattle.pmc_mean.specs.Calls.{says_new, new_answer, fit_causes, says_fit, fit_answer, says_cost, cost_answer, says_model, model_answer};
+ghost use Rattle.pmc_mean.specs.Calls.{new_answer, fit_causes, fit_answer, cost_answer, model_answer};
 ghost use Rattle.pmc_mean.specs.Grid.{sum_answer, grid_causes, filled, grid_memory};
 
-use models::{ErrorBound, GridAnswer, Refusal, ValueAnswer, Verdict};
+use models::{ErrorBound, Refusal, Refused, Stepped};
 
 #[derive(Clone, Copy)]
 pub struct PMCMean {
@@ -25,54 +24,18 @@ pub struct PMCMean {
     pub length: usize,
 }
 
-// What a step that nothing refuses gives: whether the value fits, and the state after it.
-#[derive(Clone, Copy)]
-pub struct Tried {
-    pub fits: bool,
-    pub state: PMCMean,
-}
-
-// ---- answers: a refusal hands back the state passed in
-
-#[derive(Clone, Copy)]
-pub enum NewAnswer {
-    Answered(PMCMean),
-    Refused(Refusal),
-}
-
-// The fitted state, or that the value does not fit, with the state passed in.
-#[derive(Clone, Copy)]
-pub enum FitAnswer {
-    Fits(PMCMean),
-    NoFit(PMCMean),
-    Refused(Refusal, PMCMean),
-}
-
-#[derive(Clone, Copy)]
-pub enum CostAnswer {
-    Answered(f32),
-    Refused(Refusal, PMCMean),
-}
-
-// The bits of the average.
-#[derive(Clone, Copy)]
-pub enum ModelAnswer {
-    Answered(u32),
-    Refused(Refusal, PMCMean),
-}
-
 impl PMCMean {
     // ---- the public calls
 
     // The state before any value.
-    pub fn new(error_bound: ErrorBound) -> NewAnswer
-        ensures { says_new result ≡ new_answer error_bound }
+    pub fn new(error_bound: ErrorBound) -> Result<PMCMean, Refusal>
+        ensures { said_by result ≡ new_answer error_bound }
     {
         if !models::bound_allowed(error_bound) {
-            return NewAnswer::Refused(Refusal::BoundNotAllowed);
+            return Err(Refusal::BoundNotAllowed);
         }
         let nan = 0.0f32 / 0.0;
-        NewAnswer::Answered(PMCMean {
+        Ok(PMCMean {
             error_bound,
             min_value: nan,
             max_value: nan,
@@ -82,20 +45,12 @@ impl PMCMean {
     }
 
     // Tries to have the model stand for one more value.
-    pub fn fit_value(self, value: u32) -> FitAnswer
-        ensures { says_fit result ≡ fit_answer self value }
+    pub fn fit_value(self, value: u32) -> Result<Stepped<PMCMean>, Refused<PMCMean>>
+        ensures { said_on result ≡ fit_answer self value }
     {
         match self.judge_fit() {
-            Verdict::Refused(r) => FitAnswer::Refused(r, self),
-            Verdict::Passed => {
-                let t = self.tried(numbers::value_of_f32(value));
-                let s = t.state;
-                if t.fits {
-                    FitAnswer::Fits(s)
-                } else {
-                    FitAnswer::NoFit(s)
-                }
-            }
+            Err(cause) => Err(Refused { cause, state: self }),
+            Ok(()) => Ok(self.tried(numbers::value_of_f32(value))),
         }
     }
 
@@ -107,24 +62,22 @@ impl PMCMean {
     }
 
     // The bytes for each value: a segment's metadata is of m bytes, and the model needs no more.
-    pub fn bytes_per_value(self, m: usize) -> CostAnswer
-        ensures { says_cost result ≡ cost_answer self m }
+    pub fn bytes_per_value(self, m: usize) -> Result<f32, Refused<PMCMean>>
+        ensures { said_on result ≡ cost_answer self m }
     {
-        let b = self.error_bound;
-        match models::judge_cost(b, self.usable(), self.length, m) {
-            Verdict::Refused(r) => CostAnswer::Refused(r, self),
-            Verdict::Passed => CostAnswer::Answered(models::cost(m, self.length)),
+        match models::judge_cost(self.error_bound, self.usable(), self.length, m) {
+            Err(cause) => Err(Refused { cause, state: self }),
+            Ok(()) => Ok(models::cost(m, self.length)),
         }
     }
 
     // The model: the average of the values.
-    pub fn model(self) -> ModelAnswer
-        ensures { says_model result ≡ model_answer self }
+    pub fn model(self) -> Result<u32, Refused<PMCMean>>
+        ensures { said_on result ≡ model_answer self }
     {
-        let b = self.error_bound;
-        match models::judge_model(b, self.usable(), self.length) {
-            Verdict::Refused(r) => ModelAnswer::Refused(r, self),
-            Verdict::Passed => ModelAnswer::Answered(numbers::bits_of_f32(self.average())),
+        match models::judge_model(self.error_bound, self.usable(), self.length) {
+            Err(cause) => Err(Refused { cause, state: self }),
+            Ok(()) => Ok(numbers::bits_of_f32(self.average())),
         }
     }
 
@@ -137,28 +90,27 @@ impl PMCMean {
         self.length <= models::MOST_VALUES
     }
 
-    fn judge_fit(self) -> Verdict
-        ensures { says_verdict result ≡ verdict (fit_causes self) }
+    fn judge_fit(self) -> Result<(), Refusal>
+        ensures { said_by result ≡ verdict (fit_causes self) }
     {
-        let b = self.error_bound;
-        models::judge_step(b, self.usable(), self.length, Verdict::Passed)
+        models::judge_step(self.error_bound, self.usable(), self.length)
     }
 
     // ---- the step
 
     // The step, once nothing refuses it.
-    pub fn tried(self, value: f32) -> Tried
+    pub fn tried(self, value: f32) -> Stepped<PMCMean>
         requires { self.length < most_values }
-        ensures { step_of result ≡ tried self value }
+        ensures { result ≡ tried self value }
     {
         let next = self.with_value(value);
         if next.fits() {
-            Tried {
+            Stepped {
                 fits: true,
                 state: next,
             }
         } else {
-            Tried {
+            Stepped {
                 fits: false,
                 state: self,
             }
@@ -204,43 +156,41 @@ impl PMCMean {
 // ---- a model's values
 
 // The sum of `length` values that the model stands for: a product in f32.
-pub fn sum(length: usize, value: u32) -> ValueAnswer
-    ensures { says_value result ≡ sum_answer «length» value }
+pub fn sum(length: usize, value: u32) -> Result<u32, Refusal>
+    ensures { said_by result ≡ sum_answer «length» value }
 {
     if models::MOST_VALUES < length {
-        return ValueAnswer::Refused(Refusal::OverLimit);
+        return Err(Refusal::OverLimit);
     }
-    ValueAnswer::Answered(numbers::bits_of_f32((length as f32) * numbers::value_of_f32(value)))
+    Ok(numbers::bits_of_f32((length as f32) * numbers::value_of_f32(value)))
 }
 
 // Writes the model's value `count` times to the front of `out`.
-pub fn grid(value: u32, count: usize, out: &mut [u32]) -> GridAnswer
-    ensures answer { says_grid result ≡ verdict (grid_causes count (length out.old)) }
+pub fn grid(value: u32, count: usize, out: &mut [u32]) -> Result<(), Refusal>
+    ensures answer { said_by result ≡ verdict (grid_causes count (length out.old)) }
     ensures output { out.new ≡ grid_memory value count out.old }
 {
-    match judge_grid(count, out.len()) {
-        Verdict::Refused(r) => GridAnswer::Refused(r),
-        Verdict::Passed => {
-            fill(models::plain(value), count, out);
-            GridAnswer::Drawn
-        }
-    }
+    judge_grid(count, out.len())?;
+    fill(models::plain(value), count, out);
+    Ok(())
 }
 
-fn judge_grid(count: usize, room: usize) -> Verdict
-    ensures { says_verdict result ≡ verdict (grid_causes count room) }
+#[tactic(auto, unfolding(models::specs::Answers::judge))]
+fn judge_grid(count: usize, room: usize) -> Result<(), Refusal>
+    ensures { said_by result ≡ verdict (grid_causes count room) }
 {
-    let short = models::when(Refusal::OutputTooShort, room < count, Verdict::Passed);
-    models::when(Refusal::OverLimit, models::MOST_VALUES < count, short)
+    if models::MOST_VALUES < count {
+        return Err(Refusal::OverLimit);
+    }
+    if room < count {
+        return Err(Refusal::OutputTooShort);
+    }
+    Ok(())
 }
 
 pub fn fill(bits: u32, count: usize, out: &mut [u32])
     requires { count ≤ length out.old }
     ensures { out.new ≡ filled bits count out.old }
 {
-    let mut i: usize = 0;
-    while i < count {
-        out[i] = bits;
-        i += 1;
-    }
+    out[..count].fill(bits);
 }

@@ -10,18 +10,13 @@ use Rattle.pmc_mean.proofs.grid.Goals as goal
 pub fill-requires : goal.fill-requires
 fill-requires c =
     let a = c.args in
-    let none = none-holds (grid_causes a.count (length a.out.now)) _ c.judge_grid.ensures c.in-Passed.is in
+    let none = none-holds (grid_causes a.count (length a.out.now)) _ c.judge_grid.ensures c.in_ok-judge_grid.was in
     ltb-false (length a.out.now) a.count none.1.0
 
-pub returns-in-Refused : goal.returns-in-Refused
+pub returns-in_err-judge_grid-clause-output : goal.returns-in_err-judge_grid-clause-output
 unfolding grid_memory
-returns-in-Refused c =
-    let a = c.args in
-    record { answer = when-refused _ _ c.judge_grid.ensures refused _ _ c.in-Refused.is; output = when-refused _ _ c.judge_grid.ensures (keeping a.out.now) _ _ c.in-Refused.is }
+returns-in_err-judge_grid-clause-output c = when-refused _ _ c.judge_grid.ensures (keeping c.args.out.now) _ _ c.in_err-judge_grid.was
 
-pub returns-in-Passed : goal.returns-in-Passed
+pub returns-clause-output : goal.returns-clause-output
 unfolding grid_memory
-returns-in-Passed c =
-    let a = c.args in
-    let ok = c.in-Passed.is in
-    record { answer = when-passed _ _ c.judge_grid.ensures refused _ ok; output = c.fill.ensures ∙ rw c.plain.ensures (when-passed _ _ c.judge_grid.ensures (keeping a.out.now) _ ok) }
+returns-clause-output c = c.fill.ensures ∙ rw c.plain.ensures (when-passed _ _ c.judge_grid.ensures (keeping c.args.out.now) _ c.in_ok-judge_grid.was)

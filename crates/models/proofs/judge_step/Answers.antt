@@ -1,7 +1,0 @@
--- `models::judge_step` meets its contract. Assumes nothing.
-use Rattle.models.specs.Answers.{judge}
-use Rattle.models.proofs.judge_step.Goals as goal
-
-pub returns : goal.returns
-unfolding judge
-returns c = rw (c.judge_state.ensures, c.when.ensures)
