@@ -100,16 +100,13 @@ pub enum Stop {
     WindowNotAllowed,
 }
 
-// The value, the window after it and how many bits it takes; or why there is none.
+// The value, the window after it and how many bits it takes.
 #[derive(Clone, Copy)]
-pub enum Decoded {
-    Got {
-        value: u32,
-        lead: u32,
-        trail: u32,
-        used: usize,
-    },
-    Stopped(Stop),
+pub struct Got {
+    pub value: u32,
+    pub lead: u32,
+    pub trail: u32,
+    pub used: usize,
 }
 
 // The value that the first `left` bits of `word` begin with, after the last value and its window, where `set` says whether it has one.
@@ -121,7 +118,7 @@ pub fn decode(
     lead: u32,
     trail: u32,
     last: u32,
-) -> Decoded
+) -> Result<Got, Stop>
     requires { (left ≤ 45) × (unset (window_in lead trail) ≡ not set) × WindowSound lead trail }
     ensures { says_decoded result ≡ read_one macaque raw (window_in lead trail) last (bits_in word left) }
 {
@@ -129,86 +126,93 @@ pub fn decode(
         return in_full(word, left, lead, trail, last);
     }
     if left < 1 {
-        return Decoded::Stopped(Stop::EndsEarly);
+        return Err(Stop::EndsEarly);
     }
     if part(word, 0, 1) == 0 {
         return in_window(word, left, set, lead, trail, last);
     }
     if left < 2 {
-        return Decoded::Stopped(Stop::EndsEarly);
+        return Err(Stop::EndsEarly);
     }
     if part(word, 1, 1) == 0 {
-        return Decoded::Got {
+        return Ok(Got {
             value: last,
             lead,
             trail,
             used: 2,
-        };
+        });
     }
     with_window(word, left, lead, trail, last)
 }
 
 // A first value: its 32 bits.
-fn in_full(word: u64, left: usize, lead: u32, trail: u32, last: u32) -> Decoded
+fn in_full(word: u64, left: usize, lead: u32, trail: u32, last: u32) -> Result<Got, Stop>
     requires { left ≤ 45 }
     ensures { says_decoded result ≡ read_one macaque true (window_in lead trail) last (bits_in word left) }
 {
     if left < 32 {
-        return Decoded::Stopped(Stop::EndsEarly);
+        return Err(Stop::EndsEarly);
     }
-    Decoded::Got {
+    Ok(Got {
         value: part(word, 0, 32),
         lead,
         trail,
         used: 32,
-    }
+    })
 }
 
 // `0`, then the bits in the window.
-fn in_window(word: u64, left: usize, set: bool, lead: u32, trail: u32, last: u32) -> Decoded
+fn in_window(
+    word: u64,
+    left: usize,
+    set: bool,
+    lead: u32,
+    trail: u32,
+    last: u32,
+) -> Result<Got, Stop>
     requires { (1 ≤ left) × (left ≤ 45) × (unset (window_in lead trail) ≡ not set) × WindowSound lead trail × (field_at 0 1 (field 64 word) ≡ 0) }
     ensures { says_decoded result ≡ read_one macaque false (window_in lead trail) last (bits_in word left) }
 {
     if !set {
-        return Decoded::Stopped(Stop::NoWindow);
+        return Err(Stop::NoWindow);
     }
     let width = (32 - lead - trail) as usize;
     if left < 1 + width {
-        return Decoded::Stopped(Stop::EndsEarly);
+        return Err(Stop::EndsEarly);
     }
-    Decoded::Got {
+    Ok(Got {
         value: (part(word, 1, width) << trail) ^ last,
         lead,
         trail,
         used: 1 + width,
-    }
+    })
 }
 
 // `11`, a header that sets a new window, then the bits in it.
-fn with_window(word: u64, left: usize, lead: u32, trail: u32, last: u32) -> Decoded
+fn with_window(word: u64, left: usize, lead: u32, trail: u32, last: u32) -> Result<Got, Stop>
     requires { (2 ≤ left) × (left ≤ 45) × ¬ (field_at 0 1 (field 64 word) ≡ 0) × ¬ (field_at 1 1 (field 64 word) ≡ 0) }
     ensures { says_decoded result ≡ read_one macaque false (window_in lead trail) last (bits_in word left) }
 {
     if left < 13 {
-        return Decoded::Stopped(Stop::EndsEarly);
+        return Err(Stop::EndsEarly);
     }
     let zeros = part(word, 2, 5);
     let meaningful = part(word, 7, 6);
     if meaningful == 0 {
-        return Decoded::Stopped(Stop::WindowNotAllowed);
+        return Err(Stop::WindowNotAllowed);
     }
     if 32 < zeros + meaningful {
-        return Decoded::Stopped(Stop::WindowNotAllowed);
+        return Err(Stop::WindowNotAllowed);
     }
     let width = meaningful as usize;
     if left < 13 + width {
-        return Decoded::Stopped(Stop::EndsEarly);
+        return Err(Stop::EndsEarly);
     }
     let ends = 32 - zeros - meaningful;
-    Decoded::Got {
+    Ok(Got {
         value: (part(word, 13, width) << ends) ^ last,
         lead: zeros,
         trail: ends,
         used: 13 + width,
-    }
+    })
 }

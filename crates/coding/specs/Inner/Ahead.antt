@@ -1,11 +1,10 @@
 -- The bits ahead of a place as a word, and what one value read of them says. Assumes nothing.
-use Rattle.std.specs.Prelude.{◌≡◌, Bool, true, false, List, [], ◌∷◌, ℕ, zero, suc, ◌+◌, ◌*◌, ◌^◌, ◌≤◌, ◌<◌, length, take, drop}
+use Rattle.std.specs.Prelude.{◌≡◌, Bool, true, false, List, [], ◌∷◌, ℕ, zero, suc, ◌+◌, ◌*◌, ◌^◌, ◌≤◌, ◌<◌, length, take, drop, Result, Ok, Err}
 use Rattle.bits.specs.Bits.{field, field_at, bits_of}
 use Rattle.stream.specs.Read.{Step, got, halt}
 use Rattle.stream.specs.Format.{unset, window_in}
 use Rattle.coding.specs.declared.decode.Ahead.{Ahead}
-use Rattle.coding.specs.declared.decode.Decoded.{Decoded}
-use Rattle.coding.specs.declared.decode.Decoded.TheVariants.{Got, Stopped}
+use Rattle.coding.specs.declared.decode.Got.{Got}
 use Rattle.coding.specs.declared.decode.Stop.{Stop}
 use Rattle.coding.specs.declared.decode.Stop.TheVariants.{EndsEarly, NoWindow, WindowNotAllowed}
 
@@ -57,6 +56,6 @@ stop_number EndsEarly = 5
 stop_number NoWindow = 6
 stop_number WindowNotAllowed = 7
 
-abbrev pub says_decoded : Decoded → Step
-says_decoded (Got value lead trail used) = got value (window_in lead trail) used
-says_decoded (Stopped s) = halt (stop_number s)
+abbrev pub says_decoded : Result Got Stop → Step
+says_decoded (Ok g) = got g.value (window_in g.lead g.trail) g.used
+says_decoded (Err s) = halt (stop_number s)
