@@ -9,7 +9,7 @@ use Rattle.bits.proofs.put_word.Goals as goal
 
 pub loop-k-init : goal.loop-k-init
 unfolding field laid
-loop-k-init c = (omega arith, refl, refl)
+loop-k-init c = (refl, refl)
 
 pub loop-k-preserved : goal.loop-k-preserved
 loop-k-preserved c =
@@ -23,12 +23,11 @@ loop-k-preserved c =
     let over : 56 - 8 * k ≡ 64 - 8 * (k + 1) = omega arith in
     let back : (64 - 8 * (k + 1)) + 8 ≡ 64 - 8 * k = omega arith in
     let before : bits_of l ≡ laid (bits_of a.bytes.now) (8 * a.base) (field (8 * k) (v / 2 ^ 8)) =
-    inv.2 ∙ ap (λ (x : ℕ). laid (bits_of a.bytes.now) (8 * a.base) (field (8 * k) x))
+    inv.1 ∙ ap (λ (x : ℕ). laid (bits_of a.bytes.now) (8 * a.base) (field (8 * k) x))
     (ap (λ (x : ℕ). a.word / 2 ^ x) (sym back) ∙ sym (shr-shr a.word (64 - 8 * (k + 1)) 8)) in (
-      omega arith,
-      length-set l i c.byte_of.result ∙ inv.1,
+      length-set l i c.byte_of.result ∙ inv.0,
       ap (λ (x : ℕ). bits_of (set l i x)) (c.byte_of.ensures ∙ ap (λ (x : ℕ). a.word / 2 ^ x % 2 ^ 8) over)
-          ∙ put_byte a.bytes.now l i (8 * a.base) (8 * k) v inv.1 (omega arith) (omega arith) before
+          ∙ put_byte a.bytes.now l i (8 * a.base) (8 * k) v inv.0 (omega arith) (omega arith) before
           ∙ ap (λ (x : ℕ). laid (bits_of a.bytes.now) (8 * a.base) (field x v)) (sym next),
     )
 
@@ -36,4 +35,4 @@ pub returns : goal.returns
 returns c =
     let a = c.args in
     let all : c.loop-k.k ≡ a.n = omega arith in
-    c.loop-k.invariant.2 ∙ rw all
+    c.loop-k.invariant.1 ∙ rw all
