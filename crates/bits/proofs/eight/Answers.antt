@@ -2,9 +2,9 @@
 use mathlib.Core.Path.{◌∙◌}
 use Rattle.bits.proofs.Chunks.{eight_is}
 use Rattle.bits.proofs.eight.Goals as goal
-use Rattle.bits.proofs.eight.Goals.{After-word_of}
+use Rattle.bits.proofs.eight.Goals.{After-from_be_bytes}
 
 pub returns : goal.returns
 returns c =
-    let at-start = (goal.at.returns c).After-word_of in
-    c.word_of.ensures ∙ eight_is at-start.args.bytes.now at-start.args.i at-start.requires (λ n. (c.shared_slice_known-9-1.given n).fits)
+    let at-start = (goal.at.returns c).After-from_be_bytes in
+    c.from_be_bytes.ensures ∙ eight_is at-start.args.bytes.now at-start.args.i at-start.requires (λ n. (c.shared_slice_known-9-1.given n).fits)
