@@ -12,7 +12,8 @@ use lib.Ieee.{Float, nan, binary32, to_bits, fits}
 use lib.Ieee.Bits.{of_bits-fits}
 use Rattle.numbers.proofs.Nans.{nan_pattern_lem}
 use Rattle.numbers.proofs.Convert.{narrowed-nan}
-use Rattle.models.specs.Answers.{answered_on, state_after, Stepped, fitting, refusing, NoneHolds}
+use Rattle.models.specs.declared.Stepped.{Stepped}
+use Rattle.models.specs.Answers.{answered_on, state_after, fitting, refusing, NoneHolds}
 use Rattle.models.specs.Floats.{zero_f, fresh_bits, is_finite, min_f, max_f}
 use Rattle.models.specs.Bound.{bound_allowed, BoundHeld, deviation}
 use Rattle.models.specs.declared.ErrorBound.{ErrorBound}

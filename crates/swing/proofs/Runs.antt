@@ -11,7 +11,8 @@ use lib.ListN.{length}
 use lib.Ieee as Ieee
 use lib.Ieee.{Float}
 use Rattle.models.specs.Limits.{most_values}
-use Rattle.models.specs.Answers.{Stepped, fitting, failing, ◌when◌, NoneHolds}
+use Rattle.models.specs.declared.Stepped.{Stepped}
+use Rattle.models.specs.Answers.{fitting, failing, ◌when◌, NoneHolds}
 use Rattle.models.specs.Floats.{equal_or_nan}
 use Rattle.models.specs.Bound.{bound_allowed, deviation}
 use Rattle.models.specs.declared.ErrorBound.{ErrorBound}

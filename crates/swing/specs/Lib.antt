@@ -4,4 +4,3 @@ pub mod Model
 pub mod Calls
 pub mod Grid
 pub mod Run
-pub mod Inner

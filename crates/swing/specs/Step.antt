@@ -1,7 +1,8 @@
 -- A step of Swing: line by line what swing.rs does. d is the deviation that the bound allows at the point.
 use Rattle.std.specs.Prelude.{cond, not, ◌||◌, ◌+◌, eqb, Float}
 use Rattle.std.specs.Float.Ieee as Ieee
-use Rattle.models.specs.Answers.{Stepped, fitting, failing}
+use Rattle.models.specs.declared.Stepped.{Stepped}
+use Rattle.models.specs.Answers.{fitting, failing}
 use Rattle.models.specs.Floats.{equal_or_nan}
 use Rattle.models.specs.Bound.{deviation}
 use Rattle.lines.specs.Line.{◌+f◌, ◌-f◌, both_finite, raised, lowered, line_through, value_at, terms_of, added, level_line}

@@ -5,15 +5,17 @@
 
 pub mod step;
 
-ghost use Rattle.std.specs.Prelude.{◌≡◌, length};
+ghost use Rattle.std.specs.Prelude.{◌≡◌, ◌&&◌, length};
 ghost use Rattle.models.specs.Answers.{verdict};
-ghost use Rattle.models.specs.Calls.{says_verdict, says_value, says_grid};
+ghost use Rattle.models.specs.Calls.{said_by, said_on};
+ghost use Rattle.lines.specs.Times.{in_order};
 ghost use Rattle.lines.specs.Line.{point_of};
-ghost use Rattle.swing.specs.Calls.{says_new, new_answer, fit_causes, says_fit, fit_answer, says_cost, cost_answer, says_model, model_answer};
+ghost use Rattle.lines.specs.Values.{in_time};
+ghost use Rattle.swing.specs.Calls.{new_answer, fit_causes, fit_answer, cost_answer, says_model, model_answer};
 ghost use Rattle.swing.specs.Grid.{line_causes, average_causes, average_answer, sum_causes, sum_answer, grid_causes, grid_memory};
 
 use lines::Point;
-use models::{ErrorBound, GridAnswer, Refusal, ValueAnswer, Verdict};
+use models::{ErrorBound, Refusal, Refused, Stepped};
 
 #[derive(Clone, Copy)]
 pub struct Swing {
@@ -34,54 +36,18 @@ pub struct Swing {
     pub length: usize,
 }
 
-// What a step that nothing refuses gives: whether the point fits, and the state after it.
-#[derive(Clone, Copy)]
-pub struct Tried {
-    pub fits: bool,
-    pub state: Swing,
-}
-
-// ---- answers: a refusal hands back the state passed in
-
-#[derive(Clone, Copy)]
-pub enum NewAnswer {
-    Answered(Swing),
-    Refused(Refusal),
-}
-
-// The fitted state, or that the point does not fit, with the state passed in.
-#[derive(Clone, Copy)]
-pub enum FitAnswer {
-    Fits(Swing),
-    NoFit(Swing),
-    Refused(Refusal, Swing),
-}
-
-#[derive(Clone, Copy)]
-pub enum CostAnswer {
-    Answered(f32),
-    Refused(Refusal, Swing),
-}
-
-// The bits of the line's first and last value.
-#[derive(Clone, Copy)]
-pub enum ModelAnswer {
-    Answered(u32, u32),
-    Refused(Refusal, Swing),
-}
-
 impl Swing {
     // ---- the public calls
 
     // The state before any point.
-    pub fn new(error_bound: ErrorBound) -> NewAnswer
-        ensures { says_new result ≡ new_answer error_bound }
+    pub fn new(error_bound: ErrorBound) -> Result<Swing, Refusal>
+        ensures { said_by result ≡ new_answer error_bound }
     {
         if !models::bound_allowed(error_bound) {
-            return NewAnswer::Refused(Refusal::BoundNotAllowed);
+            return Err(Refusal::BoundNotAllowed);
         }
         let nan = 0.0f64 / 0.0;
-        NewAnswer::Answered(Swing {
+        Ok(Swing {
             error_bound,
             start_time: 0,
             end_time: 0,
@@ -97,21 +63,17 @@ impl Swing {
     }
 
     // Tries to have the model stand for one more point.
-    pub fn fit_data_point(self, timestamp: i64, value: u32) -> FitAnswer
-        ensures { says_fit result ≡ fit_answer self timestamp value }
+    pub fn fit_data_point(
+        self,
+        timestamp: i64,
+        value: u32,
+    ) -> Result<Stepped<Swing>, Refused<Swing>>
+        ensures { said_on result ≡ fit_answer self timestamp value }
     {
         let p = lines::point_of(timestamp, value);
         match self.judge_fit(p) {
-            Verdict::Refused(r) => FitAnswer::Refused(r, self),
-            Verdict::Passed => {
-                let t = self.tried(p);
-                let s = t.state;
-                if t.fits {
-                    FitAnswer::Fits(s)
-                } else {
-                    FitAnswer::NoFit(s)
-                }
-            }
+            Err(cause) => Err(Refused { cause, state: self }),
+            Ok(()) => Ok(self.tried(p)),
         }
     }
 
@@ -123,37 +85,38 @@ impl Swing {
     }
 
     // The bytes for each value: a segment's metadata is of m bytes, and the model needs one more.
-    pub fn bytes_per_value(self, m: usize) -> CostAnswer
-        ensures { says_cost result ≡ cost_answer self m }
+    pub fn bytes_per_value(self, m: usize) -> Result<f32, Refused<Swing>>
+        ensures { said_on result ≡ cost_answer self m }
     {
-        let b = self.error_bound;
-        match models::judge_cost(b, self.usable(), self.length, m) {
-            Verdict::Refused(r) => CostAnswer::Refused(r, self),
-            Verdict::Passed => CostAnswer::Answered(models::cost(m + 1, self.length)),
+        match models::judge_cost(self.error_bound, self.usable(), self.length, m) {
+            Err(cause) => Err(Refused { cause, state: self }),
+            Ok(()) => Ok(models::cost(m + 1, self.length)),
         }
     }
 
-    // The model: the line's first and last value.
-    pub fn model(self) -> ModelAnswer
+    // The model: the bits of the line's first and last value.
+    pub fn model(self) -> Result<(u32, u32), Refused<Swing>>
         ensures { says_model result ≡ model_answer self }
     {
-        let b = self.error_bound;
-        match models::judge_model(b, self.usable(), self.length) {
-            Verdict::Refused(r) => ModelAnswer::Refused(r, self),
-            Verdict::Passed => {
+        match models::judge_model(self.error_bound, self.usable(), self.length) {
+            Err(cause) => Err(Refused { cause, state: self }),
+            Ok(()) => {
                 let first = lines::answered(self.first_value);
-                ModelAnswer::Answered(first, lines::answered(self.last_value()))
+                Ok((first, lines::answered(self.last_value())))
             }
         }
     }
 
     // The causes of refusal of a step.
-    fn judge_fit(self, p: Point) -> Verdict
-        ensures { says_verdict result ≡ verdict (fit_causes self p.time) }
+    #[tactic(auto, unfolding(models::specs::Answers::judge))]
+    fn judge_fit(self, p: Point) -> Result<(), Refusal>
+        ensures { said_by result ≡ verdict (fit_causes self p.time) }
     {
-        let times = models::when(Refusal::TimesNotAllowed, !self.follows(p), Verdict::Passed);
-        let b = self.error_bound;
-        models::judge_step(b, self.usable(), self.length, times)
+        models::judge_step(self.error_bound, self.usable(), self.length)?;
+        if !self.follows(p) {
+            return Err(Refusal::TimesNotAllowed);
+        }
+        Ok(())
     }
 }
 
@@ -166,15 +129,13 @@ pub fn sum_by_average(
     first_value: u32,
     last_value: u32,
     count: usize,
-) -> ValueAnswer
-    ensures { says_value result ≡ average_answer (point_of start_time first_value) (point_of end_time last_value) count }
+) -> Result<u32, Refusal>
+    ensures { said_by result ≡ average_answer (point_of start_time first_value) (point_of end_time last_value) count }
 {
     let a = lines::point_of(start_time, first_value);
     let b = lines::point_of(end_time, last_value);
-    match judge_average(a, b, count) {
-        Verdict::Refused(r) => ValueAnswer::Refused(r),
-        Verdict::Passed => ValueAnswer::Answered(lines::average_sum(a, b, count)),
-    }
+    judge_average(a, b, count)?;
+    Ok(lines::average_sum(a, b, count))
 }
 
 // The sum of the line's values at the timestamps.
@@ -184,18 +145,14 @@ pub fn sum_over(
     first_value: u32,
     last_value: u32,
     timestamps: &[i64],
-) -> ValueAnswer
-    ensures { says_value result ≡ sum_answer (point_of start_time first_value) (point_of end_time last_value) timestamps.now }
+) -> Result<u32, Refusal>
+    ensures { said_by result ≡ sum_answer (point_of start_time first_value) (point_of end_time last_value) timestamps.now }
 {
     let a = lines::point_of(start_time, first_value);
     let b = lines::point_of(end_time, last_value);
-    match judge_sum(a, b, timestamps) {
-        Verdict::Refused(r) => ValueAnswer::Refused(r),
-        Verdict::Passed => {
-            let l = lines::line_through(a, b);
-            ValueAnswer::Answered(lines::answered(lines::total(l, timestamps)))
-        }
-    }
+    judge_sum(a, b, timestamps)?;
+    let l = lines::line_through(a, b);
+    Ok(lines::answered(lines::total(l, timestamps)))
 }
 
 // Writes the line's values at the timestamps to the front of `out`.
@@ -206,50 +163,66 @@ pub fn grid(
     last_value: u32,
     timestamps: &[i64],
     out: &mut [u32],
-) -> GridAnswer
-    ensures answer { says_grid result ≡ verdict (grid_causes (point_of start_time first_value) (point_of end_time last_value) timestamps.now (length out.old)) }
+) -> Result<(), Refusal>
+    ensures answer { said_by result ≡ verdict (grid_causes (point_of start_time first_value) (point_of end_time last_value) timestamps.now (length out.old)) }
     ensures output { out.new ≡ grid_memory (point_of start_time first_value) (point_of end_time last_value) timestamps.now out.old }
 {
     let a = lines::point_of(start_time, first_value);
     let b = lines::point_of(end_time, last_value);
-    match judge_grid(a, b, timestamps, out.len()) {
-        Verdict::Refused(r) => GridAnswer::Refused(r),
-        Verdict::Passed => {
-            lines::draw(lines::line_through(a, b), timestamps, out);
-            GridAnswer::Drawn
-        }
+    judge_grid(a, b, timestamps, out.len())?;
+    lines::draw(lines::line_through(a, b), timestamps, out);
+    Ok(())
+}
+
+#[tactic(auto, unfolding(models::specs::Answers::judge))]
+fn judge_line(ordered: bool, a: Point, b: Point) -> Result<(), Refusal>
+    ensures { said_by result ≡ verdict (line_causes ordered a b) }
+{
+    if !ordered {
+        return Err(Refusal::TimesNotAllowed);
     }
+    if lines::no_line(a, b) {
+        return Err(Refusal::NoModel);
+    }
+    Ok(())
 }
 
-fn judge_line(ordered: bool, a: Point, b: Point) -> Verdict
-    ensures { says_verdict result ≡ verdict (line_causes ordered a b) }
+#[tactic(auto, unfolding(models::specs::Answers::judge))]
+fn judge_average(a: Point, b: Point, count: usize) -> Result<(), Refusal>
+    ensures { said_by result ≡ verdict (average_causes a b count) }
 {
-    let ends = models::when(Refusal::NoModel, lines::no_line(a, b), Verdict::Passed);
-    models::when(Refusal::TimesNotAllowed, !ordered, ends)
+    if models::MOST_VALUES < count {
+        return Err(Refusal::OverLimit);
+    }
+    judge_line(lines::in_time(a, b), a, b)
 }
 
-fn judge_average(a: Point, b: Point, count: usize) -> Verdict
-    ensures { says_verdict result ≡ verdict (average_causes a b count) }
+#[tactic(auto, unfolding(models::specs::Answers::judge))]
+fn judge_sum(a: Point, b: Point, timestamps: &[i64]) -> Result<(), Refusal>
+    ensures { said_by result ≡ verdict (sum_causes a b timestamps.now) }
 {
-    let line = judge_line(lines::in_time(a, b), a, b);
-    models::when(Refusal::OverLimit, models::MOST_VALUES < count, line)
+    if models::MOST_VALUES < timestamps.len() {
+        return Err(Refusal::OverLimit);
+    }
+    judge_line(ordered(a, b, timestamps), a, b)
 }
 
-fn judge_sum(a: Point, b: Point, timestamps: &[i64]) -> Verdict
-    ensures { says_verdict result ≡ verdict (sum_causes a b timestamps.now) }
+#[tactic(auto, unfolding(models::specs::Answers::judge))]
+fn judge_grid(a: Point, b: Point, timestamps: &[i64], room: usize) -> Result<(), Refusal>
+    ensures { said_by result ≡ verdict (grid_causes a b timestamps.now room) }
 {
-    let ordered = lines::in_time(a, b) & lines::times::in_order(timestamps);
-    let line = judge_line(ordered, a, b);
-    let over = models::MOST_VALUES < timestamps.len();
-    models::when(Refusal::OverLimit, over, line)
+    if models::MOST_VALUES < timestamps.len() {
+        return Err(Refusal::OverLimit);
+    }
+    if room < timestamps.len() {
+        return Err(Refusal::OutputTooShort);
+    }
+    judge_line(ordered(a, b, timestamps), a, b)
 }
 
-fn judge_grid(a: Point, b: Point, timestamps: &[i64], room: usize) -> Verdict
-    ensures { says_verdict result ≡ verdict (grid_causes a b timestamps.now room) }
+// Whether the line's ends are in order, and the timestamps too.
+fn ordered(a: Point, b: Point, timestamps: &[i64]) -> bool
+    ensures { result ≡ (in_time a b && in_order timestamps.now) }
 {
-    let ordered = lines::in_time(a, b) & lines::times::in_order(timestamps);
-    let line = judge_line(ordered, a, b);
-    let short = models::when(Refusal::OutputTooShort, room < timestamps.len(), line);
-    let over = models::MOST_VALUES < timestamps.len();
-    models::when(Refusal::OverLimit, over, short)
+    lines::in_time(a, b) & lines::times::in_order(timestamps)
 }

@@ -7,11 +7,11 @@ ghost use Rattle.lines.specs.Times.{time_allowed};
 ghost use Rattle.lines.specs.Line.{line_through};
 ghost use Rattle.swing.specs.State.{usable, time_follows, first_point, upper_line, lower_line, sums_of};
 ghost use Rattle.swing.specs.Step.{opened, moved, flat, second, swung, later, tried};
-ghost use Rattle.swing.specs.Inner.Steps.{step_of};
 ghost use Rattle.swing.specs.Model.{last_value};
 
-use crate::{Swing, Tried};
+use crate::Swing;
 use lines::{Line, Point, Terms, times};
+use models::Stepped;
 
 impl Swing {
     // ---- what a state holds
@@ -75,21 +75,20 @@ impl Swing {
     // ---- the step
 
     // The step, once nothing refuses it.
-    pub fn tried(self, p: Point) -> Tried
+    pub fn tried(self, p: Point) -> Stepped<Swing>
         requires room { self.length < most_values }
         requires sound { usable self ≡ true }
         requires time { time_allowed p.time ≡ true }
-        ensures { step_of result ≡ tried self p }
+        ensures { result ≡ tried self p }
     {
         let n = self.length;
-        let b = self.error_bound;
         if n == 0 {
             return fitting(self.opened(p));
         }
         if !lines::both_finite(self.first_value, p.value) {
             return self.flat(p);
         }
-        let d = models::deviation(b, p.value);
+        let d = models::deviation(self.error_bound, p.value);
         if n == 1 {
             fitting(self.second(p, d))
         } else {
@@ -98,38 +97,42 @@ impl Swing {
     }
 
     // The state with its first point.
+    #[tactic(auto, unfolding(crate::specs::Step::opened))]
     fn opened(self, p: Point) -> Swing
         ensures { result ≡ opened self p }
     {
-        let mut s = self;
-        s.start_time = p.time;
-        s.end_time = p.time;
-        s.first_value = p.value;
-        s.length = 1;
-        s
+        Swing {
+            start_time: p.time,
+            end_time: p.time,
+            first_value: p.value,
+            length: 1,
+            ..self
+        }
     }
 
     // The state with one point more, these lines and these sums.
+    #[tactic(auto, unfolding(crate::specs::Step::moved))]
     fn moved(self, p: Point, upper: Line, lower: Line, sums: Terms) -> Swing
         requires { self.length < most_values }
         ensures { result ≡ moved self p upper lower sums }
     {
-        let mut s = self;
-        s.end_time = p.time;
-        s.upper_bound_slope = upper.slope;
-        s.upper_bound_intercept = upper.intercept;
-        s.lower_bound_slope = lower.slope;
-        s.lower_bound_intercept = lower.intercept;
-        s.slope_with_minimum_mse_numerator = sums.numerator;
-        s.slope_with_minimum_mse_denominator = sums.denominator;
-        s.length = s.length + 1;
-        s
+        Swing {
+            end_time: p.time,
+            upper_bound_slope: upper.slope,
+            upper_bound_intercept: upper.intercept,
+            lower_bound_slope: lower.slope,
+            lower_bound_intercept: lower.intercept,
+            slope_with_minimum_mse_numerator: sums.numerator,
+            slope_with_minimum_mse_denominator: sums.denominator,
+            length: self.length + 1,
+            ..self
+        }
     }
 
     // One point more where the first value or this one is not finite: it fits if they are the same.
-    fn flat(self, p: Point) -> Tried
+    fn flat(self, p: Point) -> Stepped<Swing>
         requires { self.length < most_values }
-        ensures { step_of result ≡ flat self p }
+        ensures { result ≡ flat self p }
     {
         if models::equal_or_nan(self.first_value, p.value) {
             let l = Line {
@@ -138,7 +141,7 @@ impl Swing {
             };
             fitting(self.moved(p, l, l, self.sums()))
         } else {
-            Tried {
+            Stepped {
                 fits: false,
                 state: self,
             }
@@ -159,16 +162,16 @@ impl Swing {
     }
 
     // A third or later point.
-    fn later(self, p: Point, d: f64) -> Tried
+    fn later(self, p: Point, d: f64) -> Stepped<Swing>
         requires room { self.length < most_values }
         requires start { time_allowed self.start_time ≡ true }
         requires time { time_allowed p.time ≡ true }
-        ensures { step_of result ≡ later self p d }
+        ensures { result ≡ later self p d }
     {
         let high = lines::value_at(self.upper_line(), p.time);
         let low = lines::value_at(self.lower_line(), p.time);
         if (high + d < p.value) | (low - d > p.value) {
-            Tried {
+            Stepped {
                 fits: false,
                 state: self,
             }
@@ -219,10 +222,10 @@ impl Swing {
     }
 }
 
-fn fitting(s: Swing) -> Tried
-    ensures { step_of result ≡ fitting s }
+fn fitting(s: Swing) -> Stepped<Swing>
+    ensures { result ≡ fitting s }
 {
-    Tried {
+    Stepped {
         fits: true,
         state: s,
     }
