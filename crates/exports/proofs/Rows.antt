@@ -1,5 +1,6 @@
 -- What a call answers and leaves in a lent row, case by case. Assumes nothing.
 use mathlib.Core.Path.{◌≡◌, refl, sym, ap, ◌∙◌}
+use Rattle.std.specs.Prelude.{Result, Ok, Err}
 use mathlib.Core.Bool.{Bool, true, false, cond, not, false≢true}
 use mathlib.Core.List.{List, [], ◌∷◌, ◌++◌}
 use mathlib.Core.Logic.{◌⊎◌, inl, inr}
@@ -8,10 +9,9 @@ use native.Mathlib.Omega.{arith}
 use borrow.Author.Tests.{le-leb, lt-leb, ltb-true, ltb-false}
 use lib.Dec.{leb, ltb}
 use lib.ListN.{length, drop, set}
-use Rattle.models.specs.Answers.{fault, no_fault, Said, answered, refused, SaidOn, stateless, Cause, ◌when◌, judge, judged_on}
+use Rattle.models.specs.Answers.{fault, no_fault, Done, Said, answered, refused, SaidOn, stateless, Cause, ◌when◌, judge, judged_on}
 use Rattle.models.specs.declared.Fault.{Fault}
-use Rattle.models.specs.declared.Verdict.{Verdict}
-use Rattle.models.specs.declared.Verdict.TheVariants as OfVerdict
+use Rattle.models.specs.declared.Refusal.{Refusal}
 use Rattle.models.proofs.Tests.{or_right}
 use Rattle.exports.specs.Face.{before_short, no_state, refusal_fault, fault_said, row_in, row_after, plain_fault, step_fault, step_row}
 use Rattle.exports.specs.Inner.Put.{worded, words_said, whole_row}
@@ -50,12 +50,12 @@ alike words others need row said other e f =
     let k = by-words others need row other in
     (f.0 ∙ sym k.0 ∙ ap (fault_said need (length row)) e ∙ g.0, f.1 ∙ sym k.1 ∙ ap (row_after need whole_row row) e ∙ g.1)
 
-whole : (v : Verdict) (ws : List ℕ) → worded whole_row (words_said v ws) ≡ words_said v ws
-whole OfVerdict.Passed ws = refl
-whole (OfVerdict.Refused r) ws = refl
+whole : (v : Result Done Refusal) (ws : List ℕ) → worded whole_row (words_said v ws) ≡ words_said v ws
+whole (Ok u) ws = refl
+whole (Err r) ws = refl
 
 -- words that were put are those of an answer
-pub put : {A : Type 0} (words : A → List ℕ) (need : ℕ) (row : List ℕ) (said : Said A) (v : Verdict) (ws : List ℕ) → length ws ≡ need → words_said v ws ≡ worded words said
+pub put : {A : Type 0} (words : A → List ℕ) (need : ℕ) (row : List ℕ) (said : Said A) (v : Result Done Refusal) (ws : List ℕ) → length ws ≡ need → words_said v ws ≡ worded words said
     → {told : Fault} {after : List ℕ} → Faced whole_row (length ws) row (words_said v ws) told after → Faced words need row said told after
 put words need row said v ws size e f =
     alike words whole_row need row said (words_said v ws) (whole v ws ∙ e) (rw size at f)
@@ -91,7 +91,7 @@ module _ {A : Type 0} (words : A → List ℕ) (need : ℕ) (row : List ℕ) whe
   refused-with-room said f e h = (roomy-fault said (inl h) ∙ ap plain_fault e, roomy-row said (inl h) ∙ ap (row_in words row) e)
 
 -- words that were put into a row that holds them
-pub put-plain : {A : Type 0} (words : A → List ℕ) (need : ℕ) (row : List ℕ) (said : Said A) (v : Verdict) (ws : List ℕ) → need ≤ length row → length ws ≡ need → words_said v ws ≡ worded words said
+pub put-plain : {A : Type 0} (words : A → List ℕ) (need : ℕ) (row : List ℕ) (said : Said A) (v : Result Done Refusal) (ws : List ℕ) → need ≤ length row → length ws ≡ need → words_said v ws ≡ worded words said
     → {told : Fault} {after : List ℕ} → Faced whole_row (length ws) row (words_said v ws) told after → (told ≡ plain_fault said) × (after ≡ row_in words row said)
 put-plain words need row said v ws room size e f =
     let g = put words need row said v ws size e f in
@@ -121,12 +121,7 @@ roomy need row said allowed short = by (ltb (length row) need) refl
     by true e = inr (ap early (short (ltb-true (length row) need e)) ∙ before-4 allowed)
     by false e = inl (ltb-false (length row) need e)
 
--- ---- words set one by one
+-- ---- a word set by itself
 pub one_set : (row : List ℕ) (a : ℕ) → 1 ≤ length row → set row 0 a ≡ a ∷ drop 1 row
 one_set [] a h = absurd (omega arith)
 one_set (x ∷ row) a h = refl
-
-pub two-set : (row : List ℕ) (a b : ℕ) → 2 ≤ length row → set (set row 0 a) 1 b ≡ a ∷ b ∷ drop 2 row
-two-set [] a b h = absurd (omega arith)
-two-set (x ∷ []) a b h = absurd (omega arith)
-two-set (x ∷ y ∷ row) a b h = refl

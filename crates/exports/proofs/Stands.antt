@@ -6,7 +6,8 @@ use mathlib.Core.List.{List, [], ◌∷◌, ◌++◌, foldl}
 use Prim.Native.Nat.{ℕ, ◌≤◌}
 use borrow.Author.Tests.{le-leb}
 use lib.ListN.{length, drop}
-use Rattle.models.specs.Answers.{Stepped, failing, state_after, SaidOn, Cause, ◌when◌, judge, judged, judged_on, NoneHolds}
+use Rattle.models.specs.declared.Stepped.{Stepped}
+use Rattle.models.specs.Answers.{failing, state_after, SaidOn, Cause, ◌when◌, judge, judged, judged_on, NoneHolds}
 use Rattle.models.specs.Bound.{bound_allowed}
 use Rattle.models.specs.declared.ErrorBound.{ErrorBound}
 use Rattle.exports.specs.Face.{row_after, step_row}

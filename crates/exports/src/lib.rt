@@ -6,16 +6,17 @@
 
 pub mod words;
 
-ghost use Rattle.std.specs.Prelude.{◌≡◌, ◌++◌, ◌≤◌, length, drop};
+ghost use Rattle.std.specs.Prelude.{◌≡◌, length};
 ghost use Rattle.std.specs.Float.{binary32, binary64};
 ghost use Rattle.std.specs.Float.Ieee.{of_bits, to_bits};
 ghost use Rattle.numbers.specs.Narrowed.{narrowed};
 ghost use Rattle.models.specs.Refusals.{fault_of};
-ghost use Rattle.models.specs.Calls.{within_answer, deviation_answer, says_value};
-ghost use Rattle.exports.specs.Face.{bound_of, refusal_fault, fault_said, row_after, word_of, one_word, word_of_truth, word_of32, word_of64};
-ghost use Rattle.exports.specs.Inner.Put.{whole_row, pair_row, worded, words_said, says_pair, says_float};
+ghost use Rattle.models.specs.Answers.{answered};
+ghost use Rattle.models.specs.Calls.{within_answer, deviation_answer, said_by};
+ghost use Rattle.exports.specs.Face.{bound_of, refusal_fault, fault_said, row_after, one_word, word_of_truth, word_of32, word_of64};
+ghost use Rattle.exports.specs.Inner.Put.{whole_row, pair_row, front_after, worded, words_said};
 
-use models::{DeviationAnswer, ErrorBound, Fault, Refusal, ValueAnswer, Verdict, WithinAnswer};
+use models::{ErrorBound, Fault, Refusal};
 
 // ---- numbers
 
@@ -37,26 +38,16 @@ pub fn modelardb_narrow(bits: u64) -> u32
 
 // Kind 0 is Lossless, 1 Absolute, 2 Relative. A higher one is no bound: what stands for it is not
 // allowed, so that the call behind refuses it with 1.
+#[tactic(auto, using(crate::proofs::Nan::nan_bits), unfolding(crate::specs::Face::bound_of))]
 pub fn bound_of(kind: u32, bits: u32) -> ErrorBound
     ensures { result ≡ bound_of kind bits }
 {
-    if kind == 0 {
-        return ErrorBound::Lossless;
+    match kind {
+        0 => ErrorBound::Lossless,
+        1 => ErrorBound::Absolute(numbers::value_of_f32(bits)),
+        2 => ErrorBound::Relative(numbers::value_of_f32(bits)),
+        _ => ErrorBound::Absolute(f32::NAN),
     }
-    let value = numbers::value_of_f32(bits);
-    if kind == 1 {
-        return ErrorBound::Absolute(value);
-    }
-    if kind == 2 {
-        return ErrorBound::Relative(value);
-    }
-    ErrorBound::Absolute(0.0 / 0.0)
-}
-
-pub fn word_of(is: bool) -> u32
-    ensures { result ≡ word_of is }
-{
-    if is { 1 } else { 0 }
 }
 
 // ---- what a call says, as its fault and the front of a lent row
@@ -84,107 +75,75 @@ pub const TOO_SHORT: Fault = Fault {
 
 // What a refused call answers, where a row of `room` words is lent for `need` of them: 4 comes
 // before a cause that 01 judges after it.
+#[tactic(auto, unfolding(crate::specs::Face::refusal_fault))]
 pub fn fault_with(r: Refusal, need: usize, room: usize) -> Fault
     ensures { result ≡ refusal_fault need room (fault_of r) }
 {
-    let fault = models::fault_of(r);
-    let n = fault.number;
-    if n <= 3 {
-        return fault;
+    let fault = Fault::from(r);
+    match fault.number {
+        4..=11 if room < need => TOO_SHORT,
+        _ => fault,
     }
-    if 12 <= n {
-        return fault;
-    }
-    if room < need { TOO_SHORT } else { fault }
 }
 
-// Words to the front of a row that holds them.
-fn put_words(words: &[u64], row: &mut [u64])
-    requires { length words.now ≤ length row.old }
-    ensures { row.new ≡ words.now ++ drop (length words.now) row.old }
+// Words that nothing refuses, to the front of a row that holds them.
+#[tactic(auto, unfolding(crate::specs::Face::fault_said, crate::specs::Inner::Put::front_after))]
+pub fn put_words<T: Copy>(words: &[T], row: &mut [T]) -> Fault
+    ensures fault { result ≡ fault_said (length words.now) (length row.old) (answered words.now) }
+    ensures row { row.new ≡ front_after words.now row.old }
 {
-    let mut i: usize = 0;
-    while i < words.len() {
-        row[i] = words[i];
-        i += 1;
+    if row.len() < words.len() {
+        return TOO_SHORT;
     }
+    row[..words.len()].copy_from_slice(words);
+    ACCEPTED
 }
 
 // The words of an answer, where the verdict on the call let it be given.
-pub fn put_said(verdict: Verdict, words: &[u64], row: &mut [u64]) -> Fault
+#[tactic(auto, unfolding(crate::specs::Face::fault_said, crate::specs::Face::row_after, crate::specs::Inner::Put::front_after))]
+pub fn put_said(verdict: Result<(), Refusal>, words: &[u64], row: &mut [u64]) -> Fault
     ensures fault { result ≡ fault_said (length words.now) (length row.old) (words_said verdict words.now) }
     ensures row { row.new ≡ row_after (length words.now) whole_row row.old (words_said verdict words.now) }
 {
     match verdict {
-        Verdict::Refused(r) => fault_with(r, words.len(), row.len()),
-        Verdict::Passed => {
-            if row.len() < words.len() {
-                return TOO_SHORT;
-            }
-            put_words(words, row);
-            ACCEPTED
-        }
+        Err(r) => fault_with(r, words.len(), row.len()),
+        Ok(()) => put_words(words, row),
     }
 }
 
 // One value.
-pub fn put_value(answer: ValueAnswer, out: &mut [u32]) -> Fault
-    ensures fault { result ≡ fault_said 1 (length out.old) (says_value answer) }
-    ensures row { out.new ≡ row_after 1 one_word out.old (says_value answer) }
+#[tactic(auto, unfolding(crate::specs::Face::fault_said, crate::specs::Face::row_after, crate::specs::Inner::Put::front_after))]
+pub fn put_value(answer: Result<u32, Refusal>, out: &mut [u32]) -> Fault
+    ensures fault { result ≡ fault_said 1 (length out.old) (said_by answer) }
+    ensures row { out.new ≡ row_after 1 one_word out.old (said_by answer) }
 {
     match answer {
-        ValueAnswer::Refused(r) => fault_with(r, 1, out.len()),
-        ValueAnswer::Answered(bits) => {
-            if out.len() < 1 {
-                return TOO_SHORT;
-            }
-            out[0] = bits;
-            ACCEPTED
-        }
+        Err(r) => fault_with(r, 1, out.len()),
+        Ok(bits) => put_words(&[bits], out),
     }
 }
 
 // The two ends of a line, or of what values keep to.
-#[derive(Clone, Copy)]
-pub enum PairAnswer {
-    Refused(Refusal),
-    Answered(u32, u32),
-}
-
-pub fn put_ends(answer: PairAnswer, out: &mut [u32]) -> Fault
-    ensures fault { result ≡ fault_said 2 (length out.old) (says_pair answer) }
-    ensures row { out.new ≡ row_after 2 pair_row out.old (says_pair answer) }
+#[tactic(auto, unfolding(crate::specs::Face::fault_said, crate::specs::Face::row_after, crate::specs::Inner::Put::front_after))]
+pub fn put_ends(answer: Result<(u32, u32), Refusal>, out: &mut [u32]) -> Fault
+    ensures fault { result ≡ fault_said 2 (length out.old) (said_by answer) }
+    ensures row { out.new ≡ row_after 2 pair_row out.old (said_by answer) }
 {
     match answer {
-        PairAnswer::Refused(r) => fault_with(r, 2, out.len()),
-        PairAnswer::Answered(first, last) => {
-            if out.len() < 2 {
-                return TOO_SHORT;
-            }
-            out[0] = first;
-            out[1] = last;
-            ACCEPTED
-        }
+        Err(r) => fault_with(r, 2, out.len()),
+        Ok((first, last)) => put_words(&[first, last], out),
     }
 }
 
 // A number, by its pattern.
-#[derive(Clone, Copy)]
-pub enum FloatAnswer {
-    Refused(Refusal),
-    Answered(f32),
-}
-
-pub fn pattern_in(answer: FloatAnswer) -> ValueAnswer
-    ensures { worded one_word (says_value result) ≡ worded word_of32 (says_float answer) }
+pub fn pattern_in(answer: Result<f32, Refusal>) -> Result<u32, Refusal>
+    ensures { worded one_word (said_by result) ≡ worded word_of32 (said_by answer) }
 {
-    match answer {
-        FloatAnswer::Refused(r) => ValueAnswer::Refused(r),
-        FloatAnswer::Answered(x) => ValueAnswer::Answered(numbers::bits_of_f32(x)),
-    }
+    answer.map(numbers::bits_of_f32)
 }
 
 // 1 into out[0] where the approximate value may stand for the real one, else 0.
+#[tactic(auto, using(crate::proofs::Truth::truth_word), unfolding(crate::specs::Face::fault_said, crate::specs::Face::row_after, crate::specs::Inner::Put::front_after))]
 pub fn modelardb_is_value_within_error_bound(
     kind: u32,
     bound: u32,
@@ -197,12 +156,13 @@ pub fn modelardb_is_value_within_error_bound(
 {
     let b = bound_of(kind, bound);
     match models::is_value_within_error_bound(b, real_value, approximate_value) {
-        WithinAnswer::Refused(r) => fault_with(r, 1, out.len()),
-        WithinAnswer::Answered(is) => put_value(ValueAnswer::Answered(word_of(is)), out),
+        Err(r) => fault_with(r, 1, out.len()),
+        Ok(is) => put_words(&[u32::from(is)], out),
     }
 }
 
 // The f64 pattern of how far a line may pass from the value into out[0].
+#[tactic(auto, unfolding(crate::specs::Face::fault_said, crate::specs::Face::row_after, crate::specs::Inner::Put::front_after))]
 pub fn modelardb_maximum_allowed_deviation(
     kind: u32,
     bound: u32,
@@ -214,10 +174,7 @@ pub fn modelardb_maximum_allowed_deviation(
 {
     let b = bound_of(kind, bound);
     match models::maximum_allowed_deviation(b, numbers::value_of_f64(value)) {
-        DeviationAnswer::Refused(r) => fault_with(r, 1, out.len()),
-        DeviationAnswer::Answered(d) => {
-            let words = [numbers::bits_of_f64(d)];
-            put_said(Verdict::Passed, &words, out)
-        }
+        Err(r) => fault_with(r, 1, out.len()),
+        Ok(d) => put_words(&[numbers::bits_of_f64(d)], out),
     }
 }

@@ -22,8 +22,7 @@ pub fn bits_of(b: ErrorBound) -> u64
 {
     match b {
         ErrorBound::Lossless => 0,
-        ErrorBound::Absolute(e) => numbers::bits_of_f32(e) as u64,
-        ErrorBound::Relative(e) => numbers::bits_of_f32(e) as u64,
+        ErrorBound::Absolute(e) | ErrorBound::Relative(e) => numbers::bits_of_f32(e) as u64,
     }
 }
 
@@ -45,43 +44,39 @@ pub fn is_small(w: u64) -> bool
     w < 0x1_0000_0000
 }
 
+#[tactic(auto, using(crate::proofs::Nan::nan_bits), unfolding(crate::specs::Words::bound_in))]
 pub fn bound_in(kind: u64, bits: u64) -> ErrorBound
     ensures { result ≡ bound_in kind bits }
 {
-    if is_small(kind) & is_small(bits) {
-        return crate::bound_of(low(kind), low(bits));
+    match (u32::try_from(kind), u32::try_from(bits)) {
+        (Ok(kind), Ok(bits)) => crate::bound_of(kind, bits),
+        _ => ErrorBound::Absolute(f32::NAN),
     }
-    ErrorBound::Absolute(0.0 / 0.0)
 }
 
 // The bound in a row's first two words; Lossless, which is always allowed, where they are not both there.
+#[tactic(auto, unfolding(crate::specs::Words::bound_front))]
 pub fn bound_front(row: &[u64]) -> ErrorBound
     ensures { result ≡ bound_front row.now }
 {
-    if row.len() < 2 {
-        return ErrorBound::Lossless;
+    match row {
+        [kind, bits, ..] => bound_in(*kind, *bits),
+        _ => ErrorBound::Lossless,
     }
-    bound_in(row[0], row[1])
 }
 
 // ---- a timestamp, in two's complement
 
+#[tactic(auto, unfolding(crate::specs::Words::time_in))]
 pub fn time_in(w: u64) -> i64
     ensures { result ≡ time_in w }
 {
-    if w < 0x8000_0000_0000_0000 {
-        return w as i64;
-    }
-    let below = (0xffff_ffff_ffff_ffff - w) as i64;
-    -1 - below
+    w.cast_signed()
 }
 
+#[tactic(auto, unfolding(crate::specs::Words::word_of_time))]
 pub fn word_of_time(t: i64) -> u64
     ensures { result ≡ word_of_time t }
 {
-    if 0 <= t {
-        return t as u64;
-    }
-    let below = -1 - t;
-    0xffff_ffff_ffff_ffff - (below as u64)
+    t.cast_unsigned()
 }
