@@ -6,7 +6,8 @@
 #![tactic(auto)]
 
 use at::At;
-use replaying::line::{MARKS, WORDS};
+use replaying::line;
+use replaying::line::{Marks, WORDS};
 
 mod at;
 mod calls;
@@ -14,25 +15,24 @@ mod record;
 
 const STDIN_FILENO: i32 = 0;
 
+// A proved loop has to end, and nothing says that a list does: many more parts than one has.
+const MOST_PARTS: u32 = 1_000_000;
+
 fn main() {
     let mut words = [0u64; WORDS];
-    let mut marks = [0usize; MARKS];
+    let mut marks = line::no_marks();
     let mut at = At::start();
-    // A proved loop has to end, and nothing says that a list does: many more turns than one takes.
-    let mut turns: u64 = 1_000_000;
-    while 0 < turns {
+    for _ in 0..MOST_PARTS {
         if at.is_end {
-            turns = 0;
-        } else {
-            at = read(at, &mut words, &mut marks);
-            turns -= 1;
+            break;
         }
+        at = read(at, &mut words, &mut marks);
     }
     at.finished();
 }
 
 // The next part of the list.
-fn read(mut at: At, words: &mut [u64; WORDS], marks: &mut [usize; MARKS]) -> At {
+fn read(mut at: At, words: &mut [u64; WORDS], marks: &mut Marks) -> At {
     let mut part = io::large_buffer();
     let n = io::read_full(STDIN_FILENO, &mut part);
     if n == 0 {
@@ -42,12 +42,10 @@ fn read(mut at: At, words: &mut [u64; WORDS], marks: &mut [usize; MARKS]) -> At 
     replay(&part[..n], at, words, marks)
 }
 
-fn replay(part: &[u8], from: At, words: &mut [u64; WORDS], marks: &mut [usize; MARKS]) -> At {
+fn replay(part: &[u8], from: At, words: &mut [u64; WORDS], marks: &mut Marks) -> At {
     let mut at = from;
-    let mut i: usize = 0;
-    while i < part.len() {
-        at = at.with(part[i], words, marks);
-        i += 1;
+    for byte in part {
+        at = at.with(*byte, words, marks);
     }
     at
 }

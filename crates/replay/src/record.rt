@@ -3,9 +3,9 @@
 use crate::calls;
 use crate::calls::Numbers;
 use exports::words;
-use replaying::line::MARKS;
-use replaying::lists::Told;
-use replaying::{line, lists};
+use replaying::line::{List, Marks};
+use replaying::lists;
+use replaying::lists::{BYTES, ROW, TABLE, Told, VALUES};
 
 #[derive(Clone, Copy)]
 pub enum Verdict {
@@ -15,36 +15,35 @@ pub enum Verdict {
     Unread,
 }
 
-pub fn replayed(all: &[u64], marks: &[usize; MARKS]) -> Verdict {
-    let named = lists::list(all, marks, line::CALL);
-    if (named.len() != 1) | !lists::may_be_loaded(all, marks) {
+pub fn replayed(all: &[u64], marks: &Marks) -> Verdict {
+    if !lists::may_be_loaded(all, marks) {
         return Verdict::Unread;
     }
-    let call = lists::word(all, marks, line::CALL, 0);
-    if calls::CALLS <= call {
-        return Verdict::Unread;
-    }
-    if is_replayed(call, all, marks) {
-        Verdict::Same
-    } else {
-        Verdict::Differs
+    match lists::list(all, marks, List::Call) {
+        [call] if *call < calls::CALLS => {
+            if is_replayed(*call, all, marks) {
+                Verdict::Same
+            } else {
+                Verdict::Differs
+            }
+        }
+        _ => Verdict::Unread,
     }
 }
-
 // The call on memory that holds the lists.
-fn is_replayed(call: u64, all: &[u64], marks: &[usize; MARKS]) -> bool {
-    let mut t = lists::times();
-    let mut p = lists::bytes();
-    let mut q = lists::bytes();
-    let mut v = lists::values();
-    let mut r = lists::row();
-    let mut u = lists::table();
-    let in_t = lists::load_times(all, marks, line::T, &mut t);
-    let in_p = lists::load_bytes(all, marks, line::P, &mut p);
-    let in_q = lists::load_bytes(all, marks, line::Q, &mut q);
-    let in_v = lists::load_values(all, marks, line::V, &mut v);
-    let in_r = lists::load_row(all, marks, line::R, &mut r);
-    let in_u = lists::load_row(all, marks, line::U, &mut u);
+fn is_replayed(call: u64, all: &[u64], marks: &Marks) -> bool {
+    let mut t = [0i64; VALUES];
+    let mut p = [0u8; BYTES];
+    let mut q = [0u8; BYTES];
+    let mut v = [0u32; VALUES];
+    let mut r = [0u64; ROW];
+    let mut u = [0u64; TABLE];
+    let in_t = lists::load(lists::list(all, marks, List::T), &mut t, words::time_in);
+    let in_p = lists::load(lists::list(all, marks, List::P), &mut p, lists::low_byte);
+    let in_q = lists::load(lists::list(all, marks, List::Q), &mut q, lists::low_byte);
+    let in_v = lists::load(lists::list(all, marks, List::V), &mut v, words::low);
+    let in_r = lists::load(lists::list(all, marks, List::R), &mut r, |word| word);
+    let in_u = lists::load(lists::list(all, marks, List::U), &mut u, |word| word);
     agrees(
         call,
         &t[..in_t],
@@ -67,11 +66,13 @@ fn agrees(
     r: &mut [u64],
     u: &mut [u64],
     all: &[u64],
-    marks: &[usize; MARKS],
+    marks: &Marks,
 ) -> bool {
-    let s = lists::list(all, marks, line::S);
-    let told = calls::answer(call, numbers(all, marks), t, s, p, q, v, r, u);
-    is_left(told, p, q, v, r, u, all, marks)
+    let s = lists::list(all, marks, List::S);
+    match calls::answer(call, numbers(all, marks), t, s, p, q, v, r, u) {
+        None => false,
+        Some(told) => is_left(told, p, q, v, r, u, all, marks),
+    }
 }
 
 // Whether the call answered what the line says, and left all memory as it says.
@@ -83,25 +84,25 @@ fn is_left(
     r: &[u64],
     u: &[u64],
     all: &[u64],
-    marks: &[usize; MARKS],
+    marks: &Marks,
 ) -> bool {
     lists::is_answer(told, all, marks)
-        & lists::are_bytes(p, all, marks, line::P)
-        & lists::are_bytes(q, all, marks, line::Q)
-        & lists::are_values(v, all, marks, line::V)
-        & lists::is_row(r, all, marks, line::R)
-        & lists::is_row(u, all, marks, line::U)
+        & lists::is_left(p, all, marks, List::P)
+        & lists::is_left(q, all, marks, List::Q)
+        & lists::is_left(v, all, marks, List::V)
+        & lists::is_left(r, all, marks, List::R)
+        & lists::is_left(u, all, marks, List::U)
 }
 
-fn numbers(all: &[u64], marks: &[usize; MARKS]) -> Numbers {
+fn numbers(all: &[u64], marks: &Marks) -> Numbers {
     Numbers {
-        a: words::low(lists::word(all, marks, line::X, 0)),
-        b: words::low(lists::word(all, marks, line::X, 1)),
-        c: words::low(lists::word(all, marks, line::X, 2)),
-        d: words::low(lists::word(all, marks, line::X, 3)),
-        e: words::low(lists::word(all, marks, line::X, 4)),
-        k: lists::word(all, marks, line::W, 0),
-        m: lists::word(all, marks, line::W, 1),
-        n: lists::word(all, marks, line::W, 2),
+        a: words::low(lists::word(all, marks, List::X, 0)),
+        b: words::low(lists::word(all, marks, List::X, 1)),
+        c: words::low(lists::word(all, marks, List::X, 2)),
+        d: words::low(lists::word(all, marks, List::X, 3)),
+        e: words::low(lists::word(all, marks, List::X, 4)),
+        k: lists::word(all, marks, List::W, 0),
+        m: lists::word(all, marks, List::W, 1),
+        n: lists::word(all, marks, List::W, 2),
     }
 }

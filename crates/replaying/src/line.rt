@@ -10,89 +10,113 @@
 // How many words a line may have: lists of 65,537 timestamps and values, and more.
 pub const WORDS: usize = 200_000;
 
-// The lists in their order on a line; behind the colon each stands SHIFT places behind its namesake.
-pub const CALL: usize = 0;
-
-pub const X: usize = 1;
-
-pub const W: usize = 2;
-
-pub const T: usize = 3;
-
-pub const P: usize = 4;
-
-pub const Q: usize = 5;
-
-pub const V: usize = 6;
-
-pub const R: usize = 7;
-
-pub const U: usize = 8;
-
-pub const S: usize = 9;
-
-pub const ANSWER: usize = 10;
-
-pub const SHIFT: usize = 7;
-
-const LAST: usize = 15;
-
-// What is known of a line so far. Its marks are, for each list, where its words begin, 0 for a list that
-// is not named, and ENDS places on, where they end.
+// The lists in their order on a line: the number of the call and what it is handed, what it must answer,
+// and behind that what it must leave of the lists that it is lent.
 #[derive(Clone, Copy)]
-pub struct TextLine {
-    // The list that is being filled, and how many words all have.
-    list: usize,
-    used: usize,
-    // The word that is being read, its digits so far, and the count before it, 0 where there is none.
-    word: u64,
-    digits: u64,
-    count: u64,
-    pub is_comment: bool,
-    pub is_title: bool,
-    pub is_sound: bool,
+pub enum List {
+    Call,
+    X,
+    W,
+    T,
+    P,
+    Q,
+    V,
+    R,
+    U,
+    S,
+    Answer,
+    LeftP,
+    LeftQ,
+    LeftV,
+    LeftR,
+    LeftU,
 }
 
-pub const MARKS: usize = 32;
+pub const LISTS: usize = 16;
 
-pub const ENDS: usize = 16;
+impl List {
+    // The list behind the colon that says what must be left of this one.
+    pub fn left(self) -> Option<List> {
+        match self {
+            List::P => Some(List::LeftP),
+            List::Q => Some(List::LeftQ),
+            List::V => Some(List::LeftV),
+            List::R => Some(List::LeftR),
+            List::U => Some(List::LeftU),
+            _ => None,
+        }
+    }
+
+    fn is_behind(self, other: List) -> bool {
+        (other as usize) < (self as usize)
+    }
+}
+
+// Where the words of a list stand among those of its line.
+#[derive(Clone, Copy)]
+pub struct Span {
+    pub from: usize,
+    pub to: usize,
+}
+
+// Of each list its words; none of a list that is not named.
+pub type Marks = [Option<Span>; LISTS];
+
+pub fn no_marks() -> Marks {
+    [None; LISTS]
+}
+
+// What a line is, as far as it is read.
+#[derive(Clone, Copy)]
+pub enum Kind {
+    Record,
+    // Neither a record nor text.
+    Unsound,
+    Comment,
+    Title,
+}
+
+// What is known of a line so far.
+#[derive(Clone, Copy)]
+pub struct TextLine {
+    pub kind: Kind,
+    // The list that is being filled, where its words begin, and how many words all have.
+    list: List,
+    from: usize,
+    used: usize,
+    // The word that is being read, its digits so far, and the count before it.
+    word: u64,
+    digits: u64,
+    count: Option<usize>,
+}
 
 impl TextLine {
     pub fn start() -> TextLine {
         TextLine {
-            list: CALL,
+            kind: Kind::Record,
+            list: List::Call,
+            from: 0,
             used: 0,
             word: 0,
             digits: 0,
-            count: 0,
-            is_comment: false,
-            is_title: false,
-            is_sound: true,
+            count: None,
         }
     }
 
     // The line with one more byte.
-    pub fn with(self, byte: u8, words: &mut [u64; WORDS], marks: &mut [usize; MARKS]) -> TextLine {
+    pub fn with(self, byte: u8, words: &mut [u64; WORDS], marks: &mut Marks) -> TextLine {
         if self.is_text() {
             return self;
         }
-        let digit = digit_of(byte);
-        if digit < 16 {
-            return self.with_digit(digit);
+        match byte {
+            b'0'..=b'9' => self.with_digit((byte - b'0') as u64),
+            b'a'..=b'f' => self.with_digit((byte - b'a') as u64 + 10),
+            b' ' => self.ended(words, marks),
+            b'*' => self.counted(),
+            b'#' => self.begun(Kind::Comment),
+            b'@' => self.begun(Kind::Title),
+            _ => self.opened(byte, marks),
         }
-        if byte == b' ' {
-            return self.ended(words, marks);
-        }
-        if byte == b'*' {
-            return self.counted();
-        }
-        if byte == b'#' {
-            return self.commented();
-        }
-        if byte == b'@' {
-            return self.titled();
-        }
-        self.opened(list_of(byte), marks)
     }
 
     fn with_digit(mut self, digit: u64) -> TextLine {
@@ -106,140 +130,99 @@ impl TextLine {
 
     // The word so far is a count.
     fn counted(mut self) -> TextLine {
-        if (self.count != 0) | (self.word == 0) {
+        if self.count.is_some() | (self.word == 0) {
             return self.unsound();
         }
-        self.count = self.word;
+        self.count = Some(self.word as usize);
         self.word = 0;
         self.digits = 0;
         self
     }
 
     // A list is named: one that comes behind the last.
-    fn opened(mut self, name: usize, marks: &mut [usize; MARKS]) -> TextLine {
-        let list = shifted(name, self.list);
-        if (list <= self.list) | (self.used == 0) | self.is_in_word() {
-            return self.unsound();
+    fn opened(mut self, name: u8, marks: &mut Marks) -> TextLine {
+        match list_of(name, List::Answer.is_behind(self.list)) {
+            Some(list) if list.is_behind(self.list) & (self.used != 0) & !self.is_in_word() => {
+                self.list = list;
+                self.from = self.used;
+                marks[list as usize] = Some(Span {
+                    from: self.used,
+                    to: self.used,
+                });
+                self
+            }
+            _ => self.unsound(),
         }
-        if LAST < list {
-            return self.unsound();
-        }
-        marks[list] = self.used;
-        marks[ENDS + list] = self.used;
-        self.list = list;
-        self
     }
 
     // The word that was read, as often as its count says, behind the others.
-    pub fn ended(mut self, words: &mut [u64; WORDS], marks: &mut [usize; MARKS]) -> TextLine {
+    pub fn ended(mut self, words: &mut [u64; WORDS], marks: &mut Marks) -> TextLine {
         if !self.is_in_word() {
             return self;
         }
-        let list = self.list;
-        let to = fill(words, self.used, times(self.count), self.word);
-        if (self.digits == 0) | (WORDS < to) {
-            return self.unsound();
+        let to = self.used.saturating_add(self.count.unwrap_or(1));
+        match words.get_mut(self.used..to) {
+            Some(places) if self.digits != 0 => places.fill(self.word),
+            _ => return self.unsound(),
         }
-        if LAST < list {
-            return self.unsound();
-        }
-        marks[ENDS + list] = to;
+        marks[self.list as usize] = Some(Span {
+            from: self.from,
+            to,
+        });
         self.used = to;
         self.word = 0;
         self.digits = 0;
-        self.count = 0;
+        self.count = None;
         self
     }
 
     // Whether nothing was read yet.
     pub fn is_fresh(self) -> bool {
-        (self.used == 0) & !self.is_in_word() & !self.is_text() & self.is_sound
+        matches!(self.kind, Kind::Record) & (self.used == 0) & !self.is_in_word()
     }
 
     // Whether it is no record.
     pub fn is_text(self) -> bool {
-        self.is_comment | self.is_title
+        matches!(self.kind, Kind::Comment | Kind::Title)
     }
 
     fn is_in_word(self) -> bool {
-        (self.digits != 0) | (self.count != 0)
+        (self.digits != 0) | self.count.is_some()
     }
 
-    fn commented(mut self) -> TextLine {
+    // A line of text, where nothing was read yet.
+    fn begun(mut self, kind: Kind) -> TextLine {
         if !self.is_fresh() {
             return self.unsound();
         }
-        self.is_comment = true;
-        self
-    }
-
-    fn titled(mut self) -> TextLine {
-        if !self.is_fresh() {
-            return self.unsound();
-        }
-        self.is_title = true;
+        self.kind = kind;
         self
     }
 
     fn unsound(mut self) -> TextLine {
-        self.is_sound = false;
+        self.kind = Kind::Unsound;
         self
     }
 }
 
-// The digit that a byte stands for, 16 where it is none.
-fn digit_of(byte: u8) -> u64 {
-    match byte {
-        b'0'..=b'9' => (byte - b'0') as u64,
-        b'a'..=b'f' => (byte - b'a') as u64 + 10,
-        _ => 16,
+// The list that a byte names, in front of the colon or behind it.
+fn list_of(byte: u8, is_front: bool) -> Option<List> {
+    match (byte, is_front) {
+        (b'x', true) => Some(List::X),
+        (b'w', true) => Some(List::W),
+        (b't', true) => Some(List::T),
+        (b'p', true) => Some(List::P),
+        (b'q', true) => Some(List::Q),
+        (b'v', true) => Some(List::V),
+        (b'r', true) => Some(List::R),
+        (b'u', true) => Some(List::U),
+        (b's', true) => Some(List::S),
+        (b':', true) => Some(List::Answer),
+        (b'p', false) => Some(List::LeftP),
+        (b'q', false) => Some(List::LeftQ),
+        (b'v', false) => Some(List::LeftV),
+        (b'r', false) => Some(List::LeftR),
+        (b'u', false) => Some(List::LeftU),
+        _ => None,
     }
-}
-
-// The list that a byte names, 0 where it names none.
-fn list_of(byte: u8) -> usize {
-    match byte {
-        b'x' => X,
-        b'w' => W,
-        b't' => T,
-        b'p' => P,
-        b'q' => Q,
-        b'v' => V,
-        b'r' => R,
-        b'u' => U,
-        b's' => S,
-        b':' => ANSWER,
-        _ => 0,
-    }
-}
-
-// The list of that name on the side of the colon where the last one stands.
-fn shifted(name: usize, last: usize) -> usize {
-    if last < ANSWER {
-        return name;
-    }
-    if S < name {
-        return name;
-    }
-    name + SHIFT
-}
-
-// A word without a count stands once.
-fn times(count: u64) -> u64 {
-    if count == 0 { 1 } else { count }
-}
-
-// The word into so many places from `from` on. Where they end, or beyond all where they are not there.
-fn fill(words: &mut [u64; WORDS], from: usize, count: u64, word: u64) -> usize {
-    let mut at = from;
-    let mut left = count;
-    while 0 < left {
-        if WORDS <= at {
-            return WORDS + 1;
-        }
-        words[at] = word;
-        at += 1;
-        left -= 1;
-    }
-    at
 }

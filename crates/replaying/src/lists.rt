@@ -3,244 +3,126 @@
 ghost use Rattle.std.specs.Prelude.{◌≡◌, length};
 ghost use Rattle.replaying.specs.Inner.Counts.{Counts};
 
-use crate::line;
-use crate::line::MARKS;
-use exports::words;
+use crate::line::{List, Marks};
+use models::Fault;
 
-// ---- memory. The contracts give its lengths, which lending it asks for.
+// ---- how much memory a call may be lent
 
-pub fn bytes() -> [u8; 20_000]
-    ensures { 20000 ≡ length result }
-{
-    [0; 20_000]
-}
+pub const VALUES: usize = 65_600;
 
-pub fn values() -> [u32; 65_600]
-    ensures { 65600 ≡ length result }
-{
-    [0; 65_600]
-}
-
-pub fn times() -> [i64; 65_600]
-    ensures { 65600 ≡ length result }
-{
-    [0; 65_600]
-}
+pub const BYTES: usize = 20_000;
 
 // The entries in use and the words of a table: of 65,536 values 4,096 words.
-pub fn table() -> [u64; 4_200]
-    ensures { 4200 ≡ length result }
-{
-    [0; 4_200]
-}
+pub const TABLE: usize = 4_200;
 
-pub fn row() -> [u64; 32]
-    ensures { 32 ≡ length result }
-{
-    [0; 32]
-}
+pub const ROW: usize = 32;
 
 // ---- the words of a list
 
-pub fn list<'a>(all: &'a [u64], marks: &[usize; MARKS], name: usize) -> &'a [u64] {
-    if line::ENDS <= name {
-        return &all[0..0];
+pub fn list<'a>(all: &'a [u64], marks: &Marks, name: List) -> &'a [u64] {
+    match marks[name as usize] {
+        None => &all[0..0],
+        Some(span) => all.get(span.from..span.to).unwrap_or(&all[0..0]),
     }
-    part(all, marks[name], marks[line::ENDS + name])
 }
 
 // What must be left of a list: the one behind the colon, or itself where none is there.
-fn left<'a>(all: &'a [u64], marks: &[usize; MARKS], name: usize) -> &'a [u64] {
-    if line::S < name {
-        return &all[0..0];
+fn left<'a>(all: &'a [u64], marks: &Marks, name: List) -> &'a [u64] {
+    match name.left() {
+        Some(left) if marks[left as usize].is_some() => list(all, marks, left),
+        _ => list(all, marks, name),
     }
-    if marks[name + line::SHIFT] == 0 {
-        return list(all, marks, name);
-    }
-    list(all, marks, name + line::SHIFT)
-}
-
-fn part(all: &[u64], from: usize, to: usize) -> &[u64] {
-    if to < from {
-        return &all[0..0];
-    }
-    if all.len() < to {
-        return &all[0..0];
-    }
-    &all[from..to]
 }
 
 // ---- into memory
 
 // Whether every list has room and no word of it is too large.
-pub fn may_be_loaded(all: &[u64], marks: &[usize; MARKS]) -> bool {
-    fits(list(all, marks, line::X), 5, 0xffff_ffff)
-        & fits(list(all, marks, line::W), 3, 0xffff_ffff_ffff_ffff)
-        & fits(list(all, marks, line::T), 65_600, 0xffff_ffff_ffff_ffff)
-        & fits(list(all, marks, line::P), 20_000, 0xff)
-        & fits(list(all, marks, line::Q), 20_000, 0xff)
-        & fits(list(all, marks, line::V), 65_600, 0xffff_ffff)
-        & fits(list(all, marks, line::R), 32, 0xffff_ffff_ffff_ffff)
-        & fits(list(all, marks, line::U), 4_200, 0xffff_ffff_ffff_ffff)
-        & fits(list(all, marks, line::S), 32, 0xffff_ffff_ffff_ffff)
+pub fn may_be_loaded(all: &[u64], marks: &Marks) -> bool {
+    fits(list(all, marks, List::X), 5, u32::MAX as u64)
+        & fits(list(all, marks, List::W), 3, u64::MAX)
+        & fits(list(all, marks, List::T), VALUES, u64::MAX)
+        & fits(list(all, marks, List::P), BYTES, u8::MAX as u64)
+        & fits(list(all, marks, List::Q), BYTES, u8::MAX as u64)
+        & fits(list(all, marks, List::V), VALUES, u32::MAX as u64)
+        & fits(list(all, marks, List::R), ROW, u64::MAX)
+        & fits(list(all, marks, List::U), TABLE, u64::MAX)
+        & fits(list(all, marks, List::S), ROW, u64::MAX)
 }
 
 fn fits(words: &[u64], most: usize, greatest: u64) -> bool {
-    if most < words.len() {
-        return false;
-    }
-    let mut i: usize = 0;
-    while i < words.len() {
-        if greatest < words[i] {
-            return false;
-        }
-        i += 1;
-    }
-    true
+    (words.len() <= most) & words.iter().all(|word| *word <= greatest)
 }
 
 // The word of that place, 0 where the list ends before it.
-pub fn word(all: &[u64], marks: &[usize; MARKS], name: usize, i: usize) -> u64 {
-    let words = list(all, marks, name);
-    if i < words.len() { words[i] } else { 0 }
+pub fn word(all: &[u64], marks: &Marks, name: List, i: usize) -> u64 {
+    list(all, marks, name).get(i).copied().unwrap_or(0)
 }
 
-// Each answers how many words of a list went into the memory: all, where it may be loaded.
-
-pub fn load_bytes(all: &[u64], marks: &[usize; MARKS], name: usize, to: &mut [u8]) -> usize
+// The words of a list into memory, each as what it stands for there. Answers how many went in: all, where
+// they may be loaded.
+pub fn load<T: Copy, F: Fn(u64) -> T>(from: &[u64], to: &mut [T], of: F) -> usize
+    requires { F.IsAlwaysCallable of }
     ensures { Counts result to.new }
 {
-    let from = list(all, marks, name);
-    let mut i: usize = 0;
-    while i < from.len() {
-        if to.len() <= i {
-            return i;
-        }
-        to[i] = low_byte(from[i]);
-        i += 1;
+    let n = from.len().min(to.len());
+    for (place, word) in to[..n].iter_mut().zip(from) {
+        *place = of(*word);
     }
-    i
+    n
 }
 
-pub fn load_values(all: &[u64], marks: &[usize; MARKS], name: usize, to: &mut [u32]) -> usize
-    ensures { Counts result to.new }
-{
-    let from = list(all, marks, name);
-    let mut i: usize = 0;
-    while i < from.len() {
-        if to.len() <= i {
-            return i;
-        }
-        to[i] = words::low(from[i]);
-        i += 1;
-    }
-    i
-}
-
-pub fn load_times(all: &[u64], marks: &[usize; MARKS], name: usize, to: &mut [i64]) -> usize
-    ensures { Counts result to.new }
-{
-    let from = list(all, marks, name);
-    let mut i: usize = 0;
-    while i < from.len() {
-        if to.len() <= i {
-            return i;
-        }
-        to[i] = words::time_in(from[i]);
-        i += 1;
-    }
-    i
-}
-
-pub fn load_row(all: &[u64], marks: &[usize; MARKS], name: usize, to: &mut [u64]) -> usize
-    ensures { Counts result to.new }
-{
-    let from = list(all, marks, name);
-    let mut i: usize = 0;
-    while i < from.len() {
-        if to.len() <= i {
-            return i;
-        }
-        to[i] = from[i];
-        i += 1;
-    }
-    i
-}
-
-fn low_byte(word: u64) -> u8 {
+pub fn low_byte(word: u64) -> u8 {
     (word % 256) as u8
 }
 
-// ---- out of memory: whether it holds just what must be left of a list
+// ---- out of memory
 
-pub fn are_bytes(held: &[u8], all: &[u64], marks: &[usize; MARKS], name: usize) -> bool {
+// Whether memory holds just what must be left of a list.
+pub fn is_left<T: Copy + Into<u64>>(held: &[T], all: &[u64], marks: &Marks, name: List) -> bool {
     let words = left(all, marks, name);
-    if held.len() != words.len() {
-        return false;
-    }
-    let mut i: usize = 0;
-    while i < words.len() {
-        if wide_byte(held[i]) != words[i] {
-            return false;
-        }
-        i += 1;
-    }
-    true
-}
-
-pub fn are_values(held: &[u32], all: &[u64], marks: &[usize; MARKS], name: usize) -> bool {
-    let words = left(all, marks, name);
-    if held.len() != words.len() {
-        return false;
-    }
-    let mut i: usize = 0;
-    while i < words.len() {
-        if wide_value(held[i]) != words[i] {
-            return false;
-        }
-        i += 1;
-    }
-    true
-}
-
-pub fn is_row(held: &[u64], all: &[u64], marks: &[usize; MARKS], name: usize) -> bool {
-    let words = left(all, marks, name);
-    if held.len() != words.len() {
-        return false;
-    }
-    let mut i: usize = 0;
-    while i < words.len() {
-        if held[i] != words[i] {
-            return false;
-        }
-        i += 1;
-    }
-    true
-}
-
-fn wide_byte(byte: u8) -> u64 {
-    byte as u64
-}
-
-fn wide_value(value: u32) -> u64 {
-    value as u64
+    (held.len() == words.len()) & held.iter().zip(words).all(|(h, word)| (*h).into() == *word)
 }
 
 // What a call answers: its number with the value and the place, or what it gives where it is never refused.
-#[derive(Clone, Copy)]
+#[derive(Clone, Copy, PartialEq)]
 pub struct Told {
     pub number: u64,
     pub value: u64,
     pub place: u64,
 }
 
-// Whether it is what must be answered, one word or three.
-pub fn is_answer(told: Told, all: &[u64], marks: &[usize; MARKS]) -> bool {
-    let words = list(all, marks, line::ANSWER);
-    if (words.len() != 1) & (words.len() != 3) {
-        return false;
+impl Told {
+    // What a call gives that is never refused.
+    pub fn given(number: u64) -> Told {
+        Told {
+            number,
+            value: 0,
+            place: 0,
+        }
     }
-    (word(all, marks, line::ANSWER, 0) == told.number)
-        & (word(all, marks, line::ANSWER, 1) == told.value)
-        & (word(all, marks, line::ANSWER, 2) == told.place)
+}
+
+impl From<Fault> for Told {
+    fn from(fault: Fault) -> Told {
+        Told {
+            number: fault.number as u64,
+            value: fault.value as u64,
+            place: fault.place as u64,
+        }
+    }
+}
+
+// Whether it is what must be answered, one word or three.
+pub fn is_answer(told: Told, all: &[u64], marks: &Marks) -> bool {
+    match list(all, marks, List::Answer) {
+        [number] => told == Told::given(*number),
+        [number, value, place] => {
+            told == Told {
+                number: *number,
+                value: *value,
+                place: *place,
+            }
+        }
+        _ => false,
+    }
 }
