@@ -22,3 +22,4 @@ pub mod Arriving
 pub mod Drawing
 pub mod Broken
 pub mod Causes
+pub mod Passing

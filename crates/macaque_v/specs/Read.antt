@@ -1,13 +1,11 @@
--- What the reading calls say and answer, in MacaqueV's words: of grid, reopening and rescue what the theory's calls answer and leave in lent memory, the sum, and
--- the law that a result is told apart. Assumes nothing.
-use Rattle.std.specs.Prelude.{◌≡◌, refl, Bool, List, ℕ}
-use Rattle.std.proofs.Common.{ap}
+-- What the reading calls answer, in MacaqueV's words: of grid, reopening and rescue what the theory's calls answer and leave in lent memory, and the sum.
+-- Assumes nothing.
+use Rattle.std.specs.Prelude.{Bool, List, ℕ}
 use Rattle.std.specs.Float.{binary32}
 use Rattle.std.specs.Float.Ieee.{to_bits}
-use Rattle.models.specs.Answers.{Said, Done, answered, refused, Cause, judge, Injective, told-apart}
+use Rattle.models.specs.Answers.{Said, Done, answered, refused, Cause, judge}
 use Rattle.models.specs.Floats.{zero_f}
 use Rattle.models.specs.Causes.{bound_causes, count_causes}
-use Rattle.models.specs.Refusals.{fault_of, refusal_of, refusal-told}
 use Rattle.models.specs.declared.ErrorBound.{ErrorBound}
 use Rattle.stream.specs.Format.{opening, opened_on, gather_from}
 use Rattle.stream.specs.Calls as theory
@@ -17,8 +15,6 @@ use Rattle.macaque_v.specs.Write.{coder_of}
 use Rattle.macaque_v.specs.declared.MacaqueV.{MacaqueV}
 use Rattle.macaque_v.specs.declared.Opening.{Opening}
 use Rattle.macaque_v.specs.declared.read_run.Cursor.{Cursor}
-use Rattle.macaque_v.specs.declared.read.OpenAnswer.{OpenAnswer}
-use Rattle.macaque_v.specs.declared.read.OpenAnswer.TheVariants as OfOpen
 
 -- "Reading takes exactly the stream's bytes and a count"
 abbrev pub values_in : List ℕ → ℕ → Opening → Said (List ℕ)
@@ -70,20 +66,3 @@ rescue_answer buf used limit o b = theory.rescue_answer (coder_of b (is_first o)
 
 unfoldable pub rescue_memory : List ℕ → ℕ → ℕ → Opening → ErrorBound → List ℕ
 rescue_memory buf used limit o b = theory.rescue_memory (coder_of b (is_first o)) (opening_value o) buf used limit
-
--- ---- a writer that is opened
-
-abbrev pub says_open : OpenAnswer → Said MacaqueV
-says_open (OfOpen.Opened m) = answered m
-says_open (OfOpen.Refused r) = refused (fault_of r)
-
-abbrev open-back : Said MacaqueV → OpenAnswer
-open-back (answered m) = OfOpen.Opened m
-open-back (refused n) = OfOpen.Refused (refusal_of n)
-
-open_told : (r : OpenAnswer) → open-back (says_open r) ≡ r
-open_told (OfOpen.Opened m) = refl
-open_told (OfOpen.Refused r) = ap OfOpen.Refused (refusal-told r)
-
-pub says_open-injective : Injective says_open
-says_open-injective = told-apart says_open open-back open_told

@@ -1,11 +1,9 @@
--- How large a stream can get (document 02, W9): what the calls answer, with the law that a result is told apart; and words of the promises on room. Assumes nothing.
-use Rattle.std.specs.Prelude.{◌≡◌, refl, true, List, [], ◌∷◌, ℕ, ◌+◌, ◌≤◌, ◌<◌, length}
-use Rattle.std.proofs.Common.{ap}
+-- How large a stream can get (document 02, W9): what the calls answer; and words of the promises on room. Assumes nothing.
+use Rattle.std.specs.Prelude.{◌≡◌, true, List, [], ◌∷◌, ℕ, ◌+◌, ◌≤◌, ◌<◌, length}
 use Rattle.bits.specs.Bits.{Below, whole_bytes}
-use Rattle.models.specs.Answers.{Said, Done, answered, refused, answered_on, refused_on, fault, judged, Injective, told-apart}
+use Rattle.models.specs.Answers.{Said, Done, answered, answered_on, refused_on, fault, judged}
 use Rattle.models.specs.Bound.{bound_allowed}
 use Rattle.models.specs.Causes.{count_causes}
-use Rattle.models.specs.Refusals.{fault_of, refusal-told, unsaid}
 use Rattle.models.specs.declared.ErrorBound.{ErrorBound}
 use Rattle.models.specs.declared.ErrorBound.TheVariants.{Lossless}
 use Rattle.stream.specs.Format.{macaque}
@@ -15,8 +13,6 @@ use Rattle.macaque_v.specs.Calls.{new_answer, write_answer, write_memory}
 use Rattle.macaque_v.specs.Read.{reopen_answer, reopen_memory}
 use Rattle.macaque_v.specs.declared.MacaqueV.{MacaqueV}
 use Rattle.macaque_v.specs.declared.Opening.{Opening}
-use Rattle.macaque_v.specs.declared.size.SizeAnswer.{SizeAnswer}
-use Rattle.macaque_v.specs.declared.size.SizeAnswer.TheVariants as OfSize
 
 -- ---- most_bits and most_bytes
 
@@ -30,17 +26,6 @@ most_bits_answer count o = judged (count_causes count) (most_of count o)
 -- "rounded up to bytes"
 unfoldable pub most_bytes_answer : ℕ → Opening → Said ℕ
 most_bytes_answer count o = judged (count_causes count) (whole_bytes (most_of count o))
-
-abbrev pub says_size : SizeAnswer → Said ℕ
-says_size (OfSize.Answered n) = answered n
-says_size (OfSize.Refused r) = refused (fault_of r)
-
-size-told : (r : SizeAnswer) → unsaid OfSize.Answered OfSize.Refused (says_size r) ≡ r
-size-told (OfSize.Answered n) = refl
-size-told (OfSize.Refused r) = ap OfSize.Refused (refusal-told r)
-
-pub says_size-injective : Injective says_size
-says_size-injective = told-apart says_size (unsaid OfSize.Answered OfSize.Refused) size-told
 
 -- ---- "a fresh writer lent that many bits .. never refuses n values with 4", in one write or in any chain of writes, also where it is stopped and reopened
 -- in between

@@ -11,7 +11,7 @@ pub mod span;
 pub mod total;
 pub mod write;
 
-use models::{ErrorBound, Refusal};
+use models::ErrorBound;
 
 // How a stream opens: its first value is stored in full, or it goes on from a given value.
 #[derive(Clone, Copy)]
@@ -50,11 +50,4 @@ impl MacaqueV {
     pub const OPENING_LEADING: u32 = 255;
 
     pub const OPENING_TRAILING: u32 = 0;
-}
-
-// The state after the values, or a refusal with the state passed in.
-#[derive(Clone, Copy)]
-pub enum WriteAnswer {
-    Written(MacaqueV),
-    Refused(Refusal, MacaqueV),
 }

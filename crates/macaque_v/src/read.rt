@@ -2,59 +2,54 @@
 // A stream is checked whole before lent memory is touched.
 ghost use Rattle.std.specs.Prelude.{◌≡◌, ◌+◌, ◌^◌, ◌≤◌, ◌<◌, length, take};
 ghost use Rattle.models.specs.Answers.{verdict};
-ghost use Rattle.models.specs.Calls.{says_verdict, says_grid, says_value};
+ghost use Rattle.models.specs.Calls.{said_by};
 ghost use Rattle.models.specs.Limits.{most_values};
 ghost use Rattle.stream.specs.Read.{buffer_after};
 ghost use Rattle.macaque_v.specs.State.{is_first};
 ghost use Rattle.macaque_v.specs.Inner.ReadRun.{ReadableAt};
 ghost use Rattle.macaque_v.specs.Read.{start_of, grid_causes, drawn, grid_answer, grid_memory, sum_answer};
 ghost use Rattle.macaque_v.specs.Inner.Read.{values_from, drawn_at, end_where};
-ghost use Rattle.macaque_v.specs.Read.{reopen_causes, reopen_answer, reopen_memory, says_open};
+ghost use Rattle.macaque_v.specs.Read.{reopen_causes, reopen_answer, reopen_memory};
 ghost use Rattle.macaque_v.specs.Inner.Read.{reopening, resumed, OpensAs, EndsIn, opened_behind, cut_behind};
 
-use crate::read_run::{Aim, Cursor, Run, Walk};
+use crate::read_run::{Aim, Cursor, Tally};
 use crate::{MacaqueV, Opening, read_run};
-use models::{ErrorBound, GridAnswer, Refusal, ValueAnswer, Verdict};
-
-// A writer, in the state asked for.
-#[derive(Clone, Copy)]
-pub enum OpenAnswer {
-    Opened(MacaqueV),
-    Refused(Refusal),
-}
+use models::{ErrorBound, Refusal};
 
 // ---- the public calls
 
 // Draws the values of a stream, `count` of them, into the first places of `out`.
-pub fn grid(bytes: &[u8], count: usize, opening: Opening, out: &mut [u32]) -> GridAnswer
-    ensures answer { says_grid result ≡ grid_answer bytes.now count opening (length out.old) }
+pub fn grid(
+    bytes: &[u8],
+    count: usize,
+    opening: Opening,
+    out: &mut [u32],
+) -> Result<(), Refusal>
+    ensures answer { said_by result ≡ grid_answer bytes.now count opening (length out.old) }
     ensures values { out.new ≡ grid_memory bytes.now count opening out.old }
 {
-    match judge_grid(count, out.len()) {
-        Verdict::Refused(r) => GridAnswer::Refused(r),
-        Verdict::Passed => draw(
-            bytes,
-            is_first(opening),
-            start(opening),
-            count,
-            0,
-            out,
-            true,
-        ),
-    }
+    judge_grid(count, out.len())?;
+    draw(
+        bytes,
+        is_first(opening),
+        start(opening),
+        count,
+        0,
+        out,
+        true,
+    )
 }
 
 // The sum of the values of a stream, `count` of them.
-pub fn sum(bytes: &[u8], count: usize, opening: Opening) -> ValueAnswer
-    ensures { says_value result ≡ sum_answer bytes.now count opening }
+pub fn sum(bytes: &[u8], count: usize, opening: Opening) -> Result<u32, Refusal>
+    ensures { said_by result ≡ sum_answer bytes.now count opening }
 {
     if MacaqueV::MOST_VALUES < count {
-        return ValueAnswer::Refused(Refusal::OverLimit);
+        return Err(Refusal::OverLimit);
     }
-    match read_run::go_to_end(bytes, is_first(opening), start(opening), count, Aim::Sum) {
-        Walk::Refused(r) => ValueAnswer::Refused(r),
-        Walk::To(_, tally) => ValueAnswer::Answered(numbers::bits_of_f32(tally.sum)),
-    }
+    let (_, tally) =
+        read_run::go_to_end(bytes, is_first(opening), start(opening), count, Aim::Sum)?;
+    Ok(numbers::bits_of_f32(tally.sum))
 }
 
 impl MacaqueV {
@@ -67,46 +62,50 @@ impl MacaqueV {
         k: usize,
         opening: Opening,
         error_bound: ErrorBound,
-    ) -> OpenAnswer
-        ensures answer { says_open result ≡ reopen_answer buffer.old used count k opening error_bound }
+    ) -> Result<MacaqueV, Refusal>
+        ensures answer { said_by result ≡ reopen_answer buffer.old used count k opening error_bound }
         ensures bytes { buffer.new ≡ reopen_memory buffer.old used count k opening error_bound }
     {
-        match judge_reopen(error_bound, buffer.len(), used, count, k) {
-            Verdict::Refused(r) => OpenAnswer::Refused(r),
-            Verdict::Passed => resume(buffer, used, count, k, opening, error_bound),
-        }
+        judge_reopen(error_bound, buffer.len(), used, count, k)?;
+        resume(buffer, used, count, k, opening, error_bound)
     }
 }
 
-// ---- the causes of refusal, the last of them first
+// ---- the causes of refusal, in their order
 
-fn judge_grid(count: usize, room: usize) -> Verdict
-    ensures { says_verdict result ≡ verdict (grid_causes count room) }
+#[tactic(auto, unfolding(models::specs::Answers::judge))]
+fn judge_grid(count: usize, room: usize) -> Result<(), Refusal>
+    ensures { said_by result ≡ verdict (grid_causes count room) }
 {
-    let short = models::when(Refusal::OutputTooShort, room < count, Verdict::Passed);
-    models::when(Refusal::OverLimit, MacaqueV::MOST_VALUES < count, short)
+    if MacaqueV::MOST_VALUES < count {
+        return Err(Refusal::OverLimit);
+    }
+    if room < count {
+        return Err(Refusal::OutputTooShort);
+    }
+    Ok(())
 }
 
+#[tactic(auto, unfolding(models::specs::Answers::judge))]
 pub fn judge_reopen(
     error_bound: ErrorBound,
     room: usize,
     used: usize,
     count: usize,
     k: usize,
-) -> Verdict
-    ensures { says_verdict result ≡ verdict (reopen_causes error_bound room used count k) }
+) -> Result<(), Refusal>
+    ensures { said_by result ≡ verdict (reopen_causes error_bound room used count k) }
 {
-    let counts = models::when(
-        Refusal::CountsDisagree,
-        (count < k) | (room < used),
-        Verdict::Passed,
-    );
-    let many = models::when(Refusal::OverLimit, MacaqueV::MOST_VALUES < count, counts);
-    models::when(
-        Refusal::BoundNotAllowed,
-        !models::bound_allowed(error_bound),
-        many,
-    )
+    if !models::bound_allowed(error_bound) {
+        return Err(Refusal::BoundNotAllowed);
+    }
+    if MacaqueV::MOST_VALUES < count {
+        return Err(Refusal::OverLimit);
+    }
+    if (count < k) | (room < used) {
+        return Err(Refusal::CountsDisagree);
+    }
+    Ok(())
 }
 
 // ---- the start of a stream
@@ -148,65 +147,50 @@ pub fn draw(
     i: usize,
     out: &mut [u32],
     whole: bool,
-) -> GridAnswer
+) -> Result<(), Refusal>
     requires { ReadableAt bytes.now at × (at.count + n ≤ most_values) × (i + n ≤ length out.old) }
-    ensures answer { says_grid result ≡ drawn (values_from whole first bytes.now at n) }
+    ensures answer { said_by result ≡ drawn (values_from whole first bytes.now at n) }
     ensures values { out.new ≡ drawn_at i out.old (values_from whole first bytes.now at n) }
 {
     let mut values = [0u32; 1052];
     let k = read_run::smaller(1024, n);
-    match read_run::fill(bytes, first, at, k, &mut values) {
-        Run::Refused(r) => GridAnswer::Refused(r),
-        Run::To(to) => {
-            if k < n {
-                match draw(bytes, first, to, n - k, i + k, out, whole) {
-                    GridAnswer::Refused(r) => {
-                        return GridAnswer::Refused(r);
-                    }
-                    GridAnswer::Drawn => {}
-                }
-            } else {
-                match judge_behind(bytes, to, whole) {
-                    Verdict::Refused(r) => {
-                        return GridAnswer::Refused(r);
-                    }
-                    Verdict::Passed => {}
-                }
-            }
-            read_run::copy(&values, k, i, out);
-            GridAnswer::Drawn
-        }
+    let to = read_run::fill(bytes, first, at, k, &mut values)?;
+    if k < n {
+        draw(bytes, first, to, n - k, i + k, out, whole)?;
+    } else {
+        judge_behind(bytes, to, whole)?;
     }
+    read_run::copy(&values, k, i, out);
+    Ok(())
 }
 
 // What may follow the last value: nothing, where it is the stream's last.
-fn judge_behind(bytes: &[u8], to: Cursor, whole: bool) -> Verdict
+fn judge_behind(bytes: &[u8], to: Cursor, whole: bool) -> Result<(), Refusal>
     requires { ReadableAt bytes.now to × (to.count ≤ most_values) }
-    ensures { says_verdict result ≡ end_where whole bytes.now to }
+    ensures { said_by result ≡ end_where whole bytes.now to }
 {
     if whole {
         return read_run::judge_end(bytes, to);
     }
-    Verdict::Passed
+    Ok(())
 }
 
 // ---- reopening
 
 // The state after the first k values, with the least, the greatest and the sum of them. The values behind them are read too.
-fn state_at(bytes: &[u8], count: usize, k: usize, opening: Opening) -> Walk
+fn state_at(
+    bytes: &[u8],
+    count: usize,
+    k: usize,
+    opening: Opening,
+) -> Result<(Cursor, Tally), Refusal>
     requires { (k ≤ count) × (count ≤ most_values) }
     ensures { OpensAs (reopening bytes.now count k opening) bytes.now result }
 {
     let first = is_first(opening);
-    match read_run::go_through(bytes, first, start(opening), k, Aim::All) {
-        Walk::Refused(r) => Walk::Refused(r),
-        Walk::To(at, tally) => {
-            match read_run::go_to_end(bytes, first, at, count - k, Aim::Nothing) {
-                Walk::Refused(r) => Walk::Refused(r),
-                Walk::To(_, _) => Walk::To(at, tally),
-            }
-        }
-    }
+    let (at, tally) = read_run::go_through(bytes, first, start(opening), k, Aim::All)?;
+    read_run::go_to_end(bytes, first, at, count - k, Aim::Nothing)?;
+    Ok((at, tally))
 }
 
 fn resume(
@@ -216,9 +200,9 @@ fn resume(
     k: usize,
     opening: Opening,
     error_bound: ErrorBound,
-) -> OpenAnswer
+) -> Result<MacaqueV, Refusal>
     requires { (k ≤ count) × (count ≤ most_values) × (used ≤ length buffer.old) }
-    ensures answer { says_open result ≡ resumed error_bound (is_first opening) (reopening (take used buffer.old) count k opening) }
+    ensures answer { said_by result ≡ resumed error_bound (is_first opening) (reopening (take used buffer.old) count k opening) }
     ensures bytes { buffer.new ≡ buffer_after (reopening (take used buffer.old) count k opening) buffer.old }
 {
     let found = state_at(&buffer[..used], count, k, opening);
@@ -228,30 +212,26 @@ fn resume(
 // The writer where going through the buffer's first bytes has ended; the bits behind it in the byte that this cuts are zeroed.
 pub fn open_behind(
     buffer: &mut [u8],
-    found: Walk,
+    found: Result<(Cursor, Tally), Refusal>,
     opening: Opening,
     error_bound: ErrorBound,
-) -> OpenAnswer
+) -> Result<MacaqueV, Refusal>
     requires { EndsIn buffer.old found }
-    ensures answer { says_open result ≡ opened_behind error_bound (is_first opening) found }
+    ensures answer { said_by result ≡ opened_behind error_bound (is_first opening) found }
     ensures bytes { buffer.new ≡ cut_behind found buffer.old }
 {
-    match found {
-        Walk::Refused(r) => OpenAnswer::Refused(r),
-        Walk::To(at, tally) => {
-            bits::cut(buffer, at.place);
-            OpenAnswer::Opened(MacaqueV {
-                error_bound,
-                min_value: tally.min,
-                max_value: tally.max,
-                last_value: at.last,
-                last_leading_zero_bits: at.lead,
-                last_trailing_zero_bits: at.trail,
-                with_first: is_first(opening),
-                place: at.place,
-                length: at.count,
-                sum: tally.sum,
-            })
-        }
-    }
+    let (at, tally) = found?;
+    bits::cut(buffer, at.place);
+    Ok(MacaqueV {
+        error_bound,
+        min_value: tally.min,
+        max_value: tally.max,
+        last_value: at.last,
+        last_leading_zero_bits: at.lead,
+        last_trailing_zero_bits: at.trail,
+        with_first: is_first(opening),
+        place: at.place,
+        length: at.count,
+        sum: tally.sum,
+    })
 }

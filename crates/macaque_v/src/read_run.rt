@@ -2,7 +2,7 @@
 ghost use Rattle.std.specs.Prelude.{◌≡◌, ◌++◌, ◌+◌, ◌-◌, ◌*◌, ◌/◌, ◌^◌, ◌<◌, ◌≤◌, length, take, drop, replicate};
 ghost use Rattle.models.specs.Limits.{most_values};
 ghost use Rattle.bits.specs.Bits.{bits_of};
-ghost use Rattle.models.specs.Calls.{says_verdict};
+ghost use Rattle.models.specs.Calls.{said_by};
 ghost use Rattle.models.specs.Answers.{fault_in};
 ghost use Rattle.models.specs.Refusals.{fault_of};
 ghost use Rattle.stream.specs.Format.{gather_from};
@@ -14,8 +14,8 @@ ghost use Rattle.macaque_v.specs.Inner.ReadRun.{ReadableAt, StrideSays, NextSays
 
 use crate::{MacaqueV, span, total};
 use coding::decode;
-use coding::decode::{Decoded, Stop};
-use models::{Refusal, Verdict};
+use coding::decode::Stop;
+use models::Refusal;
 
 // Where reading stands: behind so many values and bits, with the last value and its window.
 #[derive(Clone, Copy)]
@@ -27,56 +27,36 @@ pub struct Cursor {
     pub count: usize,
 }
 
-// Where reading stands after the values that were asked for; or why there are fewer.
-#[derive(Clone, Copy)]
-pub enum Run {
-    To(Cursor),
-    Refused(Refusal),
-}
-
-// The same of one value. What stops it is told without its place: that is where reading stood.
-#[derive(Clone, Copy)]
-pub enum Stride {
-    To(Cursor),
-    Stopped(Stop),
-}
-
 // ---- into an array
 
 // One value more, or the refusal with its place.
-pub fn next(bytes: &[u8], first: bool, at: Cursor) -> Run
+pub fn next(bytes: &[u8], first: bool, at: Cursor) -> Result<Cursor, Refusal>
     requires { ReadableAt bytes.now at × (at.count < most_values) }
     ensures { NextSays first bytes.now at result }
 {
     match one_more(bytes, first, at) {
-        Stride::Stopped(s) => Run::Refused(refusal_of(s, at)),
-        Stride::To(to) => Run::To(to),
+        Err(s) => Err(refusal_of(s, at)),
+        Ok(to) => Ok(to),
     }
 }
 
 // One value more, by its code: the step of every reading call. (`read_on` and `repeats` take what follows in the same window at once.)
-fn one_more(bytes: &[u8], first: bool, at: Cursor) -> Stride
+// What stops it is told without its place: that is where reading stood.
+fn one_more(bytes: &[u8], first: bool, at: Cursor) -> Result<Cursor, Stop>
     requires { ReadableAt bytes.now at × (at.count < most_values) }
     ensures { StrideSays first bytes.now at result }
 {
     let raw = first & (at.count == 0);
     let set = at.lead != MacaqueV::OPENING_LEADING;
     let ahead = decode::look(bytes, at.place);
-    match decode::decode(raw, ahead.word, ahead.left, set, at.lead, at.trail, at.last) {
-        Decoded::Stopped(s) => Stride::Stopped(s),
-        Decoded::Got {
-            value,
-            lead,
-            trail,
-            used,
-        } => Stride::To(Cursor {
-            last: value,
-            lead,
-            trail,
-            place: at.place + used,
-            count: at.count + 1,
-        }),
-    }
+    let got = decode::decode(raw, ahead.word, ahead.left, set, at.lead, at.trail, at.last)?;
+    Ok(Cursor {
+        last: got.value,
+        lead: got.lead,
+        trail: got.trail,
+        place: at.place + got.used,
+        count: at.count + 1,
+    })
 }
 
 // The refusal that a stop is: of the value behind those that were read, whose code begins where reading stands.
@@ -94,7 +74,7 @@ fn refusal_of(stop: Stop, at: Cursor) -> Refusal
 }
 
 // The next n values, into the first places of `out`. Those behind them may change too: callers hand over arrays of their own.
-pub fn fill(bytes: &[u8], first: bool, from: Cursor, n: usize, out: &mut [u32]) -> Run
+pub fn fill(bytes: &[u8], first: bool, from: Cursor, n: usize, out: &mut [u32]) -> Result<Cursor, Refusal>
     requires { ReadableAt bytes.now from × (from.count + n ≤ most_values) × (n ≤ length out.old) }
     ensures { FillSays first bytes.now from n out.old out.new result }
 {
@@ -102,10 +82,10 @@ pub fn fill(bytes: &[u8], first: bool, from: Cursor, n: usize, out: &mut [u32]) 
     let mut i: usize = 0;
     while i < n {
         match one_more(bytes, first, at) {
-            Stride::Stopped(s) => {
-                return Run::Refused(refusal_of(s, at));
+            Err(s) => {
+                return Err(refusal_of(s, at));
             }
-            Stride::To(to) => {
+            Ok(to) => {
                 let same = to.place == at.place + 2;
                 out[i] = to.last;
                 at = go_on(bytes, first, same, to, i + 1, n, out);
@@ -113,7 +93,7 @@ pub fn fill(bytes: &[u8], first: bool, from: Cursor, n: usize, out: &mut [u32]) 
             }
         }
     }
-    Run::To(at)
+    Ok(at)
 }
 
 // Values in the last window and repeats, as long as they come; in the last bytes of the stream, behind a value of two bits (`same`), repeats alone.
@@ -284,15 +264,14 @@ pub struct Tally {
     pub max: u32,
 }
 
-// The same with what was taken in.
-#[derive(Clone, Copy)]
-pub enum Walk {
-    To(Cursor, Tally),
-    Refused(Refusal),
-}
-
 // The next n values, and what is taken in of them. The array has 28 places more than are asked for, so that repeats are taken at once up to the last.
-pub fn go_through(bytes: &[u8], first: bool, from: Cursor, n: usize, aim: Aim) -> Walk
+pub fn go_through(
+    bytes: &[u8],
+    first: bool,
+    from: Cursor,
+    n: usize,
+    aim: Aim,
+) -> Result<(Cursor, Tally), Refusal>
     requires { ReadableAt bytes.now from × (from.count + n ≤ most_values) }
     ensures { WalkSays first bytes.now from n aim result }
 {
@@ -306,68 +285,56 @@ pub fn go_through(bytes: &[u8], first: bool, from: Cursor, n: usize, aim: Aim) -
     let mut read: usize = 0;
     while read < n {
         let k = smaller(1024, n - read);
-        match fill(bytes, first, at, k, &mut values) {
-            Run::Refused(r) => {
-                return Walk::Refused(r);
-            }
-            Run::To(to) => {
-                tally = taken_in(aim, first, at.count, tally, &values, k);
-                at = to;
-                read += k;
-            }
-        }
+        let to = fill(bytes, first, at, k, &mut values)?;
+        tally = taken_in(aim, first, at.count, tally, &values, k);
+        at = to;
+        read += k;
     }
-    Walk::To(at, tally)
+    Ok((at, tally))
 }
 
 // A stream's last n values: nothing may follow them.
-pub fn go_to_end(bytes: &[u8], first: bool, from: Cursor, n: usize, aim: Aim) -> Walk
+pub fn go_to_end(
+    bytes: &[u8],
+    first: bool,
+    from: Cursor,
+    n: usize,
+    aim: Aim,
+) -> Result<(Cursor, Tally), Refusal>
     requires { ReadableAt bytes.now from × (from.count + n ≤ most_values) }
     ensures { WholeSays first bytes.now from n aim result }
 {
-    match go_through(bytes, first, from, n, aim) {
-        Walk::Refused(r) => Walk::Refused(r),
-        Walk::To(to, tally) => {
-            match judge_end(bytes, to) {
-                Verdict::Refused(r) => Walk::Refused(r),
-                Verdict::Passed => Walk::To(to, tally),
-            }
-        }
-    }
+    let (to, tally) = go_through(bytes, first, from, n, aim)?;
+    judge_end(bytes, to)?;
+    Ok((to, tally))
 }
 
 // Whether the stream ends where reading stands.
-pub fn judge_end(bytes: &[u8], at: Cursor) -> Verdict
+pub fn judge_end(bytes: &[u8], at: Cursor) -> Result<(), Refusal>
     requires { ReadableAt bytes.now at × (at.count ≤ most_values) }
-    ensures { says_verdict result ≡ end_said bytes.now at }
+    ensures { said_by result ≡ end_said bytes.now at }
 {
     let value = at.count as u32;
     match left_behind(bytes, at.place) {
-        Behind::Nothing => Verdict::Passed,
-        Behind::From(place) => Verdict::Refused(Refusal::Leftover { value, place }),
+        None => Ok(()),
+        Some(place) => Err(Refusal::Leftover { value, place }),
     }
 }
 
-// What follows a place: nothing, or something from a further place on, the first set padding bit, else the first further byte's first bit.
-#[derive(Clone, Copy)]
-pub enum Behind {
-    Nothing,
-    From(usize),
-}
-
-fn left_behind(bytes: &[u8], place: usize) -> Behind
+// Where what follows a place begins, if anything does: at the first set padding bit, else at the first further byte's first bit.
+fn left_behind(bytes: &[u8], place: usize) -> Option<usize>
     requires { (place ≤ 8 * length bytes.now) × (place + 7 < 2 ^ 64) }
     ensures { says_behind result ≡ leftover place (drop place (bits_of bytes.now)) }
 {
     let whole = (place + 7) / 8;
     let padding = bits::get(bytes, place, 8 * whole - place);
     if padding != 0 {
-        return Behind::From(8 * whole - ((64 - u64::leading_zeros(padding)) as usize));
+        return Some(8 * whole - ((64 - u64::leading_zeros(padding)) as usize));
     }
     if whole < bytes.len() {
-        return Behind::From(8 * whole);
+        return Some(8 * whole);
     }
-    Behind::Nothing
+    None
 }
 
 // The smaller of the two.

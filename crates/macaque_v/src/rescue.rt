@@ -1,15 +1,14 @@
 // Rescue: going on from what arrived of a stream that was cut at any byte.
 ghost use Rattle.std.specs.Prelude.{◌≡◌, ◌≤◌};
 ghost use Rattle.models.specs.Answers.{verdict};
-ghost use Rattle.models.specs.Calls.{says_verdict};
+ghost use Rattle.models.specs.Calls.{said_by};
 ghost use Rattle.models.specs.Limits.{most_values};
-ghost use Rattle.macaque_v.specs.Read.{rescue_causes, rescue_answer, rescue_memory, says_open};
+ghost use Rattle.macaque_v.specs.Read.{rescue_causes, rescue_answer, rescue_memory};
 ghost use Rattle.macaque_v.specs.Inner.Read.{rescuing, OpensAs};
 
-use crate::read::OpenAnswer;
-use crate::read_run::{Aim, Walk};
+use crate::read_run::{Aim, Cursor, Tally};
 use crate::{MacaqueV, Opening, read, read_run};
-use models::{ErrorBound, Verdict};
+use models::{ErrorBound, Fault, Refusal};
 
 impl MacaqueV {
     // The writer behind the values that arrived whole in the buffer's first `used` bytes, but no more than `limit`, which is how many the upload was
@@ -20,41 +19,46 @@ impl MacaqueV {
         limit: usize,
         opening: Opening,
         error_bound: ErrorBound,
-    ) -> OpenAnswer
-        ensures answer { says_open result ≡ rescue_answer buffer.old used limit opening error_bound }
+    ) -> Result<MacaqueV, Refusal>
+        ensures answer { said_by result ≡ rescue_answer buffer.old used limit opening error_bound }
         ensures bytes { buffer.new ≡ rescue_memory buffer.old used limit opening error_bound }
     {
-        match judge_rescue(error_bound, buffer.len(), used, limit) {
-            Verdict::Refused(r) => OpenAnswer::Refused(r),
-            Verdict::Passed => {
-                let found = arrived(&buffer[..used], limit, opening);
-                read::open_behind(buffer, found, opening, error_bound)
-            }
-        }
+        judge_rescue(error_bound, buffer.len(), used, limit)?;
+        let found = arrived(&buffer[..used], limit, opening);
+        read::open_behind(buffer, found, opening, error_bound)
     }
 }
 
 // The causes of refusal: those of reopening at the limit.
-pub fn judge_rescue(error_bound: ErrorBound, room: usize, used: usize, limit: usize) -> Verdict
-    ensures { says_verdict result ≡ verdict (rescue_causes error_bound room used limit) }
+pub fn judge_rescue(
+    error_bound: ErrorBound,
+    room: usize,
+    used: usize,
+    limit: usize,
+) -> Result<(), Refusal>
+    ensures { said_by result ≡ verdict (rescue_causes error_bound room used limit) }
 {
     read::judge_reopen(error_bound, room, used, limit, limit)
 }
 
 // The state after the values that arrived whole. Where the bytes end inside a value, the refusal says how many stand before it: these are
 // gone through once more.
-pub fn arrived(bytes: &[u8], limit: usize, opening: Opening) -> Walk
+pub fn arrived(
+    bytes: &[u8],
+    limit: usize,
+    opening: Opening,
+) -> Result<(Cursor, Tally), Refusal>
     requires { limit ≤ most_values }
     ensures { OpensAs (rescuing bytes.now limit opening) bytes.now result }
 {
     let first = read::is_first(opening);
     let at = read::start(opening);
     match read_run::go_through(bytes, first, at, limit, Aim::All) {
-        Walk::To(to, tally) => Walk::To(to, tally),
-        Walk::Refused(r) => {
-            let fault = models::fault_of(r);
+        Ok((to, tally)) => Ok((to, tally)),
+        Err(r) => {
+            let fault = Fault::from(r);
             if fault.number != 5 {
-                return Walk::Refused(r);
+                return Err(r);
             }
             read_run::go_through(bytes, first, at, fault.value as usize, Aim::All)
         }

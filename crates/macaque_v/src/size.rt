@@ -3,37 +3,29 @@ ghost use Rattle.std.specs.Prelude.{◌≡◌, ◌*◌, ◌≤◌};
 ghost use Rattle.models.specs.Limits.{most_values};
 ghost use Rattle.stream.specs.Format.{macaque};
 ghost use Rattle.stream.specs.Size.{most_coded, most_bits};
-ghost use Rattle.macaque_v.specs.Size.{says_size, most_bits_answer, most_bytes_answer};
+ghost use Rattle.models.specs.Calls.{said_by};
+ghost use Rattle.macaque_v.specs.Size.{most_bits_answer, most_bytes_answer};
 
 use crate::{MacaqueV, Opening, read};
 use models::Refusal;
 
-// So many bits, or bytes.
-#[derive(Clone, Copy)]
-pub enum SizeAnswer {
-    Answered(usize),
-    Refused(Refusal),
-}
-
 impl MacaqueV {
     // The most bits that `count` values take in a stream that opens so. Some lossless list takes as many.
-    pub fn most_bits(count: usize, opening: Opening) -> SizeAnswer
-        ensures { says_size result ≡ most_bits_answer count opening }
+    pub fn most_bits(count: usize, opening: Opening) -> Result<usize, Refusal>
+        ensures { said_by result ≡ most_bits_answer count opening }
     {
         if MacaqueV::MOST_VALUES < count {
-            return SizeAnswer::Refused(Refusal::OverLimit);
+            return Err(Refusal::OverLimit);
         }
-        SizeAnswer::Answered(most_of(read::is_first(opening), count))
+        Ok(most_of(read::is_first(opening), count))
     }
 
     // The bytes that hold them: a fresh writer that is lent so many refuses no such values for want of room.
-    pub fn most_bytes(count: usize, opening: Opening) -> SizeAnswer
-        ensures { says_size result ≡ most_bytes_answer count opening }
+    pub fn most_bytes(count: usize, opening: Opening) -> Result<usize, Refusal>
+        ensures { said_by result ≡ most_bytes_answer count opening }
     {
-        match MacaqueV::most_bits(count, opening) {
-            SizeAnswer::Refused(r) => SizeAnswer::Refused(r),
-            SizeAnswer::Answered(bits) => SizeAnswer::Answered((bits + 7) / 8),
-        }
+        let bits = MacaqueV::most_bits(count, opening)?;
+        Ok((bits + 7) / 8)
     }
 }
 

@@ -1,5 +1,5 @@
 -- Words of inner contracts and of proofs, beside specs/Read. Assumes nothing.
-use Rattle.std.specs.Prelude.{◌≡◌, Bool, true, false, List, ◌++◌, ℕ, ◌+◌, ◌*◌, ◌≤◌, length, take, drop}
+use Rattle.std.specs.Prelude.{◌≡◌, Bool, true, false, List, ◌++◌, ℕ, ◌+◌, ◌*◌, ◌≤◌, length, take, drop, Result, Ok, Err}
 use Rattle.bits.specs.Bits.{cut_in}
 use Rattle.models.specs.Answers.{Said, Done, answered, refused}
 use Rattle.models.specs.Refusals.{fault_of}
@@ -17,8 +17,7 @@ use Rattle.macaque_v.specs.Inner.ReadRun.{read_from, known_in}
 use Rattle.macaque_v.specs.declared.MacaqueV.{MacaqueV}
 use Rattle.macaque_v.specs.declared.Opening.{Opening}
 use Rattle.macaque_v.specs.declared.read_run.Cursor.{Cursor}
-use Rattle.macaque_v.specs.declared.read_run.Walk.{Walk}
-use Rattle.macaque_v.specs.declared.read_run.Walk.TheVariants as OfWalk
+use Rattle.macaque_v.specs.declared.read_run.Tally.{Tally}
 
 -- the n values from where reading stands: a stream's last ones where `whole` is true, and nothing may follow them then
 abbrev pub ended_where : {A : Type 0} → Bool → Reading A → Reading A
@@ -73,19 +72,19 @@ pub record Unopened (q : Reopened Known) (cause : Refusal) : Type 0 where
   pub numbered : theory.fault_at fault ≡ fault_of cause
 
 -- what going through the bytes found is the state q, and its place is in them
-abbrev pub OpensAs : Reopened Known → List ℕ → Walk → Type 0
-OpensAs q bytes (OfWalk.To at t) = (q ≡ reopened (state_with at (known_in t))) × (at.place ≤ 8 * length bytes)
-OpensAs q bytes (OfWalk.Refused r) = Unopened q r
+abbrev pub OpensAs : Reopened Known → List ℕ → Result (Cursor × Tally) Refusal → Type 0
+OpensAs q bytes (Ok (at, t)) = (q ≡ reopened (state_with at (known_in t))) × (at.place ≤ 8 * length bytes)
+OpensAs q bytes (Err r) = Unopened q r
 
 -- the writer there, and the buffer that is cut behind it
-abbrev pub EndsIn : List ℕ → Walk → Type 0
-EndsIn buf (OfWalk.To at t) = at.place ≤ 8 * length buf
-EndsIn buf (OfWalk.Refused r) = Unit
+abbrev pub EndsIn : List ℕ → Result (Cursor × Tally) Refusal → Type 0
+EndsIn buf (Ok (at, t)) = at.place ≤ 8 * length buf
+EndsIn buf (Err r) = Unit
 
-abbrev pub opened_behind : ErrorBound → Bool → Walk → Said MacaqueV
-opened_behind b first (OfWalk.To at t) = answered (writer_of b first (state_with at (known_in t)))
-opened_behind b first (OfWalk.Refused r) = refused (fault_of r)
+abbrev pub opened_behind : ErrorBound → Bool → Result (Cursor × Tally) Refusal → Said MacaqueV
+opened_behind b first (Ok (at, t)) = answered (writer_of b first (state_with at (known_in t)))
+opened_behind b first (Err r) = refused (fault_of r)
 
-abbrev pub cut_behind : Walk → List ℕ → List ℕ
-cut_behind (OfWalk.To at t) buf = cut_in buf at.place
-cut_behind (OfWalk.Refused r) buf = buf
+abbrev pub cut_behind : Result (Cursor × Tally) Refusal → List ℕ → List ℕ
+cut_behind (Ok (at, t)) buf = cut_in buf at.place
+cut_behind (Err r) buf = buf

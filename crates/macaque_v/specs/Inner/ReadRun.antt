@@ -1,5 +1,7 @@
 -- Words of inner contracts and of proofs, beside specs/ReadRun. Assumes nothing.
-use Rattle.std.specs.Prelude.{◌≡◌, Bool, List, ◌++◌, ℕ, ◌+◌, ◌*◌, ◌^◌, ◌≤◌, ◌<◌, length, take, Float}
+use Rattle.std.specs.Prelude.{◌≡◌, Bool, List, ◌++◌, ℕ, ◌+◌, ◌*◌, ◌^◌, ◌≤◌, ◌<◌, length, take, Float, Result, Ok, Err}
+use Rattle.std.specs.Prelude as Prelude
+use Rattle.std.specs.Prelude.{Some, None}
 use Rattle.std.proofs.Math.Option.{Option, none, some}
 use Rattle.models.specs.Floats.{zero_f, fresh_bits}
 use Rattle.models.specs.Answers.{fault_in, answered, refused}
@@ -10,19 +12,12 @@ use Rattle.stream.specs.Read as stream
 use Rattle.stream.specs.Read.{Reading, done, stopped, read_n, ended}
 use Rattle.stream.specs.Calls.{fault_at}
 use Rattle.macaque_v.specs.State.{MinMax, gather_sum, Known, gather_known, mode_of}
+use Rattle.coding.specs.declared.decode.Stop.{Stop}
 use Rattle.coding.specs.Inner.Ahead.{WindowSound, AtTop, stop_number}
 use Rattle.macaque_v.specs.declared.read_run.Cursor.{Cursor}
-use Rattle.macaque_v.specs.declared.read_run.Behind.{Behind}
-use Rattle.macaque_v.specs.declared.read_run.Behind.TheVariants as OfBehind
-use Rattle.macaque_v.specs.declared.read_run.Stride.{Stride}
-use Rattle.macaque_v.specs.declared.read_run.Stride.TheVariants as OfStride
-use Rattle.macaque_v.specs.declared.read_run.Run.{Run}
-use Rattle.macaque_v.specs.declared.read_run.Run.TheVariants as OfRun
 use Rattle.macaque_v.specs.declared.read_run.Aim.{Aim}
 use Rattle.macaque_v.specs.declared.read_run.Aim.TheVariants as OfAim
 use Rattle.macaque_v.specs.declared.read_run.Tally.{Tally}
-use Rattle.macaque_v.specs.declared.read_run.Walk.{Walk}
-use Rattle.macaque_v.specs.declared.read_run.Walk.TheVariants as OfWalk
 use Rattle.macaque_v.specs.ReadRun.{state_at, ahead, next_from, end_said}
 
 -- ---- where reading stands
@@ -53,13 +48,13 @@ pub record StopsBy {A : Type 0} (reading : Reading A) (cause : Refusal) : Type 0
   pub numbered : fault_at fault ≡ fault_of cause
 
 -- one value more: where reading stands behind it, or what stops it where reading stands
-abbrev pub StrideSays : Bool → List ℕ → Cursor → Stride → Type 0
-StrideSays first bytes at (OfStride.To to) = (answered to ≡ next_from first bytes at) × ReadableAt bytes to
-StrideSays first bytes at (OfStride.Stopped s) = refused (fault_in (stop_number s) at.count at.place) ≡ next_from first bytes at
+abbrev pub StrideSays : Bool → List ℕ → Cursor → Result Cursor Stop → Type 0
+StrideSays first bytes at (Ok to) = (answered to ≡ next_from first bytes at) × ReadableAt bytes to
+StrideSays first bytes at (Err s) = refused (fault_in (stop_number s) at.count at.place) ≡ next_from first bytes at
 
-abbrev pub NextSays : Bool → List ℕ → Cursor → Run → Type 0
-NextSays first bytes at (OfRun.To to) = (answered to ≡ next_from first bytes at) × ReadableAt bytes to
-NextSays first bytes at (OfRun.Refused r) = refused (fault_of r) ≡ next_from first bytes at
+abbrev pub NextSays : Bool → List ℕ → Cursor → Result Cursor Refusal → Type 0
+NextSays first bytes at (Ok to) = (answered to ≡ next_from first bytes at) × ReadableAt bytes to
+NextSays first bytes at (Err r) = refused (fault_of r) ≡ next_from first bytes at
 
 -- where reading stands behind so many values more in the same window
 abbrev pub onward : Cursor → ℕ → ℕ → ℕ → Cursor
@@ -81,9 +76,9 @@ pub record ReadsOn (first : Bool) (bytes : List ℕ) (at : Cursor) (i n : ℕ) (
   pub long : length new ≡ length old
 
 -- the values are in the first n places
-abbrev pub FillSays : Bool → List ℕ → Cursor → ℕ → List ℕ → List ℕ → Run → Type 0
-FillSays first bytes from n old new (OfRun.To to) = Reads first bytes from n (take n new) to × (length new ≡ length old)
-FillSays first bytes from n old new (OfRun.Refused r) = StopsBy (read_from first bytes from n) r
+abbrev pub FillSays : Bool → List ℕ → Cursor → ℕ → List ℕ → List ℕ → Result Cursor Refusal → Type 0
+FillSays first bytes from n old new (Ok to) = Reads first bytes from n (take n new) to × (length new ≡ length old)
+FillSays first bytes from n old new (Err r) = StopsBy (read_from first bytes from n) r
 
 -- ---- what is taken in
 
@@ -114,19 +109,19 @@ pub record Walked (first : Bool) (bytes : List ℕ) (from : Cursor) (n : ℕ) (a
   pub reads : Reads first bytes from n values to
   pub tally : t ≡ tallied aim (mode_of first) from.count fresh_tally values
 
-abbrev pub WalkSays : Bool → List ℕ → Cursor → ℕ → Aim → Walk → Type 0
-WalkSays first bytes from n aim (OfWalk.To to t) = Walked first bytes from n aim to t
-WalkSays first bytes from n aim (OfWalk.Refused r) = StopsBy (read_from first bytes from n) r
+abbrev pub WalkSays : Bool → List ℕ → Cursor → ℕ → Aim → Result (Cursor × Tally) Refusal → Type 0
+WalkSays first bytes from n aim (Ok (to, t)) = Walked first bytes from n aim to t
+WalkSays first bytes from n aim (Err r) = StopsBy (read_from first bytes from n) r
 
 -- ---- what is left
 
-abbrev pub says_behind : Behind → Option ℕ
-says_behind OfBehind.Nothing = none
-says_behind (OfBehind.From place) = some place
+abbrev pub says_behind : Prelude.Option ℕ → Option ℕ
+says_behind None = none
+says_behind (Some place) = some place
 
-abbrev pub WholeSays : Bool → List ℕ → Cursor → ℕ → Aim → Walk → Type 0
-WholeSays first bytes from n aim (OfWalk.To to t) = Walked first bytes from n aim to t × (end_said bytes to ≡ answered tt)
-WholeSays first bytes from n aim (OfWalk.Refused r) = StopsBy (ended (read_from first bytes from n)) r
+abbrev pub WholeSays : Bool → List ℕ → Cursor → ℕ → Aim → Result (Cursor × Tally) Refusal → Type 0
+WholeSays first bytes from n aim (Ok (to, t)) = Walked first bytes from n aim to t × (end_said bytes to ≡ answered tt)
+WholeSays first bytes from n aim (Err r) = StopsBy (ended (read_from first bytes from n)) r
 
 -- a state that gathers nothing
 abbrev pub bare_state : ℕ → Window → ℕ → ℕ → State Unit

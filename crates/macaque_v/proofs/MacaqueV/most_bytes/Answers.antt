@@ -10,36 +10,38 @@ use Rattle.models.specs.Limits.{most_values}
 use Rattle.models.specs.Refusals.{fault_of}
 use Rattle.models.proofs.Judged.{accepted, turned, turned-back, told}
 use Rattle.macaque_v.specs.State.{is_first}
-use Rattle.macaque_v.specs.Size.{most_of, most_bits_answer, most_bytes_answer, says_size}
+use Rattle.models.specs.Calls.{said_by}
+use Rattle.macaque_v.specs.Size.{most_of, most_bits_answer, most_bytes_answer}
+use Rattle.macaque_v.proofs.Passing.{passed-on}
 use Rattle.macaque_v.proofs.Sizes.{most-small}
 use Rattle.macaque_v.proofs.MacaqueV.most_bytes.Goals as goal
-use Rattle.macaque_v.proofs.MacaqueV.most_bytes.Goals.{In-Answered}
+use Rattle.macaque_v.proofs.MacaqueV.most_bytes.Goals.{In_ok-bits}
 
 -- what the answer tells
-module _ (c : In-Answered) where
+module _ (c : In_ok-bits) where
   abbrev count : ℕ
   count = c.args.count
 
   abbrev bits : ℕ
-  bits = c.in-Answered.bits
+  bits = c.in_ok-bits.bits
 
   answers : NoneHolds (count_causes count) × (bits ≡ most_of count c.args.opening)
   unfolding most_bits_answer
-  answers = told (count_causes count) (most_of count c.args.opening) bits (sym (ap says_size c.in-Answered.is) ∙ c.most_bits.ensures)
+  answers = told (count_causes count) (most_of count c.args.opening) bits (sym (ap said_by c.in_ok-bits.was) ∙ c.most_bits.ensures)
 
 pub overflow_add-result : goal.overflow_add-result
 overflow_add-result c =
-    let few : count (goal.at.overflow_add-result c).In-Answered ≤ most_values = ltb-false most_values (count (goal.at.overflow_add-result c).In-Answered) (answers (goal.at.overflow_add-result c).In-Answered).0.0 in
-    omega (arith, (answers (goal.at.overflow_add-result c).In-Answered).1, most-small (is_first c.args.opening) (count (goal.at.overflow_add-result c).In-Answered))
+    let few : count (goal.at.overflow_add-result c).In_ok-bits ≤ most_values = ltb-false most_values (count (goal.at.overflow_add-result c).In_ok-bits) (answers (goal.at.overflow_add-result c).In_ok-bits).0.0 in
+    omega (arith, (answers (goal.at.overflow_add-result c).In_ok-bits).1, most-small (is_first c.args.opening) (count (goal.at.overflow_add-result c).In_ok-bits))
 
-pub returns-in-Refused : goal.returns-in-Refused
+pub returns-in_err-bits : goal.returns-in_err-bits
 unfolding most_bits_answer most_bytes_answer
-returns-in-Refused c =
+returns-in_err-bits c =
     let a = c.args in
-    let f = fault_of c.in-Refused.r in
-    let no = turned (count_causes a.count) (most_of a.count a.opening) f (sym (ap says_size c.in-Refused.is) ∙ c.most_bits.ensures) in
-    turned-back refused (answered (whole_bytes (most_of a.count a.opening))) (count_causes a.count) f no
+    let f = fault_of c.in_err-bits.field-0.0 in
+    let no = turned (count_causes a.count) (most_of a.count a.opening) f (sym (ap said_by c.in_err-bits.was) ∙ c.most_bits.ensures) in
+    rw (passed-on c.from_residual.result c.from_residual.ensures.1) (turned-back refused (answered (whole_bytes (most_of a.count a.opening))) (count_causes a.count) f no)
 
-pub returns-in-Answered : goal.returns-in-Answered
+pub returns : goal.returns
 unfolding most_bytes_answer
-returns-in-Answered c = ap (λ (n : ℕ). answered (whole_bytes n)) (answers (goal.at.returns-in-Answered c).In-Answered).1 ∙ accepted refused _ (count_causes (count (goal.at.returns-in-Answered c).In-Answered)) (answers (goal.at.returns-in-Answered c).In-Answered).0
+returns c = ap (λ (n : ℕ). answered (whole_bytes n)) (answers (goal.at.returns c).In_ok-bits).1 ∙ accepted refused _ (count_causes (count (goal.at.returns c).In_ok-bits)) (answers (goal.at.returns c).In_ok-bits).0

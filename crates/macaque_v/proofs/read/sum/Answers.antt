@@ -12,6 +12,7 @@ use Rattle.macaque_v.specs.Read.{values_in, start_of, summed, sum_answer}
 use Rattle.macaque_v.specs.declared.read_run.Cursor.{Cursor}
 use Rattle.macaque_v.specs.declared.read_run.Aim.TheVariants as OfAim
 use Rattle.macaque_v.specs.declared.read_run.Tally.{Tally}
+use Rattle.macaque_v.proofs.Passing.{passed-on}
 use Rattle.macaque_v.proofs.ReadingAll.{starts, values-right, values-wrong}
 use Rattle.macaque_v.proofs.read.sum.Goals as goal
 use Rattle.macaque_v.proofs.read.sum.Goals.{After-go_to_end, Else-count-gt-MOST_VALUES}
@@ -41,15 +42,16 @@ go_to_end-requires c =
     let s = starts c.args.bytes.now c.args.opening c.start.result c.start.ensures in
     (s.0, omega (arith, s.1))
 
-pub returns-in-Refused : goal.returns-in-Refused
-returns-in-Refused c =
+pub returns-in_err-tally : goal.returns-in_err-tally
+returns-in_err-tally c =
     let a = c.args in
-    let says = subst (WholeSays (is_first a.opening) a.bytes.now (start_of a.opening) a.count OfAim.Sum) c.in-Refused.is (told (goal.at.returns-in-Refused c).After-go_to_end) in
-    sym (few (goal.at.returns-in-Refused c).Else-count-gt-MOST_VALUES ∙ ap (summed (is_first a.opening)) (values-wrong a.bytes.now a.opening a.count c.in-Refused.r says))
+    let says = subst (WholeSays (is_first a.opening) a.bytes.now (start_of a.opening) a.count OfAim.Sum) c.in_err-tally.was (told (goal.at.returns-in_err-tally c).After-go_to_end) in
+    rw (passed-on c.from_residual.result c.from_residual.ensures.1)
+    (sym (few (goal.at.returns-in_err-tally c).Else-count-gt-MOST_VALUES ∙ ap (summed (is_first a.opening)) (values-wrong a.bytes.now a.opening a.count c.in_err-tally.field-0.0 says)))
 
-pub returns-in-To : goal.returns-in-To
-returns-in-To c =
+pub returns : goal.returns
+returns c =
     let a = c.args in
-    let says = subst (WholeSays (is_first a.opening) a.bytes.now (start_of a.opening) a.count OfAim.Sum) c.in-To.is (told (goal.at.returns-in-To c).After-go_to_end) in
+    let says = subst (WholeSays (is_first a.opening) a.bytes.now (start_of a.opening) a.count OfAim.Sum) c.in_ok-tally.was (told (goal.at.returns c).After-go_to_end) in
     ap answered (c.bits_of_f32.ensures ∙ ap (λ (t : Tally). to_bits binary32 t.sum) says.0.tally)
-    ∙ sym (few (goal.at.returns-in-To c).Else-count-gt-MOST_VALUES ∙ ap (summed (is_first a.opening)) (values-right a.bytes.now a.opening says.0.reads says.1))
+    ∙ sym (few (goal.at.returns c).Else-count-gt-MOST_VALUES ∙ ap (summed (is_first a.opening)) (values-right a.bytes.now a.opening says.0.reads says.1))

@@ -4,21 +4,23 @@ use native.Mathlib.Omega.{arith}
 use lib.ListN.{take, set}
 use Rattle.models.specs.Answers.{refused}
 use Rattle.macaque_v.specs.Inner.ReadRun.{Reads, StrideSays}
-use Rattle.macaque_v.specs.declared.read_run.Stride.{Stride}
+use Rattle.std.specs.Prelude.{Result}
+use Rattle.coding.specs.declared.decode.Stop.{Stop}
+use Rattle.macaque_v.specs.declared.read_run.Cursor.{Cursor}
 use Rattle.macaque_v.proofs.ReadingRun.{one-stops, one-read, reads_none, then-stops, Filled, filled_more, filled_on}
 use Rattle.macaque_v.proofs.read_run.fill.Goals as goal
-use Rattle.macaque_v.proofs.read_run.fill.Goals.{In-To}
+use Rattle.macaque_v.proofs.read_run.fill.Goals.{In-Ok}
 
 -- a value is read, and stands in its place
-stored : (c : In-To)
+stored : (c : In-Ok)
     → Filled c.args.first c.args.bytes.now c.args.from c.args.n (c.loop-i.i + 1) c.args.out.now
-    (set c.loop-i.out c.loop-i.i c.in-To.to.last) c.in-To.to
+    (set c.loop-i.out c.loop-i.i c.in-Ok.to.last) c.in-Ok.to
 stored c =
     let a = c.args in
     let l = c.loop-i in
     filled_more a.first a.bytes.now a.n l.i a.out.now l.out l.invariant (omega arith) (omega arith)
-    (let said = subst (λ (q : Stride). StrideSays a.first a.bytes.now l.at q) c.in-To.is c.one_more.ensures in
-    one-read a.first a.bytes.now l.at c.in-To.to said.0 said.1)
+    (let said = subst (λ (q : Result Cursor Stop). StrideSays a.first a.bytes.now l.at q) c.in-Ok.is c.one_more.ensures in
+    one-read a.first a.bytes.now l.at c.in-Ok.to said.0 said.1)
 
 pub loop-i-init : goal.loop-i-init
 loop-i-init c =
@@ -28,11 +30,11 @@ loop-i-init c =
 pub one_more-requires : goal.one_more-requires
 one_more-requires c = (c.loop-i.invariant.reads.readable, omega (arith, c.loop-i.invariant.reads.counted))
 
-pub returns-in-Stopped : goal.returns-in-Stopped
-returns-in-Stopped c =
+pub returns-in-Err : goal.returns-in-Err
+returns-in-Err c =
     let a = c.args in
     let l = c.loop-i in
-    let said = subst (λ (q : Stride). StrideSays a.first a.bytes.now l.at q) c.in-Stopped.is c.one_more.ensures in
+    let said = subst (λ (q : Result Cursor Stop). StrideSays a.first a.bytes.now l.at q) c.in-Err.is c.one_more.ensures in
     then-stops a.first a.bytes.now l.invariant.reads 1
     (one-stops a.first a.bytes.now l.at c.refusal_of.result (ap refused c.refusal_of.ensures ∙ said)) a.n (omega arith)
 
@@ -41,14 +43,14 @@ overflow_add-same c = omega (arith, c.loop-i.invariant.reads.readable.near, c.lo
 
 pub go_on-at-requires : goal.go_on-at-requires
 go_on-at-requires c =
-    let f = stored (goal.at.go_on-at-requires c).In-To in
+    let f = stored (goal.at.go_on-at-requires c).In-Ok in
     (f.reads.readable, omega (arith, f.reads.counted), omega (arith, f.reads.counted, c.requires.1), f.fits, omega (arith, f.long))
 
 pub overflow_sub-i : goal.overflow_sub-i
 overflow_sub-i c = omega (arith, c.go_on-at.ensures.reads.counted)
 
-pub overflow_add-i-in-To-2 : goal.overflow_add-i-in-To-2
-overflow_add-i-in-To-2 c =
+pub overflow_add-i-in-Ok-2 : goal.overflow_add-i-in-Ok-2
+overflow_add-i-in-Ok-2 c =
     let r = c.go_on-at.ensures in
     omega (arith, r.reads.counted, r.fits, c.requires.1)
 
@@ -61,9 +63,9 @@ pub loop-i-preserved : goal.loop-i-preserved
 loop-i-preserved c =
     let a = c.args in
     let l = c.loop-i in
-    let to = c.in-To.to in
+    let to = c.in-Ok.to in
     let r = c.go_on-at in
-    filled_on a.first a.bytes.now a.n (l.i + 1) a.out.now (set l.out l.i to.last) (stored (goal.at.loop-i-preserved c).In-To) r.ensures (l.i + 1 + (r.result.count - to.count)) refl
+    filled_on a.first a.bytes.now a.n (l.i + 1) a.out.now (set l.out l.i to.last) (stored (goal.at.loop-i-preserved c).In-Ok) r.ensures (l.i + 1 + (r.result.count - to.count)) refl
 
 pub returns : goal.returns
 returns c =

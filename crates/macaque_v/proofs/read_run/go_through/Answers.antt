@@ -4,7 +4,10 @@ use native.Mathlib.Omega.{arith}
 use lib.ListN.{take}
 use lib.Ieee.{of_bits}
 use Rattle.macaque_v.specs.Inner.ReadRun.{FillSays, Walked}
-use Rattle.macaque_v.specs.declared.read_run.Run.{Run}
+use Rattle.std.specs.Prelude.{Result}
+use Rattle.models.specs.declared.Refusal.{Refusal}
+use Rattle.macaque_v.specs.declared.read_run.Cursor.{Cursor}
+use Rattle.macaque_v.proofs.Passing.{passed-on}
 use Rattle.macaque_v.proofs.ReadingRun.{then-stops}
 use Rattle.macaque_v.proofs.ReadingTally.{walked_none, walked_more}
 use Rattle.macaque_v.proofs.read_run.go_through.Goals as goal
@@ -20,14 +23,15 @@ fill-requires c =
     let W = c.loop-read.invariant.2 in
     (W.reads.readable, omega (arith, W.reads.counted), omega arith)
 
-pub returns-in-Refused : goal.returns-in-Refused
-returns-in-Refused c =
+pub returns-in_err-to : goal.returns-in_err-to
+returns-in_err-to c =
     let a = c.args in
     let l = c.loop-read in
     let f = c.fill in
     let k = c.smaller-k.result in
-    then-stops a.first a.bytes.now l.invariant.2.reads k
-    (subst (λ (q : Run). FillSays a.first a.bytes.now l.at k l.values f.new.out q) c.in-Refused.is f.ensures) a.n (omega arith)
+    rw (passed-on c.from_residual.result c.from_residual.ensures.1)
+    (then-stops a.first a.bytes.now l.invariant.2.reads k
+    (subst (λ (q : Result Cursor Refusal). FillSays a.first a.bytes.now l.at k l.values f.new.out q) c.in_err-to.was f.ensures) a.n (omega arith))
 
 pub taken_in-tally-requires : goal.taken_in-tally-requires
 taken_in-tally-requires c = (omega (arith, c.fill.auto.out), omega (arith, c.loop-read.invariant.2.reads.counted))
@@ -39,10 +43,10 @@ loop-read-preserved c =
     let f = c.fill in
     let k = c.smaller-k.result in
     let new = f.new.out in
-    let says = subst (λ (q : Run). FillSays a.first a.bytes.now l.at k l.values new q) c.in-To.is f.ensures in (
+    let says = subst (λ (q : Result Cursor Refusal). FillSays a.first a.bytes.now l.at k l.values new q) c.in_ok-to.was f.ensures in (
       omega arith,
       omega (arith, f.auto.out),
-      walked_more a.first a.bytes.now a.from a.aim l.read k l.at c.in-To.to l.tally c.taken_in-tally.result (take k new) l.invariant.2 says.0 c.taken_in-tally.ensures,
+      walked_more a.first a.bytes.now a.from a.aim l.read k l.at c.in_ok-to.to l.tally c.taken_in-tally.result (take k new) l.invariant.2 says.0 c.taken_in-tally.ensures,
     )
 
 pub returns : goal.returns

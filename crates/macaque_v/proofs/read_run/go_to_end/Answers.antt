@@ -1,37 +1,35 @@
 -- `macaque_v::read_run::go_to_end` meets its contract: the values, then the end. Assumes nothing.
 use mathlib.Core.Path.{sym, ap, ◌∙◌, subst}
 use native.Mathlib.Omega.{arith}
-use Rattle.models.specs.Calls.{says_verdict}
+use Rattle.models.specs.Calls.{said_by}
 use Rattle.macaque_v.specs.Inner.ReadRun.{Walked, WalkSays}
+use Rattle.macaque_v.proofs.Passing.{passed-on}
 use Rattle.macaque_v.proofs.ReadingEnd.{ends-wrong, ends-early}
 use Rattle.macaque_v.proofs.read_run.go_to_end.Goals as goal
-use Rattle.macaque_v.proofs.read_run.go_to_end.Goals.{After-judge_end, In-To}
+use Rattle.macaque_v.proofs.read_run.go_to_end.Goals.{In_ok-to}
 
 -- the values were read
-walked : (c : In-To)
+walked : (c : In_ok-to)
     → Walked c.args.first c.args.bytes.now c.args.from
-    c.args.n c.args.aim c.in-To.to c.in-To.tally
+    c.args.n c.args.aim c.in_ok-to.to c.in_ok-to.tally
 walked c =
     let a = c.args in
-    subst (WalkSays a.first a.bytes.now a.from a.n a.aim) c.in-To.is c.go_through.ensures
+    subst (WalkSays a.first a.bytes.now a.from a.n a.aim) c.in_ok-to.was c.go_through.ensures
 
 pub judge_end-requires : goal.judge_end-requires
 judge_end-requires c =
-    let s = (walked (goal.at.judge_end-requires c).In-To).reads in
+    let s = (walked (goal.at.judge_end-requires c).In_ok-to).reads in
     (s.readable, omega (arith, s.counted))
 
-pub returns-in-Refused : goal.returns-in-Refused
-returns-in-Refused c =
+pub returns-in_err-to : goal.returns-in_err-to
+returns-in_err-to c =
     let a = c.args in
-    ends-early (subst (WalkSays a.first a.bytes.now a.from a.n a.aim) c.in-Refused.is c.go_through.ensures)
+    rw (passed-on c.from_residual.result c.from_residual.ensures.1) (ends-early (subst (WalkSays a.first a.bytes.now a.from a.n a.aim) c.in_err-to.was c.go_through.ensures))
 
-pub returns-in-Refused-judge_end : goal.returns-in-Refused-judge_end
-returns-in-Refused-judge_end c =
-    let r = c in
-    let e = (goal.at.returns-in-Refused-judge_end r).After-judge_end in
-    ends-wrong (walked (goal.at.returns-in-Refused-judge_end r).In-To).reads (ap says_verdict (sym r.in-Refused-judge_end.is) ∙ e.judge_end.ensures)
+pub returns-in_err-judge_end : goal.returns-in_err-judge_end
+returns-in_err-judge_end c =
+    rw (passed-on c.from_residual-in_err-judge_end.result c.from_residual-in_err-judge_end.ensures.1)
+    (ends-wrong (walked (goal.at.returns-in_err-judge_end c).In_ok-to).reads (ap said_by (sym c.in_err-judge_end.was) ∙ c.judge_end.ensures))
 
-pub returns-in-Passed : goal.returns-in-Passed
-returns-in-Passed c =
-    let e = c in
-    (walked (goal.at.returns-in-Passed e).In-To, sym e.judge_end.ensures ∙ ap says_verdict c.in-Passed.is)
+pub returns : goal.returns
+returns c = (walked (goal.at.returns c).In_ok-to, sym c.judge_end.ensures ∙ ap said_by c.in_ok-judge_end.was)

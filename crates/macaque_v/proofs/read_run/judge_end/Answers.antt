@@ -9,15 +9,15 @@ use Rattle.macaque_v.proofs.read_run.judge_end.Goals.{After-left_behind}
 pub left_behind-requires : goal.left_behind-requires
 left_behind-requires c = (c.requires.0.within, omega (arith, c.requires.0.near, c.requires.1))
 
-pub returns-in-Nothing : goal.returns-in-Nothing
-returns-in-Nothing c =
+pub returns-in-None : goal.returns-in-None
+returns-in-None c =
     let l = c in
     let a = l.args in
-    ended-right a.bytes.now a.at (sym (ap says_behind c.in-Nothing.is) ∙ l.left_behind.ensures)
+    ended-right a.bytes.now a.at (sym (ap says_behind c.in-None.is) ∙ l.left_behind.ensures)
 
-pub returns-in-From : goal.returns-in-From
-returns-in-From c =
+pub returns-in-Some : goal.returns-in-Some
+returns-in-Some c =
     let p = c in
-    let l = (goal.at.returns-in-From p).After-left_behind in
+    let l = (goal.at.returns-in-Some p).After-left_behind in
     let a = l.before.before.before.args in
-    ended-wrong a.bytes.now a.at _ (sym (ap says_behind p.in-From.is) ∙ l.left_behind.ensures)
+    ended-wrong a.bytes.now a.at _ (sym (ap says_behind p.in-Some.is) ∙ l.left_behind.ensures)

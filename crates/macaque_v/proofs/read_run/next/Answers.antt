@@ -2,20 +2,22 @@
 use mathlib.Core.Path.{ap, ◌∙◌, subst}
 use Rattle.models.specs.Answers.{refused}
 use Rattle.macaque_v.specs.Inner.ReadRun.{StrideSays}
-use Rattle.macaque_v.specs.declared.read_run.Stride.{Stride}
+use Rattle.std.specs.Prelude.{Result}
+use Rattle.coding.specs.declared.decode.Stop.{Stop}
+use Rattle.macaque_v.specs.declared.read_run.Cursor.{Cursor}
 use Rattle.macaque_v.proofs.read_run.next.Goals as goal
 use Rattle.macaque_v.proofs.read_run.next.Goals.{After-one_more}
 
-pub returns-in-Stopped : goal.returns-in-Stopped
-returns-in-Stopped c =
+pub returns-in-Err : goal.returns-in-Err
+returns-in-Err c =
     let r = c in
-    let n = (goal.at.returns-in-Stopped r).After-one_more in
+    let n = (goal.at.returns-in-Err r).After-one_more in
     let a = n.before.before.args in
-    ap refused c.refusal_of.ensures ∙ subst (λ (q : Stride). StrideSays a.first a.bytes.now a.at q) r.in-Stopped.is n.one_more.ensures
+    ap refused c.refusal_of.ensures ∙ subst (λ (q : Result Cursor Stop). StrideSays a.first a.bytes.now a.at q) r.in-Err.is n.one_more.ensures
 
-pub returns-in-To : goal.returns-in-To
-returns-in-To c =
+pub returns-in-Ok : goal.returns-in-Ok
+returns-in-Ok c =
     let t = c in
-    let n = (goal.at.returns-in-To t).After-one_more in
+    let n = (goal.at.returns-in-Ok t).After-one_more in
     let a = n.before.before.args in
-    subst (λ (q : Stride). StrideSays a.first a.bytes.now a.at q) t.in-To.is n.one_more.ensures
+    subst (λ (q : Result Cursor Stop). StrideSays a.first a.bytes.now a.at q) t.in-Ok.is n.one_more.ensures

@@ -8,6 +8,7 @@ use Rattle.bits.specs.Bits.{bits_of}
 use Rattle.stream.specs.Format.{opening, macaque, window_in}
 use Rattle.stream.specs.Read.{read_one}
 use Rattle.coding.specs.Inner.Ahead.{says_decoded}
+use Rattle.macaque_v.proofs.Passing.{passed-on}
 use Rattle.macaque_v.proofs.Stepping.{raw-is}
 use Rattle.macaque_v.proofs.ReadingRun.{next-is, used-most, readable-next}
 use Rattle.macaque_v.proofs.read_run.one_more.Goals as goal
@@ -35,27 +36,28 @@ decode-requires c =
 pub overflow_add-result : goal.overflow_add-result
 overflow_add-result c =
     let a = c.args in
-    let g = c.in-Got in
+    let g = c.in_ok-got.got in
     omega (
       arith,
       c.requires.0.near,
       used-most a.first a.bytes.now a.at c.requires.0 (a.first && eqb a.at.count 0) (raw-is a.first a.at.count)
-          g.value g.lead g.trail g.used (step (goal.at.overflow_add-result c).After-decode ∙ ap says_decoded g.is),
+          g.value g.lead g.trail g.used (step (goal.at.overflow_add-result c).After-decode ∙ ap says_decoded c.in_ok-got.was),
     )
 
-pub returns-in-Stopped : goal.returns-in-Stopped
-returns-in-Stopped c =
+pub returns-in_err-got : goal.returns-in_err-got
+returns-in_err-got c =
     let a = c.args in
-    let d = (goal.at.returns-in-Stopped c).After-decode in
-    sym (next-is a.first a.bytes.now a.at c.requires.0 (a.first && eqb a.at.count 0) (raw-is a.first a.at.count) _ (step d ∙ ap says_decoded c.in-Stopped.is))
+    let d = (goal.at.returns-in_err-got c).After-decode in
+    rw (passed-on c.from_residual.result c.from_residual.ensures.1)
+    (sym (next-is a.first a.bytes.now a.at c.requires.0 (a.first && eqb a.at.count 0) (raw-is a.first a.at.count) _ (step d ∙ ap says_decoded c.in_err-got.was)))
 
-pub returns-in-Got : goal.returns-in-Got
-returns-in-Got c =
+pub returns : goal.returns
+returns c =
     let a = c.args in
-    let d = (goal.at.returns-in-Got c).After-decode in
-    let g = c.in-Got in
+    let d = (goal.at.returns c).After-decode in
+    let g = c.in_ok-got.got in
     let raw = a.first && eqb a.at.count 0 in
-    let says = step d ∙ ap says_decoded g.is in (
+    let says = step d ∙ ap says_decoded c.in_ok-got.was in (
       sym (next-is a.first a.bytes.now a.at c.requires.0 raw (raw-is a.first a.at.count) _ says),
       readable-next a.first a.bytes.now a.at c.requires.0 raw (raw-is a.first a.at.count) g.value g.lead g.trail g.used says,
     )

@@ -1,7 +1,0 @@
--- `macaque_v::read::judge_grid` meets its contract: the tests are those of the list of causes. Assumes nothing.
-use Rattle.models.specs.Answers.{judge}
-use Rattle.macaque_v.proofs.read.judge_grid.Goals as goal
-
-pub returns : goal.returns
-unfolding judge
-returns c = rw (c.when.ensures, c.when-short.ensures)
