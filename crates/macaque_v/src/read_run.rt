@@ -74,7 +74,13 @@ fn refusal_of(stop: Stop, at: Cursor) -> Refusal
 }
 
 // The next n values, into the first places of `out`. Those behind them may change too: callers hand over arrays of their own.
-pub fn fill(bytes: &[u8], first: bool, from: Cursor, n: usize, out: &mut [u32]) -> Result<Cursor, Refusal>
+pub fn fill(
+    bytes: &[u8],
+    first: bool,
+    from: Cursor,
+    n: usize,
+    out: &mut [u32],
+) -> Result<Cursor, Refusal>
     requires { ReadableAt bytes.now from × (from.count + n ≤ most_values) × (n ≤ length out.old) }
     ensures { FillSays first bytes.now from n out.old out.new result }
 {
