@@ -16,7 +16,8 @@ use Rattle.swing.specs.Calls as OfSwing
 use Rattle.pmc_mean.specs.State as Pmc
 use Rattle.pmc_mean.specs.Calls as OfPmc
 use Rattle.swing.proofs.Allowed.{length-limit}
-use Rattle.models.specs.Answers.{Stepped, NoneHolds}
+use Rattle.models.specs.declared.Stepped.{Stepped}
+use Rattle.models.specs.Answers.{NoneHolds}
 use Rattle.models.specs.Bound.{bound_allowed}
 use Rattle.lines.specs.declared.Point.{Point}
 use Rattle.pmc_mean.specs.declared.PMCMean.{PMCMean}

@@ -1,6 +1,6 @@
 -- The two models that are fitted side by side: when a step may be made, and the step.
 use Rattle.std.specs.Prelude.{Bool, true, cond, not, ◌&&◌, ◌||◌, eqb, ℤ, Float}
-use Rattle.models.specs.Answers.{Stepped}
+use Rattle.models.specs.declared.Stepped.{Stepped}
 use Rattle.models.specs.Bound.{bound_allowed}
 use Rattle.models.specs.Limits.{most_values}
 use Rattle.models.specs.declared.ErrorBound.{ErrorBound}

@@ -1,9 +1,7 @@
 -- A list of points tried one after the other, and choose_model: the steps over all of them, then the choice.
-use Rattle.std.specs.Prelude.{◌≡◌, refl, not, ◌||◌, ℕ, eqb, ltb, ℤ, length}
-use Rattle.std.proofs.Common.{ap}
+use Rattle.std.specs.Prelude.{not, ◌||◌, ℕ, eqb, ltb, ℤ, length}
 use mathlib.Core.List.{List, [], ◌∷◌, foldl}
-use Rattle.models.specs.Answers.{Said, answered, refused, state_after, Cause, ◌when◌, judged, Injective, told-apart}
-use Rattle.models.specs.Refusals.{refusal-told, unsaid, fault_of}
+use Rattle.models.specs.Answers.{Said, state_after, Cause, ◌when◌, judged}
 use Rattle.models.specs.Bound.{bound_allowed}
 use Rattle.models.specs.Limits.{most_values, metadata_allowed}
 use Rattle.models.specs.declared.ErrorBound.{ErrorBound}
@@ -15,8 +13,6 @@ use Rattle.types.specs.Choice.{choice_of}
 use Rattle.types.specs.Calls.{update_answer}
 use Rattle.types.specs.declared.ModelBuilder.{ModelBuilder}
 use Rattle.types.specs.declared.SelectedModel.{SelectedModel}
-use Rattle.types.specs.declared.ChoiceAnswer.{ChoiceAnswer}
-use Rattle.types.specs.declared.ChoiceAnswer.TheVariants as OfChoice
 
 -- ---- the builder that try_to_update_models hands back
 abbrev pub next : ModelBuilder → Given → ModelBuilder
@@ -36,10 +32,6 @@ points (t ∷ ts) [] = []
 points (t ∷ ts) (v ∷ values) = record { time = t; bits = v } ∷ points ts values
 
 -- ---- choose_model
-abbrev pub says_choice : ChoiceAnswer → Said SelectedModel
-says_choice (OfChoice.Answered model) = answered model
-says_choice (OfChoice.Refused r) = refused (fault_of r)
-
 abbrev pub choice_causes : List ℤ → List ℕ → ErrorBound → ℕ → List Cause
 choice_causes ts values b m =
     1 when not (bound_allowed b)
@@ -52,10 +44,3 @@ choice_causes ts values b m =
 -- refused by these causes only, else the choice after the steps over all points
 unfoldable pub choice_answer : List ℤ → List ℕ → ErrorBound → ℕ → Said SelectedModel
 choice_answer ts values b m = judged (choice_causes ts values b m) (choice_of (run (fresh b) (points ts values)) m)
-
-choice-told : (r : ChoiceAnswer) → unsaid OfChoice.Answered OfChoice.Refused (says_choice r) ≡ r
-choice-told (OfChoice.Answered model) = refl
-choice-told (OfChoice.Refused r) = ap OfChoice.Refused (refusal-told r)
-
-pub says_choice-injective : Injective says_choice
-says_choice-injective = told-apart says_choice (unsaid OfChoice.Answered OfChoice.Refused) choice-told

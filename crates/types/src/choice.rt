@@ -3,43 +3,48 @@
 ghost use Rattle.std.specs.Prelude.{◌≡◌, ◌≤◌, length};
 ghost use Rattle.models.specs.Limits.{most_values, most_metadata};
 ghost use Rattle.models.specs.Answers.{answered, verdict};
-ghost use Rattle.models.specs.Calls.{says_verdict};
+ghost use Rattle.models.specs.Calls.{said_by, said_on};
 ghost use Rattle.pmc_mean.specs.Calls.{cost_causes};
 ghost use Rattle.swing.specs.Calls as OfSwing;
 ghost use Rattle.types.specs.Choice.{pmc_model, swing_model, swing_wins, end_lost, chosen, choice_of};
-ghost use Rattle.types.specs.Calls.{finish_causes, says_finish, finish_answer};
-ghost use Rattle.types.specs.Run.{next, run, points, choice_causes, says_choice, choice_answer};
+ghost use Rattle.types.specs.Calls.{finish_causes, finish_answer};
+ghost use Rattle.types.specs.Run.{next, run, points, choice_causes, choice_answer};
 
-use crate::{ChoiceAnswer, FinishAnswer, ModelBuilder, NewAnswer, SelectedModel, UpdateAnswer};
-use models::{ErrorBound, Refusal, Verdict};
+use crate::{ModelBuilder, SelectedModel};
+use models::{ErrorBound, Refusal, Refused};
 use pmc_mean::PMCMean;
 use swing::Swing;
 
 impl ModelBuilder {
     // Chooses the model that needs fewer bytes for each value, with metadata of m bytes.
-    pub fn finish(self, m: usize) -> FinishAnswer
-        ensures { says_finish result ≡ finish_answer self m }
+    pub fn finish(self, m: usize) -> Result<SelectedModel, Refused<ModelBuilder>>
+        ensures { said_on result ≡ finish_answer self m }
     {
         match self.judge_finish(m) {
-            Verdict::Refused(r) => FinishAnswer::Refused(r, self),
-            Verdict::Passed => FinishAnswer::Answered(self.selected(m)),
+            Err(cause) => Err(Refused { cause, state: self }),
+            Ok(()) => Ok(self.selected(m)),
         }
     }
 
-    fn judge_finish(self, m: usize) -> Verdict
-        ensures { says_verdict result ≡ verdict (finish_causes self m) }
+    #[tactic(auto, unfolding(models::specs::Answers::judge))]
+    fn judge_finish(self, m: usize) -> Result<(), Refusal>
+        ensures { said_by result ≡ verdict (finish_causes self m) }
     {
         let p = self.pmc_mean;
         let s = self.swing;
-        let a = p.error_bound;
-        let b = s.error_bound;
-        let empty = (p.length == 0) | (s.length == 0);
-        let none = models::when(Refusal::NoModel, empty, Verdict::Passed);
-        let size = models::when(Refusal::OverLimit, !models::metadata_allowed(m), none);
-        let usable = p.usable() & s.usable();
-        let states = models::when(Refusal::StateNotAllowed, !usable, size);
-        let allowed = models::bound_allowed(a) & models::bound_allowed(b);
-        models::when(Refusal::BoundNotAllowed, !allowed, states)
+        if !(models::bound_allowed(p.error_bound) & models::bound_allowed(s.error_bound)) {
+            return Err(Refusal::BoundNotAllowed);
+        }
+        if !(p.usable() & s.usable()) {
+            return Err(Refusal::StateNotAllowed);
+        }
+        if !models::metadata_allowed(m) {
+            return Err(Refusal::OverLimit);
+        }
+        if (p.length == 0) | (s.length == 0) {
+            return Err(Refusal::NoModel);
+        }
+        Ok(())
     }
 
     // The choice, once nothing refuses it.
@@ -58,9 +63,8 @@ impl ModelBuilder {
         ensures { result ≡ next self (record { time = timestamp; bits = value }) }
     {
         match self.try_to_update_models(timestamp, value) {
-            UpdateAnswer::Fits(b) => b,
-            UpdateAnswer::NoFit(b) => b,
-            UpdateAnswer::Refused(_, b) => b,
+            Ok(step) => step.state,
+            Err(refused) => refused.state,
         }
     }
 
@@ -150,33 +154,38 @@ pub fn choose_model(
     values: &[u32],
     error_bound: ErrorBound,
     m: usize,
-) -> ChoiceAnswer
-    ensures { says_choice result ≡ choice_answer timestamps.now values.now error_bound m }
+) -> Result<SelectedModel, Refusal>
+    ensures { said_by result ≡ choice_answer timestamps.now values.now error_bound m }
 {
-    match judge_choice(timestamps, values, error_bound, m) {
-        Verdict::Refused(r) => ChoiceAnswer::Refused(r),
-        Verdict::Passed => match ModelBuilder::new(error_bound) {
-            NewAnswer::Refused(r) => ChoiceAnswer::Refused(r),
-            NewAnswer::Answered(b) => {
-                ChoiceAnswer::Answered(b.stepped(timestamps, values).selected(m))
-            }
-        },
-    }
+    judge_choice(timestamps, values, error_bound, m)?;
+    let b = ModelBuilder::new(error_bound)?;
+    Ok(b.stepped(timestamps, values).selected(m))
 }
 
-fn judge_choice(timestamps: &[i64], values: &[u32], error_bound: ErrorBound, m: usize) -> Verdict
-    ensures { says_verdict result ≡ verdict (choice_causes timestamps.now values.now error_bound m) }
+#[tactic(auto, unfolding(models::specs::Answers::judge))]
+fn judge_choice(
+    timestamps: &[i64],
+    values: &[u32],
+    error_bound: ErrorBound,
+    m: usize,
+) -> Result<(), Refusal>
+    ensures { said_by result ≡ verdict (choice_causes timestamps.now values.now error_bound m) }
 {
     let n = values.len();
-    let ordered = lines::times::in_order(timestamps);
-    let none = models::when(Refusal::NoModel, n == 0, Verdict::Passed);
-    let times = models::when(Refusal::TimesNotAllowed, !ordered, none);
-    let same = models::when(Refusal::CountsDisagree, !(timestamps.len() == n), times);
-    let over = (models::MOST_VALUES < n) | !models::metadata_allowed(m);
-    let limit = models::when(Refusal::OverLimit, over, same);
-    models::when(
-        Refusal::BoundNotAllowed,
-        !models::bound_allowed(error_bound),
-        limit,
-    )
+    if !models::bound_allowed(error_bound) {
+        return Err(Refusal::BoundNotAllowed);
+    }
+    if (models::MOST_VALUES < n) | !models::metadata_allowed(m) {
+        return Err(Refusal::OverLimit);
+    }
+    if timestamps.len() != n {
+        return Err(Refusal::CountsDisagree);
+    }
+    if !lines::times::in_order(timestamps) {
+        return Err(Refusal::TimesNotAllowed);
+    }
+    if n == 0 {
+        return Err(Refusal::NoModel);
+    }
+    Ok(())
 }

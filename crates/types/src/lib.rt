@@ -8,14 +8,14 @@ pub mod choice;
 ghost use Rattle.std.specs.Prelude.{◌≡◌, true, ◌<◌};
 ghost use Rattle.models.specs.Limits.{most_values};
 ghost use Rattle.models.specs.Answers.{answered, verdict};
-ghost use Rattle.models.specs.Calls.{says_verdict};
+ghost use Rattle.models.specs.Calls.{said_by, said_on};
 ghost use Rattle.lines.specs.Times.{time_allowed};
 ghost use Rattle.swing.specs.State.{usable};
-ghost use Rattle.types.specs.Builder.{bounds_allowed, states_allowed, room_left, time_fits, with_pmc, with_swing, update_pmc, update_swing, updated, could_fit};
-ghost use Rattle.types.specs.Calls.{says_new, new_answer, update_causes, says_update, update_answer};
+ghost use Rattle.types.specs.Builder.{bounds_allowed, states_allowed, room_left, time_fits, update_pmc, update_swing, updated, could_fit};
+ghost use Rattle.types.specs.Calls.{new_answer, update_causes, update_answer};
 
 use lines::{Point, times};
-use models::{ErrorBound, Refusal, Verdict};
+use models::{ErrorBound, Refusal, Refused, Stepped};
 use pmc_mean::PMCMean;
 use swing::Swing;
 
@@ -40,69 +40,39 @@ pub struct SelectedModel {
     pub bytes_per_value: f32,
 }
 
-// ---- answers: a refusal hands back the builder passed in
-
-#[derive(Clone, Copy)]
-pub enum NewAnswer {
-    Answered(ModelBuilder),
-    Refused(Refusal),
-}
-
-// Whether some model stands for all values so far, and the builder after the step.
-#[derive(Clone, Copy)]
-pub enum UpdateAnswer {
-    Fits(ModelBuilder),
-    NoFit(ModelBuilder),
-    Refused(Refusal, ModelBuilder),
-}
-
-#[derive(Clone, Copy)]
-pub enum FinishAnswer {
-    Answered(SelectedModel),
-    Refused(Refusal, ModelBuilder),
-}
-
-#[derive(Clone, Copy)]
-pub enum ChoiceAnswer {
-    Answered(SelectedModel),
-    Refused(Refusal),
-}
-
 impl ModelBuilder {
     // ---- the public calls
 
     // The builder before any value.
-    pub fn new(error_bound: ErrorBound) -> NewAnswer
-        ensures { says_new result ≡ new_answer error_bound }
+    pub fn new(error_bound: ErrorBound) -> Result<ModelBuilder, Refusal>
+        ensures { said_by result ≡ new_answer error_bound }
     {
-        match PMCMean::new(error_bound) {
-            pmc_mean::NewAnswer::Refused(r) => NewAnswer::Refused(r),
-            pmc_mean::NewAnswer::Answered(p) => match Swing::new(error_bound) {
-                swing::NewAnswer::Refused(r) => NewAnswer::Refused(r),
-                swing::NewAnswer::Answered(s) => NewAnswer::Answered(ModelBuilder {
-                    pmc_mean: p,
-                    pmc_mean_could_fit_all: true,
-                    swing: s,
-                    swing_could_fit_all: true,
-                }),
-            },
-        }
+        Ok(ModelBuilder {
+            pmc_mean: PMCMean::new(error_bound)?,
+            pmc_mean_could_fit_all: true,
+            swing: Swing::new(error_bound)?,
+            swing_could_fit_all: true,
+        })
     }
 
-    // Tries to have each model that has not failed yet stand for one more point.
-    pub fn try_to_update_models(self, timestamp: i64, value: u32) -> UpdateAnswer
-        ensures { says_update result ≡ update_answer self timestamp value }
+    // Tries to have each model that has not failed yet stand for one more point. It fits where some model stands for all values so
+    // far.
+    pub fn try_to_update_models(
+        self,
+        timestamp: i64,
+        value: u32,
+    ) -> Result<Stepped<ModelBuilder>, Refused<ModelBuilder>>
+        ensures { said_on result ≡ update_answer self timestamp value }
     {
         let p = lines::point_of(timestamp, value);
         match self.judge_update(p) {
-            Verdict::Refused(r) => UpdateAnswer::Refused(r, self),
-            Verdict::Passed => {
-                let b = self.updated(numbers::value_of_f32(value), p);
-                if b.could_fit() {
-                    UpdateAnswer::Fits(b)
-                } else {
-                    UpdateAnswer::NoFit(b)
-                }
+            Err(cause) => Err(Refused { cause, state: self }),
+            Ok(()) => {
+                let state = self.updated(numbers::value_of_f32(value), p);
+                Ok(Stepped {
+                    fits: state.could_fit(),
+                    state,
+                })
             }
         }
     }
@@ -114,55 +84,57 @@ impl ModelBuilder {
         self.pmc_mean_could_fit_all | self.swing_could_fit_all
     }
 
-    // ---- the causes of refusal of a step, the last of them first: a failed model judges nothing
+    // ---- the causes of refusal of a step: a failed model judges nothing
 
-    fn judge_update(self, p: Point) -> Verdict
-        ensures { says_verdict result ≡ verdict (update_causes self p.time) }
+    #[tactic(auto, unfolding(models::specs::Answers::judge))]
+    fn judge_update(self, p: Point) -> Result<(), Refusal>
+        ensures { said_by result ≡ verdict (update_causes self p.time) }
     {
-        let times = models::when(
-            Refusal::TimesNotAllowed,
-            !self.time_fits(p),
-            Verdict::Passed,
-        );
-        let full = models::when(Refusal::OverLimit, !self.room_left(), times);
-        let states = models::when(Refusal::StateNotAllowed, !self.states_allowed(), full);
-        models::when(Refusal::BoundNotAllowed, !self.bounds_allowed(), states)
+        if !self.bounds_allowed() {
+            return Err(Refusal::BoundNotAllowed);
+        }
+        if !self.states_allowed() {
+            return Err(Refusal::StateNotAllowed);
+        }
+        if !self.room_left() {
+            return Err(Refusal::OverLimit);
+        }
+        if !self.time_fits(p) {
+            return Err(Refusal::TimesNotAllowed);
+        }
+        Ok(())
     }
 
+    #[tactic(auto, unfolding(crate::specs::Builder::bounds_allowed))]
     fn bounds_allowed(self) -> bool
         ensures { result ≡ bounds_allowed self }
     {
-        let p = self.pmc_mean;
-        let s = self.swing;
-        let a = p.error_bound;
-        let b = s.error_bound;
+        let a = self.pmc_mean.error_bound;
+        let b = self.swing.error_bound;
         let first = !self.pmc_mean_could_fit_all | models::bound_allowed(a);
         first & (!self.swing_could_fit_all | models::bound_allowed(b))
     }
 
+    #[tactic(auto, unfolding(crate::specs::Builder::states_allowed))]
     fn states_allowed(self) -> bool
         ensures { result ≡ states_allowed self }
     {
-        let p = self.pmc_mean;
-        let s = self.swing;
-        let first = !self.pmc_mean_could_fit_all | p.usable();
-        first & (!self.swing_could_fit_all | s.usable())
+        let first = !self.pmc_mean_could_fit_all | self.pmc_mean.usable();
+        first & (!self.swing_could_fit_all | self.swing.usable())
     }
 
+    #[tactic(auto, unfolding(crate::specs::Builder::room_left))]
     fn room_left(self) -> bool
         ensures { result ≡ room_left self }
     {
-        let p = self.pmc_mean;
-        let s = self.swing;
-        let first = !self.pmc_mean_could_fit_all | !(p.length == models::MOST_VALUES);
-        first & (!self.swing_could_fit_all | !(s.length == models::MOST_VALUES))
+        let first = !self.pmc_mean_could_fit_all | (self.pmc_mean.length != models::MOST_VALUES);
+        first & (!self.swing_could_fit_all | (self.swing.length != models::MOST_VALUES))
     }
 
     fn time_fits(self, p: Point) -> bool
         ensures { result ≡ time_fits self p.time }
     {
-        let s = self.swing;
-        times::allowed(p.time) & (!self.swing_could_fit_all | s.follows(p))
+        times::allowed(p.time) & (!self.swing_could_fit_all | self.swing.follows(p))
     }
 
     // ---- the step
@@ -173,8 +145,7 @@ impl ModelBuilder {
         requires value { value ≡ p.value }
         ensures { result ≡ updated self p }
     {
-        let b = self.update_pmc_mean(value);
-        b.update_swing(p)
+        self.update_pmc_mean(value).update_swing(p)
     }
 
     fn update_pmc_mean(self, value: f32) -> ModelBuilder
@@ -184,10 +155,12 @@ impl ModelBuilder {
         if !self.pmc_mean_could_fit_all {
             return self;
         }
-        let s = self.pmc_mean;
-        let t = s.tried(value);
-        let n = t.state;
-        self.with_pmc_mean(n, t.fits)
+        let t = self.pmc_mean.tried(value);
+        ModelBuilder {
+            pmc_mean: t.state,
+            pmc_mean_could_fit_all: t.fits,
+            ..self
+        }
     }
 
     fn update_swing(self, p: Point) -> ModelBuilder
@@ -198,33 +171,11 @@ impl ModelBuilder {
         if !self.swing_could_fit_all {
             return self;
         }
-        let s = self.swing;
-        let t = s.tried(p);
-        let n = t.state;
-        self.with_swing(n, t.fits)
-    }
-
-    fn with_pmc_mean(self, s: PMCMean, fits: bool) -> ModelBuilder
-        ensures { result ≡ with_pmc self s fits }
-    {
-        let other = self.swing;
+        let t = self.swing.tried(p);
         ModelBuilder {
-            pmc_mean: s,
-            pmc_mean_could_fit_all: fits,
-            swing: other,
-            swing_could_fit_all: self.swing_could_fit_all,
-        }
-    }
-
-    fn with_swing(self, s: Swing, fits: bool) -> ModelBuilder
-        ensures { result ≡ with_swing self s fits }
-    {
-        let other = self.pmc_mean;
-        ModelBuilder {
-            pmc_mean: other,
-            pmc_mean_could_fit_all: self.pmc_mean_could_fit_all,
-            swing: s,
-            swing_could_fit_all: fits,
+            swing: t.state,
+            swing_could_fit_all: t.fits,
+            ..self
         }
     }
 }

@@ -3,14 +3,11 @@ use mathlib.Core.Path.{sym, ap, ◌∙◌}
 use mir.Syntax.{w64}
 use mir.ValLaws.{to_z-of_z}
 use Rattle.models.specs.Answers.{state_after}
-use Rattle.types.specs.Calls.{says_update}
+use Rattle.models.specs.Calls.{said_on}
 use Rattle.types.proofs.ModelBuilder.next.Goals as goal
 
-pub returns-in-Fits : goal.returns-in-Fits
-returns-in-Fits c = rw (to_z-of_z w64 c.args.timestamp c.ranges.timestamp) at (sym (ap (λ r. state_after (says_update r)) c.in-Fits.is) ∙ ap state_after c.try_to_update_models.ensures)
+pub returns-in-Ok : goal.returns-in-Ok
+returns-in-Ok c = rw (to_z-of_z w64 c.args.timestamp c.ranges.timestamp) at (sym (ap (λ r. state_after (said_on r)) c.in-Ok.is) ∙ ap state_after c.try_to_update_models.ensures)
 
-pub returns-in-NoFit : goal.returns-in-NoFit
-returns-in-NoFit c = rw (to_z-of_z w64 c.args.timestamp c.ranges.timestamp) at (sym (ap (λ r. state_after (says_update r)) c.in-NoFit.is) ∙ ap state_after c.try_to_update_models.ensures)
-
-pub returns-in-Refused : goal.returns-in-Refused
-returns-in-Refused c = rw (to_z-of_z w64 c.args.timestamp c.ranges.timestamp) at (sym (ap (λ r. state_after (says_update r)) c.in-Refused.is) ∙ ap state_after c.try_to_update_models.ensures)
+pub returns-in-Err : goal.returns-in-Err
+returns-in-Err c = rw (to_z-of_z w64 c.args.timestamp c.ranges.timestamp) at (sym (ap (λ r. state_after (said_on r)) c.in-Err.is) ∙ ap state_after c.try_to_update_models.ensures)

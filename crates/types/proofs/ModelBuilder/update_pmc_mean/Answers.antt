@@ -1,8 +1,6 @@
 -- `ModelBuilder::update_pmc_mean` meets its contract. A model that has failed is not tried. Assumes nothing.
-use mathlib.Core.Path.{◌∙◌}
 use borrow.Author.Tests.{not-true, not-false}
-use Rattle.types.specs.Builder.{update_pmc}
-use Rattle.pmc_mean.specs.Inner.Steps.{step_of}
+use Rattle.types.specs.Builder.{with_pmc, update_pmc}
 use Rattle.types.proofs.Rooms.{pmc-live}
 use Rattle.types.proofs.ModelBuilder.update_pmc_mean.Goals as goal
 
@@ -14,4 +12,5 @@ pub tried-t-requires : goal.tried-t-requires
 tried-t-requires c = c.requires (not-false _ c.if-not-self.false)
 
 pub returns : goal.returns
-returns c = c.with_pmc_mean.ensures ∙ pmc-live c.args.self _ (step_of c.tried-t.result) (not-false _ c.if-not-self.false) c.tried-t.ensures
+unfolding with_pmc
+returns c = pmc-live c.args.self _ c.tried-t.result (not-false _ c.if-not-self.false) c.tried-t.ensures

@@ -1,8 +1,6 @@
 -- `ModelBuilder::update_swing` meets its contract. A model that has failed is not tried. Assumes nothing.
-use mathlib.Core.Path.{◌∙◌}
 use borrow.Author.Tests.{not-true, not-false}
-use Rattle.types.specs.Builder.{update_swing}
-use Rattle.swing.specs.Inner.Steps.{step_of}
+use Rattle.types.specs.Builder.{with_swing, update_swing}
 use Rattle.types.proofs.Rooms.{swing-live}
 use Rattle.types.proofs.ModelBuilder.update_swing.Goals as goal
 
@@ -16,4 +14,5 @@ tried-t-requires c =
     record { room = room.0; sound = room.1; time = c.requires.time }
 
 pub returns : goal.returns
-returns c = c.with_swing.ensures ∙ swing-live c.args.self _ (step_of c.tried-t.result) (not-false _ c.if-not-self.false) c.tried-t.ensures
+unfolding with_swing
+returns c = swing-live c.args.self _ c.tried-t.result (not-false _ c.if-not-self.false) c.tried-t.ensures
