@@ -14,9 +14,9 @@ unfolding pmc_mean_from little_endian
 value_read min max v small = rw (number-back 4 v small)
 
 -- "5 by flag"
-pub flagged-read : (min max flag v : ℕ) → v < 256 ^ 4 → swing_from min max (form_bytes (Flagged flag v)) ≡ by_flag min max flag v
+pub flagged_read : (min max flag v : ℕ) → v < 256 ^ 4 → swing_from min max (form_bytes (Flagged flag v)) ≡ by_flag min max flag v
 unfolding swing_from little_endian
-flagged-read min max flag v small = rw (number-back 4 v small)
+flagged_read min max flag v small = rw (number-back 4 v small)
 
 -- "8 both"
 pub both_read : (min max a b : ℕ) → a < 256 ^ 4 → b < 256 ^ 4 → swing_from min max (form_bytes (Both a b)) ≡ answered_ends a b

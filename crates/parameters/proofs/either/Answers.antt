@@ -1,8 +1,0 @@
--- `parameters::either` meets its contract. Assumes nothing.
-use Rattle.parameters.proofs.either.Goals as goal
-
-pub returns-then-test : goal.returns-then-test
-returns-then-test c = rw c.if-test.true
-
-pub returns-else-test : goal.returns-else-test
-returns-else-test c = rw c.if-test.false
