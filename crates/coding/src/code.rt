@@ -39,8 +39,8 @@ fn by_xor(lead: u32, trail: u32, x: u32) -> Code
             trail,
         };
     }
-    let zeros = u32::leading_zeros(x);
-    let ends = u32::trailing_zeros(x);
+    let zeros = x.leading_zeros();
+    let ends = x.trailing_zeros();
     if (lead <= zeros) & (trail <= ends) {
         return Code {
             width: (33 - lead - trail) as usize,

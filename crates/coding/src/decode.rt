@@ -83,11 +83,8 @@ pub fn in_place(word: u64, lead: u32, trail: u32) -> u32
 pub fn at_top(word: u64) -> usize
     ensures { AtTop word result }
 {
-    let k = (u64::leading_zeros(word ^ 0xAAAA_AAAA_AAAA_AAAA) / 2) as usize;
-    if 28 < k {
-        return 28;
-    }
-    k
+    let k = ((word ^ 0xAAAA_AAAA_AAAA_AAAA).leading_zeros() / 2) as usize;
+    k.min(28)
 }
 
 // ---- one value

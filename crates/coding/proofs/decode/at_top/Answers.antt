@@ -1,16 +1,12 @@
 -- `coding::decode::at_top` meets its contract: the leading zeros of the exclusive or with 1010.. are two for each repeat. Assumes nothing.
-use Prim.Native.Nat.{◌/◌}
 use native.Mathlib.Omega.{arith}
 use lib.Bits.{bit_xor}
-use lib.Count.{count_leading_zeros, leading_le}
+use lib.Count.{leading_le}
 use Rattle.coding.proofs.Repeats.{at_top}
 use Rattle.coding.proofs.decode.at_top.Goals as goal
 
 pub overflow_cast-k : goal.overflow_cast-k
 overflow_cast-k c = omega (arith, leading_le 64 (bit_xor c.args.word 0xAAAA_AAAA_AAAA_AAAA))
 
-pub returns-then-k-gt28 : goal.returns-then-k-gt28
-returns-then-k-gt28 c = record { bits = at_top c.args.word 28 (omega arith) (omega arith); most = omega arith }
-
 pub returns : goal.returns
-returns c = record { bits = at_top c.args.word (count_leading_zeros 64 (bit_xor c.args.word 0xAAAA_AAAA_AAAA_AAAA) / 2) (omega arith) (omega arith); most = omega arith }
+returns c = record { bits = at_top c.args.word c.min.result (omega arith) (omega arith); most = omega arith }
