@@ -43,9 +43,6 @@ module _ (b : ErrorBound) (last : ℕ) where
   pub opened-allowed : (m : MacaqueV) → new_answer b (On last) ≡ answered m → bound_allowed b ≡ true
   opened-allowed m h = not-false (bound_allowed b) (new_told m h).0.0
 
-  pub opened-bound : (m : MacaqueV) → new_answer b (On last) ≡ answered m → m.error_bound ≡ b
-  opened-bound m h = ap (λ (w : MacaqueV). w.error_bound) (new_told m h).1
-
   pub unopened : (f : Fault) → new_answer b (On last) ≡ refused f → verdict (bound_causes b) ≡ refused f
   unfolding new_answer
   unopened f h = turned (bound_causes b) (writer_of b false (opened (On last))) f (sym h)

@@ -1,17 +1,13 @@
--- What the writing call says and leaves, with the law that its results are told apart. Assumes nothing.
-use Rattle.std.specs.Prelude.{◌≡◌, refl, not, ◌||◌, List, [], ◌∷◌, ◌++◌, ℕ, ltb, length, drop}
-use Rattle.std.proofs.Common.{ap}
-use Rattle.models.specs.Answers.{Said, answered, refused, Cause, ◌when◌, judge, judged, judged_memory, Injective, told-apart}
+-- What the writing call answers and leaves. Assumes nothing.
+use Rattle.std.specs.Prelude.{not, ◌||◌, List, [], ◌∷◌, ◌++◌, ℕ, ltb, length, drop}
+use Rattle.models.specs.Answers.{Said, refused, Cause, ◌when◌, judge, judged, judged_memory}
 use Rattle.models.specs.Bound.{bound_allowed}
-use Rattle.models.specs.Refusals.{refusal-told, unsaid, fault_of}
 use Rattle.models.specs.declared.ErrorBound.{ErrorBound}
 use Rattle.stream.specs.Format.{State}
 use Rattle.macaque_v.specs.State.{Known, ends_in}
 use Rattle.parameters.specs.Forms.{form_bytes}
 use Rattle.segments.specs.Segment.{most_residuals, last_of, residuals_on, residual_bytes, form_of, segment_of}
 use Rattle.segments.specs.declared.Segment.{Segment}
-use Rattle.segments.specs.declared.SegmentAnswer.{SegmentAnswer}
-use Rattle.segments.specs.declared.SegmentAnswer.TheVariants as OfSegment
 
 -- ---- the bytes of both outputs, and what there is besides
 
@@ -63,16 +59,3 @@ values_after model first last b xs values_out residuals_out =
 unfoldable pub residuals_after : ℕ → ℕ → ℕ → ErrorBound → List ℕ → List ℕ → List ℕ → List ℕ
 residuals_after model first last b xs values_out residuals_out =
     judged_memory residuals_out (write_causes model b xs) (handed_residuals (stored_of model first last b xs) values_out residuals_out)
-
--- ---- what is said
-
-abbrev pub says_segment : SegmentAnswer → Said Segment
-says_segment (OfSegment.Written s) = answered s
-says_segment (OfSegment.Refused r) = refused (fault_of r)
-
-segment-told : (r : SegmentAnswer) → unsaid OfSegment.Written OfSegment.Refused (says_segment r) ≡ r
-segment-told (OfSegment.Written s) = refl
-segment-told (OfSegment.Refused r) = ap OfSegment.Refused (refusal-told r)
-
-pub says_segment-injective : Injective says_segment
-says_segment-injective = told-apart says_segment (unsaid OfSegment.Written OfSegment.Refused) segment-told

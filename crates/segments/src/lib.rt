@@ -1,16 +1,13 @@
 // Segments: a model's parameter bytes, and residuals as a stream that opens on the model's last value.
 #![tactic(auto)]
 
-ghost use Rattle.std.specs.Prelude.{◌≡◌, ◌++◌, ◌*◌, ◌≤◌, length, take, drop};
-ghost use Rattle.models.specs.Answers.{answered};
-ghost use Rattle.macaque_v.specs.Calls.{new_answer};
-ghost use Rattle.macaque_v.specs.declared.Opening.TheVariants.{On};
+ghost use Rattle.std.specs.Prelude.{◌≡◌, ◌*◌, ◌≤◌, length, take};
+ghost use Rattle.models.specs.Calls.{said_by};
 ghost use Rattle.segments.specs.Segment.{last_of, model_min, model_max, form_of, counted_bytes, most_residuals};
-ghost use Rattle.segments.specs.Calls.{front, handed_answer, handed_values, handed_residuals, says_segment, write_answer, values_after, residuals_after};
+ghost use Rattle.segments.specs.Calls.{front, handed_answer, handed_values, handed_residuals, write_answer, values_after, residuals_after};
 ghost use Rattle.segments.specs.Inner.Aside.{stored_by, counted_length};
 
-use macaque_v::read::OpenAnswer;
-use macaque_v::{MacaqueV, Opening, WriteAnswer};
+use macaque_v::{MacaqueV, Opening};
 use models::{ErrorBound, Refusal};
 use parameters::Form;
 
@@ -25,14 +22,9 @@ pub struct Segment {
     pub residuals_length: usize,
 }
 
-#[derive(Clone, Copy)]
-pub enum SegmentAnswer {
-    Written(Segment),
-    Refused(Refusal),
-}
-
 // Writes a segment's parameter bytes and residual bytes. Model 0 is PMC-Mean, whose last value is not
-// looked at, and 1 is Swing.
+// looked at, and 1 is Swing. The residuals' stream is made aside, so that both outputs are judged
+// before either is touched.
 pub fn write(
     model: u32,
     first_value: u32,
@@ -41,50 +33,20 @@ pub fn write(
     residuals: &[u32],
     values_out: &mut [u8],
     residuals_out: &mut [u8],
-) -> SegmentAnswer
-    ensures answer { says_segment result ≡ write_answer model first_value last_value error_bound residuals.now values_out.old residuals_out.old }
+) -> Result<Segment, Refusal>
+    ensures answer { said_by result ≡ write_answer model first_value last_value error_bound residuals.now values_out.old residuals_out.old }
     ensures values { values_out.new ≡ values_after model first_value last_value error_bound residuals.now values_out.old residuals_out.old }
     ensures bytes { residuals_out.new ≡ residuals_after model first_value last_value error_bound residuals.now values_out.old residuals_out.old }
 {
     let last = last_of(model, first_value, last_value);
-    match MacaqueV::new(error_bound, Opening::On(last)) {
-        OpenAnswer::Refused(r) => SegmentAnswer::Refused(r),
-        OpenAnswer::Opened(writer) => write_with(
-            writer,
-            model,
-            first_value,
-            last_value,
-            residuals,
-            values_out,
-            residuals_out,
-        ),
-    }
-}
-
-// The same with the writer that the residuals' stream begins with. The stream is made aside, so that
-// both outputs are judged before either is touched.
-fn write_with(
-    writer: MacaqueV,
-    model: u32,
-    first_value: u32,
-    last_value: u32,
-    residuals: &[u32],
-    values_out: &mut [u8],
-    residuals_out: &mut [u8],
-) -> SegmentAnswer
-    requires { new_answer writer.error_bound (On (last_of model first_value last_value)) ≡ answered writer }
-    ensures answer { says_segment result ≡ write_answer model first_value last_value writer.error_bound residuals.now values_out.old residuals_out.old }
-    ensures values { values_out.new ≡ values_after model first_value last_value writer.error_bound residuals.now values_out.old residuals_out.old }
-    ensures bytes { residuals_out.new ≡ residuals_after model first_value last_value writer.error_bound residuals.now values_out.old residuals_out.old }
-{
-    let count = residuals.len();
-    if (1 < model) | (MacaqueV::MOST_RESIDUALS < count) {
-        return SegmentAnswer::Refused(Refusal::OverLimit);
+    let writer = MacaqueV::new(error_bound, Opening::On(last))?;
+    if (1 < model) | (MacaqueV::MOST_RESIDUALS < residuals.len()) {
+        return Err(Refusal::OverLimit);
     }
     let mut stream = [0u8; 1403];
     match writer.compress_values(residuals, &mut stream) {
-        WriteAnswer::Refused(r, _) => SegmentAnswer::Refused(r),
-        WriteAnswer::Written(after) => hand_out(
+        Err(e) => Err(e.cause),
+        Ok(after) => hand_out(
             model,
             first_value,
             last_value,
@@ -105,11 +67,11 @@ fn hand_out(
     stream: &[u8],
     values_out: &mut [u8],
     residuals_out: &mut [u8],
-) -> SegmentAnswer
+) -> Result<Segment, Refusal>
     requires in_stream { after.place ≤ 8 * length stream.now }
     requires few { after.length ≤ most_residuals }
     requires short { length stream.now ≤ 1403 }
-    ensures answer { says_segment result ≡ handed_answer (stored_by model first_value last_value after stream.now) values_out.old residuals_out.old }
+    ensures answer { said_by result ≡ handed_answer (stored_by model first_value last_value after stream.now) values_out.old residuals_out.old }
     ensures values { values_out.new ≡ handed_values (stored_by model first_value last_value after stream.now) values_out.old residuals_out.old }
     ensures bytes { residuals_out.new ≡ handed_residuals (stored_by model first_value last_value after stream.now) values_out.old residuals_out.old }
 {
@@ -125,11 +87,11 @@ fn hand_out(
     let values_length = parameters::length_of(form);
     let residuals_length = counted_length(used, count);
     if (values_out.len() < values_length) | (residuals_out.len() < residuals_length) {
-        return SegmentAnswer::Refused(Refusal::OutputTooShort);
+        return Err(Refusal::OutputTooShort);
     }
     parameters::put(form, values_out);
     put_counted(stream, used, count, residuals_out);
-    SegmentAnswer::Written(Segment {
+    Ok(Segment {
         min_value: models::min_bits(min_of(model, first_value, last_value), after.min_value),
         max_value: models::max_bits(max_of(model, first_value, last_value), after.max_value),
         values_length,
@@ -139,13 +101,15 @@ fn hand_out(
 
 // ---- the model's own
 
+#[tactic(auto, unfolding(crate::specs::Segment::last_of))]
 fn last_of(model: u32, first_value: u32, last_value: u32) -> u32
     ensures { result ≡ last_of model first_value last_value }
 {
     if model == 0 {
-        return models::plain(first_value);
+        models::plain(first_value)
+    } else {
+        models::plain(last_value)
     }
-    models::plain(last_value)
 }
 
 fn min_of(model: u32, first_value: u32, last_value: u32) -> u32
@@ -153,9 +117,10 @@ fn min_of(model: u32, first_value: u32, last_value: u32) -> u32
 {
     let first = models::plain(first_value);
     if model == 0 {
-        return first;
+        first
+    } else {
+        models::min_bits(first, models::plain(last_value))
     }
-    models::min_bits(first, models::plain(last_value))
 }
 
 fn max_of(model: u32, first_value: u32, last_value: u32) -> u32
@@ -163,18 +128,21 @@ fn max_of(model: u32, first_value: u32, last_value: u32) -> u32
 {
     let first = models::plain(first_value);
     if model == 0 {
-        return first;
+        first
+    } else {
+        models::max_bits(first, models::plain(last_value))
     }
-    models::max_bits(first, models::plain(last_value))
 }
 
+#[tactic(auto, unfolding(crate::specs::Segment::form_of))]
 fn form_of(model: u32, first_value: u32, last_value: u32, low: u32, high: u32) -> Form
     ensures { result ≡ form_of model first_value last_value low high }
 {
     if model == 0 {
-        return parameters::form_for_pmc_mean(first_value, low, high);
+        parameters::form_for_pmc_mean(first_value, low, high)
+    } else {
+        parameters::form_for_swing(first_value, last_value, low, high)
     }
-    parameters::form_for_swing(first_value, last_value, low, high)
 }
 
 // ---- a stream's bytes and their count
@@ -184,12 +152,10 @@ fn counted_length(used: usize, count: usize) -> usize
     requires { used ≤ 1403 }
     ensures { result ≡ counted_length used count }
 {
-    if count == 0 {
-        return 0;
-    }
-    used + 1
+    if count == 0 { 0 } else { used + 1 }
 }
 
+#[tactic(auto, unfolding(crate::specs::Segment::counted_bytes))]
 fn put_counted(stream: &[u8], used: usize, count: usize, out: &mut [u8])
     requires in_stream { used ≤ length stream.now }
     requires short { used ≤ 1403 }
@@ -200,19 +166,6 @@ fn put_counted(stream: &[u8], used: usize, count: usize, out: &mut [u8])
     if count == 0 {
         return;
     }
+    out[..used].copy_from_slice(&stream[..used]);
     out[used] = count as u8;
-    copy(stream, used, out);
-}
-
-// The first n bytes to the front of an output that holds them.
-fn copy(bytes: &[u8], n: usize, out: &mut [u8])
-    requires in_bytes { n ≤ length bytes.now }
-    requires room { n ≤ length out.old }
-    ensures { out.new ≡ take n bytes.now ++ drop n out.old }
-{
-    let mut i: usize = 0;
-    while i < n {
-        out[i] = bytes[i];
-        i += 1;
-    }
 }
