@@ -1,7 +1,7 @@
 // Lists the stream in standard input on standard output: document 01, "The listing".
 #![tactic(auto)]
 
-use listing::{Judged, RowAnswer, line};
+use listing::line;
 use models::Refusal;
 
 const STDIN_FILENO: i32 = 0;
@@ -17,13 +17,11 @@ fn main() {
 
 fn list(input: &[u8]) {
     match listing::judge(input) {
-        Judged::Refused(cause) => {
-            refuse(cause);
-        }
-        Judged::Rows(count) => {
-            if 4 <= input.len() {
+        Err(cause) => refuse(cause),
+        Ok(count) => {
+            if let Some(stream) = input.get(4..) {
                 io::write_all(STDOUT_FILENO, &listing::header());
-                rows(&input[4..], count);
+                rows(stream, count);
             }
         }
     }
@@ -39,18 +37,12 @@ fn refuse(cause: Refusal) {
 fn rows(stream: &[u8], count: usize) {
     let mut line = [0u8; 80];
     let mut at = listing::start();
-    let mut i: usize = 0;
-    while i < count {
-        match listing::row(stream, at, &mut line) {
-            RowAnswer::Refused(_) => {
-                return;
-            }
-            RowAnswer::Row { length, next } => {
-                io::write_all(STDOUT_FILENO, line::front(&line, length));
-                at = next;
-                i += 1;
-            }
-        }
+    for _ in 0..count {
+        let Ok(row) = listing::row(stream, at, &mut line) else {
+            return;
+        };
+        io::write_all(STDOUT_FILENO, line::front(&line, row.length));
+        at = row.next;
     }
     let n = listing::total(at.place, &mut line);
     io::write_all(STDOUT_FILENO, line::front(&line, n));

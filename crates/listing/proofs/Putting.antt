@@ -1,14 +1,18 @@
 -- Text that is put into a line, byte after byte and part after part. Assumes nothing.
 use mathlib.Core.Path.{◌≡◌, refl, sym, ap, ap₂, ◌∙◌}
 use mathlib.Core.Bool.{Bool, true, false, cond}
-use mathlib.Core.List.{List, [], ◌∷◌, ◌++◌}
-use Prim.Native.Nat.{ℕ, zero, suc, ◌+◌, ◌/◌, ◌%◌, ◌≤◌, ◌<◌}
+use mathlib.Core.List.{List, [], ◌∷◌, ◌++◌, append_assoc}
+use Prim.Native.Nat.{ℕ, zero, suc, ◌+◌, ◌-◌, ◌*◌, ◌/◌, ◌%◌, ◌^◌, ◌≤◌, ◌<◌}
 use native.Mathlib.Nat.{add-zero, zero-add}
+use Rattle.std.proofs.Math.Nat.{one-le-pow, pow-succ'}
 use native.Mathlib.Omega.{arith}
 use borrow.Author.Tests.{lt-ltb, le-ltb}
 use lib.Dec.{ltb, lit≤}
-use lib.ListN.{length, take, drop, get_or, set, length-append}
-use lib.Seq.{sets, sets-eq, set_comm, drop-cons, take_at}
+use lib.ListN.{length, take, drop, set, length-append}
+use lib.Seq.{sets, sets-eq, set_comm, drop-drop, take_at}
+use borrow.Rule.Slice.PartMut.{put_mid}
+use Rattle.std.specs.Prelude.{Option, Some, None}
+use Rattle.std.specs.Option.{unwrap_or, IfNone, IfSome}
 use Rattle.models.specs.declared.Fault.{Fault}
 use Rattle.listing.specs.Text.{digit_text, digits_of, places_up_to, places, decimal, hexadecimal, kind_word, lead_text, total_word, refused_word}
 use Rattle.listing.specs.Text.{field, last_field, row_text, total_text, refused_text, laid}
@@ -53,14 +57,14 @@ put-laid {old} {new} {r} t P = (P.ends ∙ zero-add (length t), P.is)
 
 -- ---- words
 
--- one byte of a word
-pub word-step : (l : List ℕ) (at i : ℕ) (bytes : List ℕ) → i < length bytes
-    → sets (set l (at + i) (get_or bytes i 0)) (at + (i + 1)) (drop (i + 1) bytes) ≡ sets l (at + i) (drop i bytes)
-word-step l at i bytes h =
-    let e : i + 1 ≡ suc i = omega arith in
-    let f : at + (i + 1) ≡ suc (at + i) = omega arith in
-    ap₂ (λ (k j : ℕ). sets (set l (at + i) (get_or bytes i 0)) k (drop j bytes)) f e
-    ∙ ap (sets l (at + i)) (sym (drop-cons bytes i 0 h))
+-- a word in the place of as many bytes
+pub word-put : (l : List ℕ) (at : ℕ) (bytes : List ℕ) → at + length bytes ≤ length l → put_mid at (at + length bytes - at) l bytes ≡ sets l at bytes
+word-put l at bytes h =
+    let k : at + length bytes - at ≡ length bytes = omega arith in
+    rw k
+    (ap (λ (rest : List ℕ). take at l ++ (bytes ++ rest)) (drop-drop (length bytes) at l)
+    ∙ sym (append_assoc (take at l) bytes (drop (at + length bytes) l))
+    ∙ sym (sets-eq bytes l at h))
 
 -- ---- numbers
 
@@ -81,14 +85,23 @@ digits_step l at b k n =
     ∙ ap (λ (j : ℕ). set (sets l at ds) (at + j) d) (sym e)
     ∙ sym (sets-append l at ds (d ∷ []))
 
-pub places-short : (m n : ℕ) → n < 10 → places_up_to m n ≡ 1
+-- a number between two powers of ten has one digit more than the lower one's zeros
+pub places-between : (m k n : ℕ) → 10 ^ k ≤ n → n < 10 * 10 ^ k → k ≤ m → places_up_to m n ≡ suc k
 unfolding places_up_to
-places-short zero n h = refl
-places-short (suc m) n h = rw (lt-ltb n 10 h)
+places-between zero zero n low high h = refl
+places-between zero (suc k) n low high h = absurd (omega arith)
+places-between (suc m) zero n low high h = rw (lt-ltb n 10 (omega arith))
+places-between (suc m) (suc k) n low high h =
+    let some : 1 ≤ 10 ^ k = one-le-pow k 10 (omega arith) in
+    let more : 10 ^ suc k ≡ 10 * 10 ^ k = pow-succ' 10 k in
+    rw (le-ltb n 10 (omega arith)) (ap suc (places-between m k (n / 10) (omega arith) (omega arith) (omega arith)))
 
-pub places-long : (m n : ℕ) → 10 ≤ n → places_up_to (suc m) n ≡ suc (places_up_to m (n / 10))
+-- and 0 has one
+pub places-by : (n : ℕ) (o : Option ℕ) → IfNone o (n ≡ 0) → IfSome o (λ k. 10 ^ k ≤ n) → IfSome o (λ k. n < 10 * 10 ^ k) → IfSome o (λ k. k < 20)
+    → (unwrap_or o 0 + 1 ≡ places n) × (unwrap_or o 0 + 1 ≤ 20)
 unfolding places_up_to
-places-long m n h = rw (le-ltb n 10 h)
+places-by n None none low high most = (rw none, omega arith)
+places-by n (Some k) none low high most = (omega (arith, places-between 19 k n low high (omega arith)), omega arith)
 
 -- ---- how long a line is: no more than 80 bytes
 

@@ -1,9 +1,7 @@
--- What the calls answer and what they leave in the lent line, each map of answers with the law that it tells its results apart. Assumes nothing.
-use Rattle.std.specs.Prelude.{◌≡◌, refl, Bool, not, ◌&&◌, ◌||◌, List, [], ◌∷◌, ℕ, ◌+◌, ◌*◌, leb, ltb, length}
-use Rattle.std.proofs.Common.{ap}
-use Rattle.models.specs.Answers.{Said, answered, refused, Cause, ◌when◌, judge, Injective, told-apart, keeping}
+-- What the calls answer and what they leave in the lent line. Assumes nothing.
+use Rattle.std.specs.Prelude.{Bool, not, ◌&&◌, ◌||◌, List, [], ◌∷◌, ℕ, ◌+◌, ◌*◌, leb, ltb, length}
+use Rattle.models.specs.Answers.{Said, answered, refused, Cause, ◌when◌, judge, keeping}
 use Rattle.models.specs.Limits.{most_values}
-use Rattle.models.specs.Refusals.{refusal-told, unsaid, fault_of}
 use Rattle.stream.specs.Format.{macaque, window_in, unset, is_raw}
 use Rattle.stream.specs.Calls.{fault_at}
 use Rattle.stream.specs.Read as stream
@@ -14,10 +12,8 @@ use Rattle.listing.specs.Text.{row_text, laid}
 use Rattle.listing.specs.Rows.{listed, row_of}
 use Rattle.listing.specs.Listing.{count_in, stream_in, input_causes, read_whole}
 use Rattle.listing.specs.declared.Fields.{Fields}
-use Rattle.listing.specs.declared.Judged.{Judged}
-use Rattle.listing.specs.declared.Judged.TheVariants as OfJudged
-use Rattle.listing.specs.declared.RowAnswer.{RowAnswer}
-use Rattle.listing.specs.declared.RowAnswer.TheVariants as OfRow
+-- the length of a row's line, and where reading stands behind it
+pub use Rattle.listing.specs.declared.RowLine.{RowLine}
 
 -- ---- judge: how many rows the listing of an input has
 
@@ -27,17 +23,6 @@ counted n (stopped f) = refused (fault_at f)
 
 unfoldable pub judge_answer : List ℕ → Said ℕ
 judge_answer input = judge refused (input_causes input) (counted (count_in input) (read_whole (count_in input) (stream_in input)))
-
-abbrev pub says_judged : Judged → Said ℕ
-says_judged (OfJudged.Rows n) = answered n
-says_judged (OfJudged.Refused r) = refused (fault_of r)
-
-judged-told : (r : Judged) → unsaid OfJudged.Rows OfJudged.Refused (says_judged r) ≡ r
-judged-told (OfJudged.Rows n) = refl
-judged-told (OfJudged.Refused r) = ap OfJudged.Refused (refusal-told r)
-
-pub says_judged-injective : Injective says_judged
-says_judged-injective = told-apart says_judged (unsaid OfJudged.Rows OfJudged.Refused) judged-told
 
 -- ---- row: the next value's line, and where reading stands behind it
 
@@ -66,11 +51,6 @@ found_by at bs (stream.halt n) = refused (fault_at (record { no = n; value = at.
 unfoldable pub row_found : List ℕ → Cursor → Said FoundRow
 row_found bytes at = found_by at (ahead bytes at) (step_at listed (state_at at) (ahead bytes at))
 
--- the length of its line, and where reading stands behind it
-pub record RowLine : Type 0 where
-  pub length : ℕ
-  pub next : Cursor
-
 abbrev pub row_causes : ℕ → Cursor → List Cause
 row_causes room at = 2 when not (may_stand room at) ∷ 3 when leb most_values at.count ∷ []
 
@@ -87,17 +67,3 @@ row_answer bytes at = judge refused (row_causes (length bytes) at) (line_of at (
 
 unfoldable pub row_memory : List ℕ → Cursor → List ℕ → List ℕ
 row_memory bytes at line = judge (keeping line) (row_causes (length bytes) at) (line_in line at (row_found bytes at))
-
-abbrev pub says_row : RowAnswer → Said RowLine
-says_row (OfRow.Row length next) = answered (record { length = length; next = next })
-says_row (OfRow.Refused r) = refused (fault_of r)
-
-abbrev row_back : RowLine → RowAnswer
-row_back l = OfRow.Row l.length l.next
-
-row_told : (r : RowAnswer) → unsaid row_back OfRow.Refused (says_row r) ≡ r
-row_told (OfRow.Row length next) = refl
-row_told (OfRow.Refused r) = ap OfRow.Refused (refusal-told r)
-
-pub says_row-injective : Injective says_row
-says_row-injective = told-apart says_row (unsaid row_back OfRow.Refused) row_told

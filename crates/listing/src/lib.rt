@@ -5,20 +5,21 @@
 ghost use Rattle.std.specs.Prelude.{◌≡◌, ◌+◌, ◌*◌, ◌≤◌, length};
 ghost use Rattle.coding.specs.Inner.Ahead.{bits_in as word_bits};
 ghost use Rattle.models.specs.Limits.{most_values};
+ghost use Rattle.models.specs.Calls.{said_by};
 ghost use Rattle.models.specs.Refusals.{fault_of};
 ghost use Rattle.macaque_v.specs.declared.Opening.TheVariants.{First};
 ghost use Rattle.macaque_v.specs.Read.{start_of};
 ghost use Rattle.listing.specs.Text.{header_text, total_text, refused_text, laid};
 ghost use Rattle.listing.specs.Rows.{kind_read};
 ghost use Rattle.listing.specs.Listing.{word_at, read_whole};
-ghost use Rattle.listing.specs.Calls.{counted, judge_answer, says_judged, may_stand, row_answer, row_memory, says_row};
+ghost use Rattle.listing.specs.Calls.{counted, judge_answer, may_stand, row_answer, row_memory};
 ghost use Rattle.listing.specs.Inner.Lines.{row_between};
 
 pub mod line;
 
 use coding::decode;
-use macaque_v::read_run::{Aim, Cursor, Run, Walk};
-use macaque_v::{MacaqueV, read_run};
+use macaque_v::read_run::{Aim, Cursor};
+use macaque_v::{MacaqueV, Opening, read, read_run};
 use models::Refusal;
 
 // How a value stands in the stream: in full, as a repeat, with a new window, or in the window that is kept.
@@ -41,35 +42,28 @@ pub struct Fields {
     pub value: u32,
 }
 
-// How many rows there are, or why there are none.
+// The length of a row's line, and where reading stands behind its value.
 #[derive(Clone, Copy)]
-pub enum Judged {
-    Rows(usize),
-    Refused(Refusal),
-}
-
-// The length of a row's line and where reading stands behind its value; or why there is no row.
-#[derive(Clone, Copy)]
-pub enum RowAnswer {
-    Row { length: usize, next: Cursor },
-    Refused(Refusal),
+pub struct RowLine {
+    pub length: usize,
+    pub next: Cursor,
 }
 
 // ---- the public calls
 
-// Judges a whole input: four bytes of count, then the stream.
-pub fn judge(input: &[u8]) -> Judged
-    ensures { says_judged result ≡ judge_answer input.now }
+// Judges a whole input, four bytes of count, then the stream: how many rows there are.
+pub fn judge(input: &[u8]) -> Result<usize, Refusal>
+    ensures { said_by result ≡ judge_answer input.now }
 {
     if 32768 < input.len() {
-        return Judged::Refused(Refusal::OverLimit);
+        return Err(Refusal::OverLimit);
     }
     if input.len() < 4 {
-        return Judged::Refused(Refusal::EndsEarly { value: 0, place: 0 });
+        return Err(Refusal::EndsEarly { value: 0, place: 0 });
     }
     let count = word_at(input, 0) as usize;
     if MacaqueV::MOST_VALUES < count {
-        return Judged::Refused(Refusal::OverLimit);
+        return Err(Refusal::OverLimit);
     }
     judge_stream(&input[4..], count)
 }
@@ -85,33 +79,23 @@ pub fn header() -> [u8; 24]
 pub fn start() -> Cursor
     ensures { result ≡ start_of First }
 {
-    Cursor {
-        last: 0,
-        lead: MacaqueV::OPENING_LEADING,
-        trail: MacaqueV::OPENING_TRAILING,
-        place: 0,
-        count: 0,
-    }
+    read::start(Opening::First)
 }
 
 // The line of the next value.
-pub fn row(stream: &[u8], at: Cursor, line: &mut [u8; 80]) -> RowAnswer
-    ensures answer { says_row result ≡ row_answer stream.now at }
+pub fn row(stream: &[u8], at: Cursor, line: &mut [u8; 80]) -> Result<RowLine, Refusal>
+    ensures answer { said_by result ≡ row_answer stream.now at }
     ensures text { line.new ≡ row_memory stream.now at line.old }
 {
     if !may_stand(stream.len(), at) {
-        return RowAnswer::Refused(Refusal::StateNotAllowed);
+        return Err(Refusal::StateNotAllowed);
     }
     if MacaqueV::MOST_VALUES <= at.count {
-        return RowAnswer::Refused(Refusal::OverLimit);
+        return Err(Refusal::OverLimit);
     }
-    match read_run::next(stream, true, at) {
-        Run::Refused(r) => RowAnswer::Refused(r),
-        Run::To(next) => {
-            let length = line::row(at.count, row_between(stream, at, next), line);
-            RowAnswer::Row { length, next }
-        }
-    }
+    let next = read_run::next(stream, true, at)?;
+    let length = line::row(at.count, row_between(stream, at, next), line);
+    Ok(RowLine { length, next })
 }
 
 // The last line, by the bits of all rows.
@@ -138,24 +122,15 @@ pub fn word_at(input: &[u8], at: usize) -> u32
     requires { at + 4 ≤ length input.now }
     ensures { result ≡ word_at input.now at }
 {
-    joined(input[at], input[at + 1], input[at + 2], input[at + 3])
+    u32::from_le_bytes([input[at], input[at + 1], input[at + 2], input[at + 3]])
 }
 
-// Four bytes, the lowest first.
-fn joined(a: u8, b: u8, c: u8, d: u8) -> u32
-    ensures { result ≡ a + 256 * (b + 256 * (c + 256 * d)) }
-{
-    (a as u32) + 256 * ((b as u32) + 256 * ((c as u32) + 256 * (d as u32)))
-}
-
-fn judge_stream(stream: &[u8], count: usize) -> Judged
+fn judge_stream(stream: &[u8], count: usize) -> Result<usize, Refusal>
     requires { count ≤ most_values }
-    ensures { says_judged result ≡ counted count (read_whole count stream.now) }
+    ensures { said_by result ≡ counted count (read_whole count stream.now) }
 {
-    match read_run::go_to_end(stream, true, start(), count, Aim::Nothing) {
-        Walk::Refused(r) => Judged::Refused(r),
-        Walk::To(_, _) => Judged::Rows(count),
-    }
+    read_run::go_to_end(stream, true, start(), count, Aim::Nothing)?;
+    Ok(count)
 }
 
 // ---- one row

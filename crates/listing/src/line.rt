@@ -6,7 +6,7 @@ ghost use Rattle.listing.specs.Text.{digit_text, digits_of, places as places_of,
 ghost use Rattle.listing.specs.Inner.Lines.{Put};
 
 use crate::{Fields, Kind};
-use models::Refusal;
+use models::{Fault, Refusal};
 
 // ---- a row: 77 bytes at the most
 
@@ -27,12 +27,13 @@ fn kind_word(kind: Kind, line: &mut [u8; 80], at: usize) -> usize
     ensures put { Put line.old at (field (kind_word kind)) line.new result }
     ensures most { result ≤ at + 5 }
 {
-    match kind {
-        Kind::Raw => word(b"raw ", line, at),
-        Kind::Same => word(b"same ", line, at),
-        Kind::New => word(b"new ", line, at),
-        Kind::Keep => word(b"keep ", line, at),
-    }
+    let text: &[u8] = match kind {
+        Kind::Raw => b"raw ",
+        Kind::Same => b"same ",
+        Kind::New => b"new ",
+        Kind::Keep => b"keep ",
+    };
+    word(text, line, at)
 }
 
 fn lead(kind: Kind, lead: u32, line: &mut [u8; 80], at: usize) -> usize
@@ -41,10 +42,8 @@ fn lead(kind: Kind, lead: u32, line: &mut [u8; 80], at: usize) -> usize
     ensures most { result ≤ at + 21 }
 {
     match kind {
-        Kind::Raw => word(b"- ", line, at),
-        Kind::Same => word(b"- ", line, at),
-        Kind::New => number(lead as usize, b' ', line, at),
-        Kind::Keep => number(lead as usize, b' ', line, at),
+        Kind::Raw | Kind::Same => word(b"- ", line, at),
+        Kind::New | Kind::Keep => number(lead as usize, b' ', line, at),
     }
 }
 
@@ -54,7 +53,7 @@ pub fn refused(cause: Refusal, line: &mut [u8; 80], at: usize) -> usize
     requires { at ≤ 9 }
     ensures { Put line.old at (refused_text (fault_of cause)) line.new result }
 {
-    let fault = models::fault_of(cause);
+    let fault = Fault::from(cause);
     let a = word(b"refused ", line, at);
     let b = number(fault.number as usize, b' ', line, a);
     let c = number(fault.value as usize, b' ', line, b);
@@ -67,16 +66,7 @@ pub fn refused(cause: Refusal, line: &mut [u8; 80], at: usize) -> usize
 pub fn front<'a>(line: &'a [u8; 80], n: usize) -> &'a [u8]
     ensures { result.now ≡ take n line.now }
 {
-    front_of(line, n)
-}
-
-fn front_of<'a>(bytes: &'a [u8], n: usize) -> &'a [u8]
-    ensures { result.now ≡ take n bytes.now }
-{
-    if bytes.len() < n {
-        return bytes;
-    }
-    &bytes[..n]
+    &line[..n.min(80)]
 }
 
 // ---- words and numbers
@@ -85,12 +75,9 @@ pub fn word(bytes: &[u8], line: &mut [u8; 80], at: usize) -> usize
     requires { at + length bytes.now ≤ 80 }
     ensures { Put line.old at bytes.now line.new result }
 {
-    let mut i: usize = 0;
-    while i < bytes.len() {
-        line[at + i] = bytes[i];
-        i += 1;
-    }
-    at + i
+    let end = at + bytes.len();
+    line[at..end].copy_from_slice(bytes);
+    end
 }
 
 // A number in decimal digits, and the byte behind them.
@@ -120,16 +107,7 @@ pub fn value(value: u32, end: u8, line: &mut [u8; 80], at: usize) -> usize
 fn places(n: usize) -> usize
     ensures { (result ≡ places_of n) × (result ≤ 20) }
 {
-    let mut rest = n;
-    let mut i: usize = 0;
-    while i < 19 {
-        if rest < 10 {
-            return i + 1;
-        }
-        rest = rest / 10;
-        i += 1;
-    }
-    20
+    n.checked_ilog10().unwrap_or(0) as usize + 1
 }
 
 // The last k digits of n to the base, the last of them first.
@@ -138,11 +116,9 @@ fn digits(base: usize, k: usize, n: usize, line: &mut [u8; 80], at: usize)
     ensures { line.new ≡ sets line.old at (digits_of base k n) }
 {
     let mut rest = n;
-    let mut i = k;
-    while 0 < i {
-        i -= 1;
+    for i in (0..k).rev() {
         line[at + i] = digit(rest % base);
-        rest = rest / base;
+        rest /= base;
     }
 }
 
@@ -150,8 +126,8 @@ fn digit(d: usize) -> u8
     requires { d < 16 }
     ensures { result ≡ digit_text d }
 {
-    if d < 10 {
-        return 48 + d as u8;
+    match d {
+        0..=9 => b'0' + d as u8,
+        _ => b'A' + (d - 10) as u8,
     }
-    55 + d as u8
 }

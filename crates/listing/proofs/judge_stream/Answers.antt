@@ -1,8 +1,7 @@
 -- `listing::judge_stream` meets its contract. Assumes nothing.
-use mathlib.Core.Path.{sym, ap, ◌∙◌, subst}
+use mathlib.Core.Path.{sym, ap, subst}
 use mathlib.Core.Bool.{true}
 use native.Mathlib.Omega.{arith}
-use Rattle.models.specs.Answers.{refused}
 use Rattle.macaque_v.specs.Inner.ReadRun.{ReadableAt, WholeSays}
 use Rattle.macaque_v.specs.Read.{start_of}
 use Rattle.macaque_v.specs.declared.Opening.TheVariants.{First}
@@ -26,14 +25,8 @@ go_to_end-requires c =
     let e = c.start.ensures in
     (subst (ReadableAt a.stream.now) (sym e) (start-readable a.stream.now First (omega arith)), omega (arith, ap (λ (at : Cursor). at.count) e))
 
-pub returns-in-Refused : goal.returns-in-Refused
-returns-in-Refused c =
+pub returns : goal.returns
+returns c =
     let a = c.args in
-    let says = subst (WholeSays true a.stream.now (start_of First) a.count OfAim.Nothing) c.in-Refused.is (told (goal.at.returns-in-Refused c).After-go_to_end) in
-    sym (ap (counted a.count) says.stops ∙ ap refused says.numbered)
-
-pub returns-in-To : goal.returns-in-To
-returns-in-To c =
-    let a = c.args in
-    let says = subst (WholeSays true a.stream.now (start_of First) a.count OfAim.Nothing) c.in-To.is (told (goal.at.returns-in-To c).After-go_to_end) in
+    let says = subst (WholeSays true a.stream.now (start_of First) a.count OfAim.Nothing) c.in_ok-go_to_end.was (told (goal.at.returns c).After-go_to_end) in
     sym (ap (counted a.count) (ends-right says.0.reads says.1))

@@ -6,11 +6,13 @@ use Prim.Native.Nat.{ℕ}
 use native.Mathlib.Omega.{arith}
 use borrow.Author.Tests.{le-leb, lt-leb}
 use lib.ListN.{length}
+use Rattle.std.specs.Prelude.{Result}
+use Rattle.std.proofs.lemmas.Result.{err_from_is_err_and}
 use Rattle.models.specs.Answers.{answered, judge}
 use Rattle.models.specs.Limits.{most_values}
+use Rattle.models.specs.declared.Refusal.{Refusal}
 use Rattle.macaque_v.specs.Inner.ReadRun.{NextSays}
 use Rattle.macaque_v.specs.declared.read_run.Cursor.{Cursor}
-use Rattle.macaque_v.specs.declared.read_run.Run.{Run}
 use Rattle.listing.specs.Text.{row_text, laid}
 use Rattle.listing.specs.Calls.{may_stand, row_found, line_of, line_in, row_answer, row_memory}
 use Rattle.listing.specs.declared.Fields.{Fields}
@@ -39,7 +41,7 @@ module _ (c : Else-at-ge-MOST_VALUES) where
 
 -- what the reading step says
 module _ (c : After-next) where
-  told : (r : Run) → c.next.result ≡ r → NextSays true c.args.stream.now c.args.at r
+  told : (r : Result Cursor Refusal) → c.next.result ≡ r → NextSays true c.args.stream.now c.args.at r
   told r e = subst (NextSays true c.args.stream.now c.args.at) e c.next.ensures
 
 pub returns-then-not-may_stand : goal.returns-then-not-may_stand
@@ -58,27 +60,38 @@ returns-then-at-ge-MOST_VALUES c =
     record { answer = rw (e, full); text = rw (e, full) }
 
 pub next-requires : goal.next-requires
-next-requires c = (stands (bytes (goal.at.next-requires c).Else-at-ge-MOST_VALUES) (at (goal.at.next-requires c).Else-at-ge-MOST_VALUES) (allowed (goal.at.next-requires c).Else-at-ge-MOST_VALUES) (omega arith), omega arith)
+next-requires c =
+    let a = c.args in
+    (stands a.stream.now a.at (allowed (goal.at.next-requires c).Else-at-ge-MOST_VALUES) (omega arith), omega arith)
 
 pub row_between-requires : goal.row_between-requires
 row_between-requires c =
-    let n = c in
-    let e = c in
-    ((stands (bytes (goal.at.row_between-requires e).Else-at-ge-MOST_VALUES) (at (goal.at.row_between-requires e).Else-at-ge-MOST_VALUES) (allowed (goal.at.row_between-requires e).Else-at-ge-MOST_VALUES) (omega arith)).within, (found (bytes (goal.at.row_between-requires e).Else-at-ge-MOST_VALUES) (at (goal.at.row_between-requires e).Else-at-ge-MOST_VALUES) _ (told (goal.at.row_between-requires n).After-next _ c.in-To.is).0).0)
+    let a = c.args in
+    let s = stands a.stream.now a.at (allowed (goal.at.row_between-requires c).Else-at-ge-MOST_VALUES) (omega arith) in
+    (s.within, (found a.stream.now a.at _ (told (goal.at.row_between-requires c).After-next _ c.in_ok-next.was).0).0)
 
-pub returns-in-Refused : goal.returns-in-Refused
-returns-in-Refused c =
-    let n = c in
-    let e = c in
-    let f = unfound (bytes (goal.at.returns-in-Refused e).Else-at-ge-MOST_VALUES) (at (goal.at.returns-in-Refused e).Else-at-ge-MOST_VALUES) c.in-Refused.r (told (goal.at.returns-in-Refused n).After-next _ c.in-Refused.is) in
-    record { answer = sym (answers (goal.at.returns-in-Refused e).Else-at-ge-MOST_VALUES ∙ ap (line_of (at (goal.at.returns-in-Refused e).Else-at-ge-MOST_VALUES)) f); text = sym (leaves (goal.at.returns-in-Refused e).Else-at-ge-MOST_VALUES _ ∙ ap (line_in _ (at (goal.at.returns-in-Refused e).Else-at-ge-MOST_VALUES)) f) }
+pub returns-in_err-next : goal.returns-in_err-next
+returns-in_err-next c =
+    let a = c.args in
+    let e = (goal.at.returns-in_err-next c).Else-at-ge-MOST_VALUES in
+    let f = unfound a.stream.now a.at c.in_err-next.field-0.0 (told (goal.at.returns-in_err-next c).After-next _ c.in_err-next.was) in
+    let p = err_from_is_err_and c.from_residual.result c.from_residual.ensures.1 in
+    record { answer = rw (p.1, p.2) (sym (answers e ∙ ap (line_of a.at) f)); text = sym (leaves e _ ∙ ap (line_in _ a.at) f) }
 
-pub returns-in-To : goal.returns-in-To
-returns-in-To c =
-    let n = c in
-    let e = c in
-    let next = c.in-To.next in
-    let f = (found (bytes (goal.at.returns-in-To e).Else-at-ge-MOST_VALUES) (at (goal.at.returns-in-To e).Else-at-ge-MOST_VALUES) next (told (goal.at.returns-in-To n).After-next _ c.in-To.is).0).1 in
+pub returns : goal.returns
+returns c =
+    let a = c.args in
+    let e = (goal.at.returns c).Else-at-ge-MOST_VALUES in
+    let next = c.in_ok-next.next in
+    let f = (found a.stream.now a.at next (told (goal.at.returns c).After-next _ c.in_ok-next.was).0).1 in
     let is = c.row_between.ensures in
-    let line = e.args.line.now in
-    let l = c.row-length.ensures in record { answer = ap (λ (k : ℕ). answered (record { length = k; next = next })) (l.length ∙ ap (λ (r : Fields). length (row_text (at (goal.at.returns-in-To e).Else-at-ge-MOST_VALUES).count r)) is) ∙ sym (answers (goal.at.returns-in-To e).Else-at-ge-MOST_VALUES ∙ ap (line_of (at (goal.at.returns-in-To e).Else-at-ge-MOST_VALUES)) f); text = l.text ∙ ap (λ (r : Fields). laid (row_text (at (goal.at.returns-in-To e).Else-at-ge-MOST_VALUES).count r) line) is ∙ sym (leaves (goal.at.returns-in-To e).Else-at-ge-MOST_VALUES line ∙ ap (line_in line (at (goal.at.returns-in-To e).Else-at-ge-MOST_VALUES)) f) }
+    let l = c.row-length.ensures in
+    record {
+      answer =
+          ap (λ (k : ℕ). answered (record { length = k; next = next })) (l.length ∙ ap (λ (r : Fields). length (row_text a.at.count r)) is)
+          ∙ sym (answers e ∙ ap (line_of a.at) f);
+      text =
+          l.text
+          ∙ ap (λ (r : Fields). laid (row_text a.at.count r) a.line.now) is
+          ∙ sym (leaves e a.line.now ∙ ap (line_in a.line.now a.at) f);
+    }

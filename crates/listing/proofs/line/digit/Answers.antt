@@ -1,12 +1,13 @@
 -- `listing::line::digit` meets its contract. Assumes nothing.
+use native.Mathlib.Omega.{arith}
 use borrow.Author.Tests.{lt-ltb, le-ltb}
 use Rattle.listing.specs.Text.{digit_text}
 use Rattle.listing.proofs.line.digit.Goals as goal
 
-pub returns-then-d-lt10 : goal.returns-then-d-lt10
+pub returns-in-0-to-9 : goal.returns-in-0-to-9
 unfolding digit_text
-returns-then-d-lt10 c = rw (lt-ltb c.args.d 10 c.if-d-lt10.true)
+returns-in-0-to-9 c = rw (lt-ltb c.args.d 10 (omega arith))
 
-pub returns : goal.returns
+pub returns-in_default : goal.returns-in_default
 unfolding digit_text
-returns c = rw (le-ltb c.args.d 10 c.if-d-lt10.false)
+returns-in_default c = rw (le-ltb c.args.d 10 (omega arith)) (omega arith)

@@ -16,7 +16,7 @@ returns c =
     let w = c in
     let k = c in
     let a = k.args in
-    let f = k.fault_of-fault.result in
+    let f = k.from-fault.result in
     let t1 : List ℕ = field refused_word in
     let t2 : List ℕ = field (decimal f.number) in
     let t3 : List ℕ = field (decimal f.value) in
@@ -24,4 +24,4 @@ returns c =
     let p2 = put_then t1 t2 w.word-a.ensures n.number-b.ensures.put in
     let p3 = put_then (t1 ++ t2) t3 p2 m.number-c.ensures.put in
     let p = put_then (t1 ++ t2 ++ t3) t4 p3 c.number.ensures.put in
-    subst (λ (x : Fault). Put a.line.now a.at (refused_text x) c.number.new.line c.number.result) k.fault_of-fault.ensures p
+    subst (λ (x : Fault). Put a.line.now a.at (refused_text x) c.number.new.line c.number.result) k.from-fault.ensures p
