@@ -13,7 +13,7 @@ use lib.Ieee.Bits.{of_bits-fits}
 use lib.Ieee.Fits.{cond-fits, add-fits, sub-fits, div-fits, fits_widens}
 use mir.Syntax.{w64}
 use mir.Val.{SFits}
-use Rattle.models.specs.Answers.{Stepped}
+use Rattle.models.specs.declared.Stepped.{Stepped}
 use Rattle.models.specs.Floats.{equal_or_nan, min_f, max_f}
 use Rattle.models.specs.Bound.{BoundHeld}
 use Rattle.models.specs.declared.ErrorBound.{ErrorBound}

@@ -8,7 +8,8 @@ use borrow.Author.Tests.{not-false}
 use lib.ListN.{length}
 use lib.Ieee.{binary32, of_bits}
 use lib.Ieee.Bits.{of_bits-fits}
-use Rattle.models.specs.Answers.{Stepped, NoneHolds}
+use Rattle.models.specs.declared.Stepped.{Stepped}
+use Rattle.models.specs.Answers.{NoneHolds}
 use Rattle.models.specs.Bound.{bound_allowed}
 use Rattle.lines.specs.Line.{point_of}
 use Rattle.lines.proofs.Exact.{time-fits}

@@ -1,3 +1,2 @@
 -- How the states of PMC-Mean and Swing cross the C face.
 pub mod Row
-pub mod Inner

@@ -3,7 +3,7 @@
 use Rattle.std.specs.Prelude.{Bool, false, cond, ◌&&◌, List, [], ◌∷◌, ℕ, ◌%◌, ◌^◌, ltb, pos, length, get_or}
 use Rattle.std.specs.Float.{binary32, binary64}
 use Rattle.std.specs.Float.Ieee.{of_bits, to_bits}
-use Rattle.models.specs.Answers.{Stepped}
+use Rattle.models.specs.declared.Stepped.{Stepped}
 use Rattle.models.specs.declared.ErrorBound.{ErrorBound}
 use Rattle.pmc_mean.specs.Calls as OfPmc
 use Rattle.pmc_mean.specs.declared.PMCMean.{PMCMean}

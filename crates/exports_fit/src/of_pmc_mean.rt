@@ -8,8 +8,8 @@ ghost use Rattle.exports.specs.Face.{bound_of, fault_said, row_after, plain_faul
 ghost use Rattle.exports_fit.specs.Row.{pmc_length, pmc_in, pmc_fresh, pmc_step_row};
 
 use crate::rows;
-use models::{Fault, GridAnswer, Verdict};
-use pmc_mean::{NewAnswer, PMCMean};
+use models::Fault;
+use pmc_mean::PMCMean;
 
 // The state before any value into the row.
 pub fn modelardb_pmc_mean_new(kind: u32, bound: u32, state: &mut [u64]) -> Fault
@@ -17,10 +17,8 @@ pub fn modelardb_pmc_mean_new(kind: u32, bound: u32, state: &mut [u64]) -> Fault
     ensures row { state.new ≡ row_after pmc_length pmc_fresh state.old (new_answer (bound_of kind bound)) }
 {
     match PMCMean::new(exports::bound_of(kind, bound)) {
-        NewAnswer::Refused(r) => exports::fault_with(r, rows::PMC_WORDS, state.len()),
-        NewAnswer::Answered(s) => {
-            exports::put_said(Verdict::Passed, &rows::pmc_words(s, false), state)
-        }
+        Err(r) => exports::fault_with(r, rows::PMC_WORDS, state.len()),
+        Ok(s) => exports::put_words(&rows::pmc_words(s, false), state),
     }
 }
 
@@ -29,10 +27,10 @@ pub fn modelardb_pmc_mean_fit_value(state: &mut [u64], value: u32) -> Fault
     ensures fault { result ≡ step_fault (fit_answer (pmc_in state.old) value) }
     ensures row { state.new ≡ step_row pmc_step_row state.old (fit_answer (pmc_in state.old) value) }
 {
-    let after = rows::pmc_step(rows::pmc_in(state).fit_value(value));
-    let verdict = after.verdict;
-    let words = rows::pmc_words(after.state, after.fits);
-    exports::put_said(verdict, &words, state)
+    match rows::pmc_in(state).fit_value(value) {
+        Err(refused) => exports::fault_with(refused.cause, rows::PMC_WORDS, state.len()),
+        Ok(step) => exports::put_words(&rows::pmc_words(step.state, step.fits), state),
+    }
 }
 
 // The f32 pattern of the bytes for each value into out[0].
@@ -41,7 +39,7 @@ pub fn modelardb_pmc_mean_bytes_per_value(state: &[u64], m: usize, out: &mut [u3
     ensures row { out.new ≡ ask_row 1 word_of32 out.old (cost_answer (pmc_in state.now) m) }
 {
     let answer = rows::pmc_in(state).bytes_per_value(m);
-    exports::put_value(exports::pattern_in(rows::pmc_cost(answer)), out)
+    exports::put_value(exports::pattern_in(rows::stateless(answer)), out)
 }
 
 // The average's pattern into out[0].
@@ -49,8 +47,7 @@ pub fn modelardb_pmc_mean_model(state: &[u64], out: &mut [u32]) -> Fault
     ensures fault { result ≡ ask_fault 1 (length out.old) (model_answer (pmc_in state.now)) }
     ensures row { out.new ≡ ask_row 1 one_word out.old (model_answer (pmc_in state.now)) }
 {
-    let answer = rows::pmc_in(state).model();
-    exports::put_value(rows::pmc_model(answer), out)
+    exports::put_value(rows::stateless(rows::pmc_in(state).model()), out)
 }
 
 // The pattern of the sum of `count` values into out[0].
@@ -67,7 +64,7 @@ pub fn modelardb_pmc_mean_grid(value: u32, count: usize, out: &mut [u32]) -> Fau
     ensures row { out.new ≡ grid_memory value count out.old }
 {
     match pmc_mean::grid(value, count, out) {
-        GridAnswer::Refused(r) => models::fault_of(r),
-        GridAnswer::Drawn => exports::ACCEPTED,
+        Err(r) => Fault::from(r),
+        Ok(()) => exports::ACCEPTED,
     }
 }

@@ -9,8 +9,8 @@ ghost use Rattle.exports.specs.Face.{bound_of, fault_said, row_after, plain_faul
 ghost use Rattle.exports_fit.specs.Row.{swing_length, swing_in, swing_fresh, swing_step_row, ends_row};
 
 use crate::rows;
-use models::{Fault, GridAnswer, Verdict};
-use swing::{NewAnswer, Swing};
+use models::Fault;
+use swing::Swing;
 
 // The state before any point into the row.
 pub fn modelardb_swing_new(kind: u32, bound: u32, state: &mut [u64]) -> Fault
@@ -18,10 +18,8 @@ pub fn modelardb_swing_new(kind: u32, bound: u32, state: &mut [u64]) -> Fault
     ensures row { state.new ≡ row_after swing_length swing_fresh state.old (new_answer (bound_of kind bound)) }
 {
     match Swing::new(exports::bound_of(kind, bound)) {
-        NewAnswer::Refused(r) => exports::fault_with(r, rows::SWING_WORDS, state.len()),
-        NewAnswer::Answered(s) => {
-            exports::put_said(Verdict::Passed, &rows::swing_words(s, false), state)
-        }
+        Err(r) => exports::fault_with(r, rows::SWING_WORDS, state.len()),
+        Ok(s) => exports::put_words(&rows::swing_words(s, false), state),
     }
 }
 
@@ -30,10 +28,10 @@ pub fn modelardb_swing_fit_data_point(state: &mut [u64], timestamp: i64, value: 
     ensures fault { result ≡ step_fault (fit_answer (swing_in state.old) timestamp value) }
     ensures row { state.new ≡ step_row swing_step_row state.old (fit_answer (swing_in state.old) timestamp value) }
 {
-    let after = rows::swing_step(rows::swing_in(state).fit_data_point(timestamp, value));
-    let verdict = after.verdict;
-    let words = rows::swing_words(after.state, after.fits);
-    exports::put_said(verdict, &words, state)
+    match rows::swing_in(state).fit_data_point(timestamp, value) {
+        Err(refused) => exports::fault_with(refused.cause, rows::SWING_WORDS, state.len()),
+        Ok(step) => exports::put_words(&rows::swing_words(step.state, step.fits), state),
+    }
 }
 
 // The f32 pattern of the bytes for each value into out[0].
@@ -42,7 +40,7 @@ pub fn modelardb_swing_bytes_per_value(state: &[u64], m: usize, out: &mut [u32])
     ensures row { out.new ≡ ask_row 1 word_of32 out.old (cost_answer (swing_in state.now) m) }
 {
     let answer = rows::swing_in(state).bytes_per_value(m);
-    exports::put_value(exports::pattern_in(rows::swing_cost(answer)), out)
+    exports::put_value(exports::pattern_in(rows::stateless(answer)), out)
 }
 
 // The patterns of the line's first and last value into out[0] and out[1].
@@ -50,8 +48,7 @@ pub fn modelardb_swing_model(state: &[u64], out: &mut [u32]) -> Fault
     ensures fault { result ≡ ask_fault 2 (length out.old) (model_answer (swing_in state.now)) }
     ensures row { out.new ≡ ask_row 2 ends_row out.old (model_answer (swing_in state.now)) }
 {
-    let answer = rows::swing_in(state).model();
-    exports::put_ends(rows::swing_model(answer), out)
+    exports::put_ends(rows::stateless(rows::swing_in(state).model()), out)
 }
 
 // The pattern of the sum of `count` values, by the average of the line's ends, into out[0].
@@ -110,7 +107,7 @@ pub fn modelardb_swing_grid(
         timestamps,
         out,
     ) {
-        GridAnswer::Refused(r) => models::fault_of(r),
-        GridAnswer::Drawn => exports::ACCEPTED,
+        Err(r) => Fault::from(r),
+        Ok(()) => exports::ACCEPTED,
     }
 }

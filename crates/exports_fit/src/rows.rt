@@ -1,12 +1,13 @@
-// The rows of states, and the answers of the calls as what goes into a row.
+// The rows of states, and an answer without the state that a refusal hands back.
 
 ghost use Rattle.std.specs.Prelude.{◌≡◌, cond};
 ghost use Rattle.exports.specs.Words.{no_count};
 ghost use Rattle.exports_fit.specs.Row.{no_pmc, pmc_in, pmc_row, no_swing, swing_in, swing_row};
-ghost use Rattle.exports_fit.specs.Inner.Answers.{pmc_step_of, pmc_cost_of, pmc_model_of, swing_step_of, swing_cost_of, swing_model_of};
+ghost use Rattle.models.specs.Answers.{stateless};
+ghost use Rattle.models.specs.Calls.{said_by, said_on};
 
-use exports::{FloatAnswer, PairAnswer, words};
-use models::{ErrorBound, ValueAnswer, Verdict};
+use exports::words;
+use models::{ErrorBound, Refusal, Refused};
 use pmc_mean::PMCMean;
 use swing::Swing;
 
@@ -34,6 +35,7 @@ pub fn no_pmc(error_bound: ErrorBound) -> PMCMean
     }
 }
 
+#[tactic(auto, unfolding(crate::specs::Row::pmc_in))]
 pub fn pmc_in(row: &[u64]) -> PMCMean
     ensures { result ≡ pmc_in row.now }
 {
@@ -51,6 +53,7 @@ pub fn pmc_in(row: &[u64]) -> PMCMean
     }
 }
 
+#[tactic(auto, using(exports::proofs::Truth::truth_word), unfolding(crate::specs::Row::pmc_row))]
 pub fn pmc_words(s: PMCMean, fits: bool) -> [u64; PMC_WORDS]
     ensures { result ≡ pmc_row s fits }
 {
@@ -62,7 +65,7 @@ pub fn pmc_words(s: PMCMean, fits: bool) -> [u64; PMC_WORDS]
         numbers::bits_of_f32(s.max_value) as u64,
         numbers::bits_of_f64(s.sum_of_values),
         s.length as u64,
-        exports::word_of(fits) as u64,
+        u64::from(fits),
     ]
 }
 
@@ -88,6 +91,7 @@ pub fn no_swing(error_bound: ErrorBound) -> Swing
     }
 }
 
+#[tactic(auto, unfolding(crate::specs::Row::swing_in))]
 pub fn swing_in(row: &[u64]) -> Swing
     ensures { result ≡ swing_in row.now }
 {
@@ -110,6 +114,7 @@ pub fn swing_in(row: &[u64]) -> Swing
     }
 }
 
+#[tactic(auto, using(exports::proofs::Truth::truth_word), unfolding(crate::specs::Row::swing_row))]
 pub fn swing_words(s: Swing, fits: bool) -> [u64; SWING_WORDS]
     ensures { result ≡ swing_row s fits }
 {
@@ -127,102 +132,15 @@ pub fn swing_words(s: Swing, fits: bool) -> [u64; SWING_WORDS]
         numbers::bits_of_f64(s.slope_with_minimum_mse_numerator),
         numbers::bits_of_f64(s.slope_with_minimum_mse_denominator),
         s.length as u64,
-        exports::word_of(fits) as u64,
+        u64::from(fits),
     ]
 }
 
 // ---- answers
 
-#[derive(Clone, Copy)]
-pub struct PmcStep {
-    pub verdict: Verdict,
-    pub state: PMCMean,
-    pub fits: bool,
-}
-
-pub fn pmc_step(answer: pmc_mean::FitAnswer) -> PmcStep
-    ensures { result ≡ pmc_step_of answer }
+// An answer without the state that a refusal hands back.
+pub fn stateless<S: Copy, A: Copy>(answer: Result<A, Refused<S>>) -> Result<A, Refusal>
+    ensures { said_by result ≡ stateless (said_on answer) }
 {
-    match answer {
-        pmc_mean::FitAnswer::Refused(r, s) => PmcStep {
-            verdict: Verdict::Refused(r),
-            state: s,
-            fits: false,
-        },
-        pmc_mean::FitAnswer::Fits(t) => PmcStep {
-            verdict: Verdict::Passed,
-            state: t,
-            fits: true,
-        },
-        pmc_mean::FitAnswer::NoFit(t) => PmcStep {
-            verdict: Verdict::Passed,
-            state: t,
-            fits: false,
-        },
-    }
-}
-
-#[derive(Clone, Copy)]
-pub struct SwingStep {
-    pub verdict: Verdict,
-    pub state: Swing,
-    pub fits: bool,
-}
-
-pub fn swing_step(answer: swing::FitAnswer) -> SwingStep
-    ensures { result ≡ swing_step_of answer }
-{
-    match answer {
-        swing::FitAnswer::Refused(r, s) => SwingStep {
-            verdict: Verdict::Refused(r),
-            state: s,
-            fits: false,
-        },
-        swing::FitAnswer::Fits(t) => SwingStep {
-            verdict: Verdict::Passed,
-            state: t,
-            fits: true,
-        },
-        swing::FitAnswer::NoFit(t) => SwingStep {
-            verdict: Verdict::Passed,
-            state: t,
-            fits: false,
-        },
-    }
-}
-
-pub fn pmc_cost(answer: pmc_mean::CostAnswer) -> FloatAnswer
-    ensures { result ≡ pmc_cost_of answer }
-{
-    match answer {
-        pmc_mean::CostAnswer::Refused(r, _) => FloatAnswer::Refused(r),
-        pmc_mean::CostAnswer::Answered(x) => FloatAnswer::Answered(x),
-    }
-}
-
-pub fn swing_cost(answer: swing::CostAnswer) -> FloatAnswer
-    ensures { result ≡ swing_cost_of answer }
-{
-    match answer {
-        swing::CostAnswer::Refused(r, _) => FloatAnswer::Refused(r),
-        swing::CostAnswer::Answered(x) => FloatAnswer::Answered(x),
-    }
-}
-
-pub fn pmc_model(answer: pmc_mean::ModelAnswer) -> ValueAnswer
-    ensures { result ≡ pmc_model_of answer }
-{
-    match answer {
-        pmc_mean::ModelAnswer::Refused(r, _) => ValueAnswer::Refused(r),
-        pmc_mean::ModelAnswer::Answered(bits) => ValueAnswer::Answered(bits),
-    }
-}
-
-pub fn swing_model(answer: swing::ModelAnswer) -> PairAnswer
-    ensures { result ≡ swing_model_of answer }
-{
-    match answer {
-        swing::ModelAnswer::Refused(r, _) => PairAnswer::Refused(r),
-        swing::ModelAnswer::Answered(first, last) => PairAnswer::Answered(first, last),
-    }
+    answer.map_err(|refused| refused.cause)
 }

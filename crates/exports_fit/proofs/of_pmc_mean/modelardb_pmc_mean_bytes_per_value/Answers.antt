@@ -4,15 +4,14 @@ use Rattle.models.specs.Answers.{stateless}
 use Rattle.pmc_mean.specs.Calls.{cost_answer}
 use Rattle.pmc_mean.specs.declared.PMCMean.{PMCMean}
 use Rattle.exports.specs.Face.{one_word, word_of32}
-use Rattle.exports.specs.Inner.Put.{worded, says_float}
+use Rattle.exports.specs.Inner.Put.{worded}
 use Rattle.exports.proofs.Rows.{alike}
-use Rattle.exports_fit.proofs.Answers.{pmc-costs}
 use Rattle.exports_fit.proofs.of_pmc_mean.modelardb_pmc_mean_bytes_per_value.Goals as goal
 
 pub returns : goal.returns
 returns c =
     let a = c.args in
     let said = c.bytes_per_value-answer.ensures ∙ ap (λ (s : PMCMean). cost_answer s a.m) c.pmc_in.ensures in
-    let cost = ap says_float c.pmc_cost.ensures ∙ pmc-costs c.bytes_per_value-answer.result ∙ ap stateless said in
+    let cost = c.stateless.ensures ∙ ap stateless said in
     let both = alike word_of32 one_word 1 a.out.now _ _ (c.pattern_in.ensures ∙ ap (worded word_of32) cost) (c.put_value.ensures.fault, c.put_value.ensures.row) in
     record { fault = both.0; row = both.1 }
