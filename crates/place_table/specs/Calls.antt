@@ -1,11 +1,12 @@
 -- What the calls with a place table say and answer: the answers of the theory's calls, in MacaqueV's words, and the laws that their results are told
 -- apart. Assumes nothing.
-use Rattle.std.specs.Prelude.{◌≡◌, refl, List, ℕ}
-use Rattle.std.proofs.Common.{ap}
+use Rattle.std.specs.Prelude.{◌≡◌, refl, List, ℕ, Result, Ok, Err}
 use Rattle.models.specs.Answers.{Said, Done, answered, refused, SaidOn, answered_on, refused_on, Cause, Injective, told-apart}
-use Rattle.models.specs.Refusals.{fault_of, refusal-told, unsaid, unsaid_on}
+use Rattle.models.specs.Refusals.{fault_of, refusal_of, refusal-told}
 use Rattle.models.specs.Causes.{bound_causes}
 use Rattle.models.specs.declared.ErrorBound.{ErrorBound}
+use Rattle.models.specs.declared.Refusal.{Refusal}
+use Rattle.models.specs.declared.Refused.{Refused}
 use Rattle.stream.specs.Format.{macaque}
 use Rattle.places.specs.Calls as tables
 use Rattle.places.specs.Rescue as rescues
@@ -14,12 +15,6 @@ use Rattle.macaque_v.specs.State.{stream_in, state_of, is_first, opening_value}
 use Rattle.macaque_v.specs.Write.{coder_of, coder_by}
 use Rattle.macaque_v.specs.declared.MacaqueV.{MacaqueV}
 use Rattle.macaque_v.specs.declared.Opening.{Opening}
-use Rattle.place_table.specs.declared.TableWriteAnswer.{TableWriteAnswer}
-use Rattle.place_table.specs.declared.TableWriteAnswer.TheVariants as OfWrite
-use Rattle.place_table.specs.declared.TableOpenAnswer.{TableOpenAnswer}
-use Rattle.place_table.specs.declared.TableOpenAnswer.TheVariants as OfOpen
-use Rattle.place_table.specs.declared.CheckAnswer.{CheckAnswer}
-use Rattle.place_table.specs.declared.CheckAnswer.TheVariants as OfCheck
 
 abbrev beside : MacaqueV → ℕ → Beside MacaqueV
 beside m entries = record { writer = m; entries = entries }
@@ -38,16 +33,21 @@ table_write_memory m xs buf words entries = tables.table_write_memory (coder_by 
 unfoldable pub table_write_table : MacaqueV → List ℕ → List ℕ → List ℕ → ℕ → List ℕ
 table_write_table m xs buf words entries = tables.table_write_table (coder_by m) (state_of m) xs buf words entries
 
-abbrev pub says_table_write : TableWriteAnswer → SaidOn MacaqueV (Beside MacaqueV)
-says_table_write (OfWrite.Written m n) = answered_on (beside m n)
-says_table_write (OfWrite.Refused r m) = refused_on (fault_of r) m
+-- a writer and a number of entries are one beside the other
+abbrev pub says_table_write : Result (MacaqueV × ℕ) (Refused MacaqueV) → SaidOn MacaqueV (Beside MacaqueV)
+says_table_write (Ok a) = answered_on (beside a.0 a.1)
+says_table_write (Err e) = refused_on (fault_of e.cause) e.state
 
-write-told : (r : TableWriteAnswer) → unsaid_on (λ (a : Beside MacaqueV). OfWrite.Written a.writer a.entries) OfWrite.Refused (says_table_write r) ≡ r
-write-told (OfWrite.Written m n) = refl
-write-told (OfWrite.Refused r m) = rw (refusal-told r)
+abbrev unsaid_write : SaidOn MacaqueV (Beside MacaqueV) → Result (MacaqueV × ℕ) (Refused MacaqueV)
+unsaid_write (answered_on a) = Ok (a.writer, a.entries)
+unsaid_write (refused_on f m) = Err (record { cause = refusal_of f; state = m })
+
+write-told : (r : Result (MacaqueV × ℕ) (Refused MacaqueV)) → unsaid_write (says_table_write r) ≡ r
+write-told (Ok a) = refl
+write-told (Err e) = rw (refusal-told e.cause)
 
 pub says_table_write-injective : Injective says_table_write
-says_table_write-injective = told-apart says_table_write (unsaid_on (λ (a : Beside MacaqueV). OfWrite.Written a.writer a.entries) OfWrite.Refused) write-told
+says_table_write-injective = told-apart says_table_write unsaid_write write-told
 
 -- ---- reopening with a table
 
@@ -60,16 +60,20 @@ table_reopen_answer buf used count k o b words entries = tables.table_reopen_ans
 unfoldable pub table_reopen_memory : List ℕ → ℕ → ℕ → ℕ → Opening → ErrorBound → ℕ → ℕ → List ℕ
 table_reopen_memory buf used count k o b words entries = tables.table_reopen_memory (coder_of b (is_first o)) (opening_value o) buf used count k words entries
 
-abbrev pub says_table_open : TableOpenAnswer → Said (Beside MacaqueV)
-says_table_open (OfOpen.Opened m n) = answered (beside m n)
-says_table_open (OfOpen.Refused r) = refused (fault_of r)
+abbrev pub says_table_open : Result (MacaqueV × ℕ) Refusal → Said (Beside MacaqueV)
+says_table_open (Ok a) = answered (beside a.0 a.1)
+says_table_open (Err r) = refused (fault_of r)
 
-open_told : (r : TableOpenAnswer) → unsaid (λ (a : Beside MacaqueV). OfOpen.Opened a.writer a.entries) OfOpen.Refused (says_table_open r) ≡ r
-open_told (OfOpen.Opened m n) = refl
-open_told (OfOpen.Refused r) = ap OfOpen.Refused (refusal-told r)
+abbrev unsaid_open : Said (Beside MacaqueV) → Result (MacaqueV × ℕ) Refusal
+unsaid_open (answered a) = Ok (a.writer, a.entries)
+unsaid_open (refused f) = Err (refusal_of f)
+
+open_told : (r : Result (MacaqueV × ℕ) Refusal) → unsaid_open (says_table_open r) ≡ r
+open_told (Ok a) = refl
+open_told (Err r) = rw (refusal-told r)
 
 pub says_table_open-injective : Injective says_table_open
-says_table_open-injective = told-apart says_table_open (unsaid (λ (a : Beside MacaqueV). OfOpen.Opened a.writer a.entries) OfOpen.Refused) open_told
+says_table_open-injective = told-apart says_table_open unsaid_open open_told
 
 -- ---- rescue with a table
 
@@ -89,17 +93,6 @@ table_rescue_table buf used limit o b words = rescues.table_rescue_table (coder_
 
 unfoldable pub check_answer : List ℕ → ℕ → Opening → List ℕ → ℕ → Said Done
 check_answer bytes count o words entries = tables.check_answer (stream_in (is_first o)) (opening_value o) bytes count words entries
-
-abbrev pub says_check : CheckAnswer → Said Done
-says_check OfCheck.Belongs = answered tt
-says_check (OfCheck.Refused r) = refused (fault_of r)
-
-check-told : (r : CheckAnswer) → unsaid (λ (u : Done). OfCheck.Belongs) OfCheck.Refused (says_check r) ≡ r
-check-told OfCheck.Belongs = refl
-check-told (OfCheck.Refused r) = ap OfCheck.Refused (refusal-told r)
-
-pub says_check-injective : Injective says_check
-says_check-injective = told-apart says_check (unsaid (λ (u : Done). OfCheck.Belongs) OfCheck.Refused) check-told
 
 -- ---- a range
 

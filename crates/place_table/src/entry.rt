@@ -16,7 +16,7 @@ use macaque_v::{MacaqueV, write};
 pub fn entries_for(count: usize) -> usize
     ensures { result ≡ entries_for count }
 {
-    count / SPACING + (count % SPACING + (SPACING - 1)) / SPACING
+    count.div_ceil(SPACING)
 }
 
 // Whether the entry for where reading stands says that it stands there.
@@ -26,8 +26,9 @@ pub fn says(table: &[u64], at: Cursor) -> bool
 {
     let i = WORDS * (at.count / SPACING);
     (table[i] == (at.place as u64))
-        & ((table[i + 1] == (at.last as u64))
-            & ((table[i + 2] == (at.lead as u64)) & (table[i + 3] == (at.trail as u64))))
+        && (table[i + 1] == (at.last as u64))
+        && (table[i + 2] == (at.lead as u64))
+        && (table[i + 3] == (at.trail as u64))
 }
 
 // Whether a range may be read from entry i: it is in use, its last value is of 32 bits, its place is in the stream's bits, and its window is the
@@ -43,19 +44,16 @@ pub fn may_start(bytes: usize, table: &[u64], entries: usize, i: usize) -> bool
     let lead = table[at + 2];
     let trail = table[at + 3];
     let opening = (lead == (MacaqueV::OPENING_LEADING as u64))
-        & (trail == (MacaqueV::OPENING_TRAILING as u64));
+        && (trail == (MacaqueV::OPENING_TRAILING as u64));
     (table[at + 1] < 0x1_0000_0000)
-        & ((table[at] <= 8 * (write::lent_bytes(bytes) as u64))
-            & (opening | leaves_a_bit(lead, trail)))
+        && (table[at] <= 8 * (write::lent_bytes(bytes) as u64))
+        && (opening || leaves_a_bit(lead, trail))
 }
 
 fn leaves_a_bit(lead: u64, trail: u64) -> bool
     ensures { result ≡ leaves_a_bit macaque (window_in lead trail) }
 {
-    if 31 < lead {
-        return false;
-    }
-    trail <= 31 - lead
+    (lead <= 31) && (trail <= 31 - lead)
 }
 
 // Where reading stands before the value of entry i.

@@ -1,59 +1,53 @@
 // Going through a stream: beside its table, to note its entries, or behind an entry.
-ghost use Rattle.std.specs.Prelude.{◌≡◌, cond, ◌+◌, ◌≤◌, length};
-ghost use Rattle.models.specs.Answers.{answered};
-ghost use Rattle.models.specs.Calls.{says_grid};
+ghost use Rattle.std.specs.Prelude.{◌≡◌, ◌×◌, ◌+◌, ◌≤◌, length};
+ghost use Rattle.models.specs.Calls.{said_by};
 ghost use Rattle.models.specs.Limits.{most_values};
 ghost use Rattle.stream.specs.Calls.{drawn, drawn_in};
-ghost use Rattle.places.specs.Table.{spacing, entries_for, no_match};
+ghost use Rattle.places.specs.Table.{spacing, entries_for};
 ghost use Rattle.places.specs.Calls.{entries_lent, laid_entries};
 ghost use Rattle.macaque_v.specs.Inner.ReadRun.{ReadableAt};
-ghost use Rattle.place_table.specs.Calls.{says_check};
 ghost use Rattle.place_table.specs.Inner.Range.{compared, values_behind};
 ghost use Rattle.place_table.specs.Inner.Rescue.{own_entries, ReadsFirst, FoundIn, noted_found};
 
-use crate::{CheckAnswer, entry};
-use macaque_v::read_run::{Cursor, Run, Walk};
+use crate::entry;
+use macaque_v::read_run::{Cursor, Tally};
 use macaque_v::{Opening, noting, read, read_run};
-use models::{GridAnswer, Refusal, Verdict};
+use models::Refusal;
 
 // The stream beside a table of as many entries as its count asks for: each is looked at before the values that it stands before. What the stream
 // itself is refused for comes first.
-pub fn compare(bytes: &[u8], count: usize, opening: Opening, table: &[u64]) -> CheckAnswer
+pub fn compare(bytes: &[u8], count: usize, opening: Opening, table: &[u64]) -> Result<(), Refusal>
     requires { (count ≤ most_values) × (entries_for count ≤ entries_lent (length table.now)) }
-    ensures { says_check result ≡ compared bytes.now count opening table.now }
+    ensures { said_by result ≡ compared bytes.now count opening table.now }
 {
     let first = read::is_first(opening);
     let mut values = [0u32; 92];
     let mut at = read::start(opening);
     let mut same = true;
-    let mut done: usize = 0;
-    while done < count {
+    while at.count < count {
         same = same & entry::says(table, at);
-        let k = read_run::smaller(noting::SPACING, count - done);
-        match read_run::fill(bytes, first, at, k, &mut values) {
-            Run::Refused(r) => {
-                return CheckAnswer::Refused(r);
-            }
-            Run::To(to) => {
-                at = to;
-                done += k;
-            }
-        }
+        let k = noting::SPACING.min(count - at.count);
+        at = read_run::fill(bytes, first, at, k, &mut values)?;
     }
-    match read_run::judge_end(bytes, at) {
-        Verdict::Refused(r) => CheckAnswer::Refused(r),
-        Verdict::Passed => matching(same),
+    read_run::judge_end(bytes, at)?;
+    if !same {
+        return Err(Refusal::TableDoesNotMatch);
     }
+    Ok(())
 }
 
 // The entries of the values that going through the bytes found, where it found some and no damage.
-pub fn note_found(bytes: &[u8], found: Walk, opening: Opening, table: &mut [u64])
+pub fn note_found(
+    bytes: &[u8],
+    found: Result<(Cursor, Tally), Refusal>,
+    opening: Opening,
+    table: &mut [u64],
+)
     requires { FoundIn bytes.now opening table.old found }
     ensures { table.new ≡ noted_found bytes.now opening table.old found }
 {
-    match found {
-        Walk::Refused(_) => {}
-        Walk::To(at, _) => note(bytes, at.count, opening, table),
+    if let Ok((at, _)) = found {
+        note(bytes, at.count, opening, table);
     }
 }
 
@@ -65,30 +59,11 @@ fn note(bytes: &[u8], count: usize, opening: Opening, table: &mut [u64])
     let first = read::is_first(opening);
     let mut values = [0u32; 92];
     let mut at = read::start(opening);
-    let mut done: usize = 0;
-    while done < count {
+    while at.count < count {
         let i = at.count / noting::SPACING;
         noting::put_entry(table, i, at.place, at.last as u64, at.lead, at.trail);
-        let k = read_run::smaller(noting::SPACING, count - done);
-        match read_run::fill(bytes, first, at, k, &mut values) {
-            Run::Refused(_) => {
-                return;
-            }
-            Run::To(to) => {
-                at = to;
-                done += k;
-            }
-        }
-    }
-}
-
-fn matching(same: bool) -> CheckAnswer
-    ensures { says_check result ≡ cond same (answered tt) no_match }
-{
-    if same {
-        CheckAnswer::Belongs
-    } else {
-        CheckAnswer::Refused(Refusal::TableDoesNotMatch)
+        let k = noting::SPACING.min(count - at.count);
+        at = read_run::fill(bytes, first, at, k, &mut values).unwrap();
     }
 }
 
@@ -100,14 +75,12 @@ pub fn draw_behind(
     skipped: usize,
     n: usize,
     out: &mut [u32],
-) -> GridAnswer
+) -> Result<(), Refusal>
     requires { ReadableAt bytes.now at × (at.count + (skipped + n) ≤ most_values) × (skipped ≤ spacing) × (n ≤ length out.old) }
-    ensures answer { says_grid result ≡ drawn (values_behind first bytes.now at skipped n) }
+    ensures answer { said_by result ≡ drawn (values_behind first bytes.now at skipped n) }
     ensures values { out.new ≡ drawn_in out.old (values_behind first bytes.now at skipped n) }
 {
     let mut values = [0u32; 92];
-    match read_run::fill(bytes, first, at, skipped, &mut values) {
-        Run::Refused(r) => GridAnswer::Refused(r),
-        Run::To(to) => read::draw(bytes, first, to, n, 0, out, false),
-    }
+    let to = read_run::fill(bytes, first, at, skipped, &mut values)?;
+    read::draw(bytes, first, to, n, 0, out, false)
 }

@@ -1,8 +1,9 @@
 -- Words of inner contracts and of proofs: a writer that is opened with its entries, and the entries of what was found in the bytes. Assumes nothing.
-use Rattle.std.specs.Prelude.{◌≡◌, Bool, List, ℕ, ◌≤◌, length}
+use Rattle.std.specs.Prelude.{◌≡◌, Bool, List, ℕ, ◌≤◌, length, Result, Ok, Err}
 use Rattle.bits.specs.Bits.{bits_of}
 use Rattle.models.specs.Answers.{Said, answered, refused}
 use Rattle.models.specs.Limits.{most_values}
+use Rattle.models.specs.declared.Refusal.{Refusal}
 use Rattle.stream.specs.Format.{State}
 use Rattle.stream.specs.Read.{done, read_n}
 use Rattle.places.specs.Table.{Entry, entries_for, entries_in}
@@ -10,8 +11,8 @@ use Rattle.places.specs.Calls.{Beside, entries_lent, laid_entries}
 use Rattle.macaque_v.specs.State.{Known, stream_in, is_first, opened}
 use Rattle.macaque_v.specs.declared.MacaqueV.{MacaqueV}
 use Rattle.macaque_v.specs.declared.Opening.{Opening}
-use Rattle.macaque_v.specs.declared.read_run.Walk.{Walk}
-use Rattle.macaque_v.specs.declared.read_run.Walk.TheVariants as OfWalk
+use Rattle.macaque_v.specs.declared.read_run.Cursor.{Cursor}
+use Rattle.macaque_v.specs.declared.read_run.Tally.{Tally}
 
 -- a writer, and how many entries its values ask for
 abbrev pub beside_said : Said MacaqueV → Said (Beside MacaqueV)
@@ -30,10 +31,10 @@ pub record ReadsFirst (bytes : List ℕ) (o : Opening) (n : ℕ) : Type 0 where
   pub reads : read_n (stream_in (is_first o)) n (opened o) (bits_of bytes) ≡ done values state rest
 
 -- what was found is there, and the words have room for its entries
-abbrev pub FoundIn : List ℕ → Opening → List ℕ → Walk → Type 0
-FoundIn bytes o words (OfWalk.To at t) = ReadsFirst bytes o at.count × (at.count ≤ most_values) × (entries_for at.count ≤ entries_lent (length words))
-FoundIn bytes o words (OfWalk.Refused r) = Unit
+abbrev pub FoundIn : List ℕ → Opening → List ℕ → Result (Cursor × Tally) Refusal → Type 0
+FoundIn bytes o words (Ok w) = ReadsFirst bytes o w.0.count × (w.0.count ≤ most_values) × (entries_for w.0.count ≤ entries_lent (length words))
+FoundIn bytes o words (Err r) = Unit
 
-abbrev pub noted_found : List ℕ → Opening → List ℕ → Walk → List ℕ
-noted_found bytes o words (OfWalk.To at t) = laid_entries words 0 (own_entries bytes o at.count)
-noted_found bytes o words (OfWalk.Refused r) = words
+abbrev pub noted_found : List ℕ → Opening → List ℕ → Result (Cursor × Tally) Refusal → List ℕ
+noted_found bytes o words (Ok w) = laid_entries words 0 (own_entries bytes o w.0.count)
+noted_found bytes o words (Err r) = words
