@@ -6,25 +6,20 @@
 
 ghost use Rattle.std.specs.Prelude.{◌≡◌, ◌≤◌, length};
 ghost use Rattle.models.specs.Answers.{verdict};
-ghost use Rattle.models.specs.Calls.{says_verdict};
+ghost use Rattle.models.specs.Calls.{said_by};
 ghost use Rattle.macaque_v.specs.Calls.{write_answer, write_memory};
-ghost use Rattle.macaque_v.specs.Read.{says_open};
 ghost use Rattle.exports.specs.Face.{plain_fault, row_in, step_fault, step_row};
 ghost use Rattle.exports_stream.specs.Row.{writer_length, writer_row, written_row, writer_in};
 ghost use Rattle.exports_stream.specs.Calls.{opening_of, count_in, new_causes, reopen_causes_with};
 ghost use Rattle.exports_stream.specs.Calls.{new_fault, new_row};
 ghost use Rattle.exports_stream.specs.Calls.{reopen_fault, reopen_row, reopen_buffer, grid_fault, grid_out, sum_fault, sum_out};
 ghost use Rattle.exports_stream.specs.Rescue.{rescue_fault, rescue_row, rescue_buffer};
-ghost use Rattle.macaque_v.specs.Size.{says_size};
 ghost use Rattle.exports_stream.specs.Size.{number_after, most_bits_fault, most_bits_number, most_bytes_fault, most_bytes_number};
 ghost use Rattle.exports_stream.specs.Tabled.{table_write_fault, table_write_row, table_write_buffer, table_write_words, table_write_entries};
 
 use exports::words;
-use macaque_v::read::OpenAnswer;
-use macaque_v::size::SizeAnswer;
-use macaque_v::{MacaqueV, Opening, WriteAnswer, read};
-use models::{ErrorBound, Fault, GridAnswer, Refusal, Verdict};
-use place_table::TableWriteAnswer;
+use macaque_v::{MacaqueV, Opening, read};
+use models::{ErrorBound, Fault, Refusal, Refused};
 
 pub mod row;
 
@@ -44,8 +39,8 @@ pub fn modelardb_macaque_v_new(
 {
     let b = exports::bound_of(kind, bound);
     match judge_new(b, mode, state.len()) {
-        Verdict::Refused(r) => models::fault_of(r),
-        Verdict::Passed => put_opened(MacaqueV::new(b, opening_of(mode, opening)), state),
+        Err(r) => Fault::from(r),
+        Ok(()) => put_opened(MacaqueV::new(b, opening_of(mode, opening)), state),
     }
 }
 
@@ -62,10 +57,8 @@ pub fn modelardb_macaque_v_compress_values(
     ensures bytes { buffer.new ≡ write_memory (writer_in state.old) values.now buffer.old }
 {
     match row::writer_of(state).compress_values(values, buffer) {
-        WriteAnswer::Refused(r, _) => models::fault_of(r),
-        WriteAnswer::Written(after) => {
-            exports::put_said(Verdict::Passed, &row::written_words(state, after), state)
-        }
+        Err(Refused { cause, .. }) => Fault::from(cause),
+        Ok(after) => exports::put_words(&row::written_words(state, after), state),
     }
 }
 
@@ -86,10 +79,10 @@ pub fn modelardb_table_compress_values(
 {
     let given = *entries;
     match place_table::compress_values(row::writer_of(state), values, buffer, table, given) {
-        TableWriteAnswer::Refused(r, _) => models::fault_of(r),
-        TableWriteAnswer::Written(after, n) => {
+        Err(Refused { cause, .. }) => Fault::from(cause),
+        Ok((after, n)) => {
             *entries = n;
-            exports::put_said(Verdict::Passed, &row::written_words(state, after), state)
+            exports::put_words(&row::written_words(state, after), state)
         }
     }
 }
@@ -114,8 +107,8 @@ pub fn modelardb_macaque_v_reopen(
     let b = exports::bound_of(kind, bound);
     let n = count_in(mode, count);
     match judge_reopen(b, buffer.len(), used, n, k, state.len()) {
-        Verdict::Refused(r) => models::fault_of(r),
-        Verdict::Passed => {
+        Err(r) => Fault::from(r),
+        Ok(()) => {
             let writer = MacaqueV::reopen(buffer, used, n, k, opening_of(mode, opening), b);
             put_opened(writer, state)
         }
@@ -141,8 +134,8 @@ pub fn modelardb_macaque_v_rescue(
     let b = exports::bound_of(kind, bound);
     let n = count_in(mode, limit);
     match judge_reopen(b, buffer.len(), used, n, n, state.len()) {
-        Verdict::Refused(r) => models::fault_of(r),
-        Verdict::Passed => {
+        Err(r) => Fault::from(r),
+        Ok(()) => {
             let writer = MacaqueV::rescue(buffer, used, n, opening_of(mode, opening), b);
             put_opened(writer, state)
         }
@@ -162,10 +155,8 @@ pub fn modelardb_macaque_v_grid(
     ensures fault { result ≡ grid_fault bytes.now count mode opening out.old }
     ensures values { out.new ≡ grid_out bytes.now count mode opening out.old }
 {
-    match read::grid(bytes, count_in(mode, count), opening_of(mode, opening), out) {
-        GridAnswer::Refused(r) => models::fault_of(r),
-        GridAnswer::Drawn => exports::ACCEPTED,
-    }
+    let drawn = read::grid(bytes, count_in(mode, count), opening_of(mode, opening), out);
+    fault_in(drawn)
 }
 
 // The sum of the values of a stream, `count` of them, into out[0].
@@ -203,13 +194,13 @@ pub fn modelardb_macaque_v_most_bytes(count: usize, mode: u32, bytes: &mut usize
     put_number(most, bytes)
 }
 
-fn put_number(answer: SizeAnswer, number: &mut usize) -> Fault
-    ensures fault { result ≡ plain_fault (says_size answer) }
-    ensures number { number.new ≡ number_after number.old (says_size answer) }
+fn put_number(answer: Result<usize, Refusal>, number: &mut usize) -> Fault
+    ensures fault { result ≡ plain_fault (said_by answer) }
+    ensures number { number.new ≡ number_after number.old (said_by answer) }
 {
     match answer {
-        SizeAnswer::Refused(r) => models::fault_of(r),
-        SizeAnswer::Answered(n) => {
+        Err(r) => Fault::from(r),
+        Ok(n) => {
             *number = n;
             exports::ACCEPTED
         }
@@ -221,10 +212,9 @@ fn put_number(answer: SizeAnswer, number: &mut usize) -> Fault
 pub fn opening_of(mode: u32, opening: u32) -> Opening
     ensures { result ≡ opening_of mode opening }
 {
-    if mode == 0 {
-        Opening::First
-    } else {
-        Opening::On(opening)
+    match mode {
+        0 => Opening::First,
+        _ => Opening::On(opening),
     }
 }
 
@@ -237,19 +227,21 @@ pub fn count_in(mode: u32, count: usize) -> usize
 
 // ---- the causes of refusal of a call that hands out a state: the row has to hold it
 
-fn judge_new(error_bound: ErrorBound, mode: u32, words: usize) -> Verdict
-    ensures { says_verdict result ≡ verdict (new_causes error_bound mode words) }
+#[tactic(auto, unfolding(models::specs::Answers::judge))]
+fn judge_new(error_bound: ErrorBound, mode: u32, words: usize) -> Result<(), Refusal>
+    ensures { said_by result ≡ verdict (new_causes error_bound mode words) }
 {
-    let short = models::when(Refusal::OutputTooShort, words < row::WORDS, Verdict::Passed);
-    let no_mode = models::when(Refusal::OverLimit, 1 < mode, short);
-    models::when(
-        Refusal::BoundNotAllowed,
-        !models::bound_allowed(error_bound),
-        no_mode,
-    )
+    if !models::bound_allowed(error_bound) {
+        return Err(Refusal::BoundNotAllowed);
+    }
+    if 1 < mode {
+        return Err(Refusal::OverLimit);
+    }
+    row::judge_row(words)
 }
 
 // What is judged before the buffer is touched; of a rescue what is of a reopening at its limit.
+#[tactic(auto, unfolding(models::specs::Answers::judge))]
 fn judge_reopen(
     error_bound: ErrorBound,
     room: usize,
@@ -257,29 +249,31 @@ fn judge_reopen(
     count: usize,
     k: usize,
     words: usize,
-) -> Verdict
-    ensures { says_verdict result ≡ verdict (reopen_causes_with error_bound room used count k words) }
+) -> Result<(), Refusal>
+    ensures { said_by result ≡ verdict (reopen_causes_with error_bound room used count k words) }
 {
-    match read::judge_reopen(error_bound, room, used, count, k) {
-        Verdict::Refused(r) => Verdict::Refused(r),
-        Verdict::Passed => models::when(
-            Refusal::OutputTooShort,
-            words < row::WORDS,
-            Verdict::Passed,
-        ),
-    }
+    read::judge_reopen(error_bound, room, used, count, k)?;
+    row::judge_row(words)
 }
 
 // The state's words to the front of the row, where there is one.
-pub fn put_opened(writer: OpenAnswer, state: &mut [u64]) -> Fault
+pub fn put_opened(writer: Result<MacaqueV, Refusal>, state: &mut [u64]) -> Fault
     requires { writer_length ≤ length state.old }
-    ensures fault { result ≡ plain_fault (says_open writer) }
-    ensures row { state.new ≡ row_in writer_row state.old (says_open writer) }
+    ensures fault { result ≡ plain_fault (said_by writer) }
+    ensures row { state.new ≡ row_in writer_row state.old (said_by writer) }
 {
     match writer {
-        OpenAnswer::Refused(r) => models::fault_of(r),
-        OpenAnswer::Opened(m) => {
-            exports::put_said(Verdict::Passed, &row::writer_words(m), state)
-        }
+        Err(r) => Fault::from(r),
+        Ok(m) => exports::put_words(&row::writer_words(m), state),
+    }
+}
+
+// The fault of a call that hands over no values, or has them in lent memory.
+pub fn fault_in(answer: Result<(), Refusal>) -> Fault
+    ensures { result ≡ plain_fault (said_by answer) }
+{
+    match answer {
+        Err(r) => Fault::from(r),
+        Ok(()) => exports::ACCEPTED,
     }
 }

@@ -1,13 +1,26 @@
 // A writer's state as a row of eleven words (specs/Row.antt): to the row, and back. A row that stands for no
 // state stands for one that the call behind refuses.
-ghost use Rattle.std.specs.Prelude.{◌≡◌, true, ◌≤◌, length};
+ghost use Rattle.std.specs.Prelude.{◌≡◌, true, [], ◌∷◌, ◌≤◌, ltb, length};
+ghost use Rattle.models.specs.Answers.{◌when◌, verdict};
+ghost use Rattle.models.specs.Calls.{said_by};
 ghost use Rattle.exports_stream.specs.Row.{writer_length, state_words, writer_row, sum_after, written_row, stands_for_state, read_writer, writer_in};
 
 use exports::words;
 use macaque_v::MacaqueV;
-use models::ErrorBound;
+use models::{ErrorBound, Refusal};
 
 pub const WORDS: usize = 11;
+
+// Whether a row of so many words holds a state.
+#[tactic(auto, unfolding(models::specs::Answers::judge))]
+pub fn judge_row(words: usize) -> Result<(), Refusal>
+    ensures { said_by result ≡ verdict (4 when ltb words writer_length ∷ []) }
+{
+    if words < WORDS {
+        return Err(Refusal::OutputTooShort);
+    }
+    Ok(())
+}
 
 // ---- to the row
 

@@ -21,10 +21,6 @@ use Rattle.exports_stream.specs.Tabled.{entries_after, table_write_fault, table_
 abbrev pub beside_row : Beside MacaqueV → List ℕ
 beside_row a = writer_row a.writer
 
--- a verdict on some causes, and behind them 4 for a row that cannot hold a state
-abbrev pub RowJudged : Verdict → ℕ → Verdict → Type 0
-RowJudged judged row_words r = (causes : List Cause) → says_verdict judged ≡ verdict causes → says_verdict r ≡ verdict (causes ++ (4 when ltb row_words writer_length ∷ []))
-
 -- ---- reopen: 1, 3, 12, 13, then 4 for the row, and only then what the stream gives. Till then the buffer is untouched.
 
 abbrev pub table_reopen_causes_with : ErrorBound → ℕ → ℕ → ℕ → ℕ → ℕ → ℕ → ℕ → List Cause

@@ -7,15 +7,13 @@
 
 ghost use Rattle.std.specs.Prelude.{◌≡◌};
 ghost use Rattle.models.specs.Answers.{verdict};
-ghost use Rattle.models.specs.Calls.{says_verdict};
-ghost use Rattle.exports_table.specs.Calls.{RowJudged, table_reopen_causes_with, table_reopen_fault, table_reopen_row, table_reopen_buffer, table_reopen_entries};
+ghost use Rattle.models.specs.Calls.{said_by};
+ghost use Rattle.exports_table.specs.Calls.{table_reopen_causes_with, table_reopen_fault, table_reopen_row, table_reopen_buffer, table_reopen_entries};
 ghost use Rattle.exports_table.specs.Rescue.{table_rescue_causes_with, table_rescue_fault, table_rescue_row, table_rescue_buffer, table_rescue_words, table_rescue_entries};
 ghost use Rattle.exports_table.specs.Calls.{table_check_fault, table_range_fault, table_range_out};
 
 use exports_stream::row;
-use macaque_v::read::OpenAnswer;
-use models::{ErrorBound, Fault, GridAnswer, Refusal, Verdict};
-use place_table::{CheckAnswer, TableOpenAnswer};
+use models::{ErrorBound, Fault, Refusal};
 
 // ---- the writer's calls
 
@@ -43,14 +41,14 @@ pub fn modelardb_table_reopen(
     let b = exports::bound_of(kind, bound);
     let n = exports_stream::count_in(mode, count);
     match judge_reopen(b, buffer.len(), used, n, k, table.len(), given, state.len()) {
-        Verdict::Refused(r) => models::fault_of(r),
-        Verdict::Passed => {
+        Err(r) => Fault::from(r),
+        Ok(()) => {
             let o = exports_stream::opening_of(mode, opening);
             match place_table::reopen(buffer, used, n, k, o, b, table, given) {
-                TableOpenAnswer::Refused(r) => models::fault_of(r),
-                TableOpenAnswer::Opened(m, stay) => {
+                Err(r) => Fault::from(r),
+                Ok((m, stay)) => {
                     *entries = stay;
-                    exports_stream::put_opened(OpenAnswer::Opened(m), state)
+                    exports_stream::put_opened(Ok(m), state)
                 }
             }
         }
@@ -80,14 +78,14 @@ pub fn modelardb_table_rescue(
     let b = exports::bound_of(kind, bound);
     let n = exports_stream::count_in(mode, limit);
     match judge_rescue(b, buffer.len(), used, n, table.len(), state.len()) {
-        Verdict::Refused(r) => models::fault_of(r),
-        Verdict::Passed => {
+        Err(r) => Fault::from(r),
+        Ok(()) => {
             let o = exports_stream::opening_of(mode, opening);
             match place_table::rescue(buffer, used, n, o, b, table) {
-                TableOpenAnswer::Refused(r) => models::fault_of(r),
-                TableOpenAnswer::Opened(m, kept) => {
+                Err(r) => Fault::from(r),
+                Ok((m, kept)) => {
                     *entries = kept;
-                    exports_stream::put_opened(OpenAnswer::Opened(m), state)
+                    exports_stream::put_opened(Ok(m), state)
                 }
             }
         }
@@ -109,10 +107,7 @@ pub fn modelardb_table_check(
 {
     let n = exports_stream::count_in(mode, count);
     let o = exports_stream::opening_of(mode, opening);
-    match place_table::check(bytes, n, o, table, entries) {
-        CheckAnswer::Refused(r) => models::fault_of(r),
-        CheckAnswer::Belongs => exports::ACCEPTED,
-    }
+    exports_stream::fault_in(place_table::check(bytes, n, o, table, entries))
 }
 
 // The values p to q - 1 of a stream of `count`, into the first places of `out`: read from the entry at or before p.
@@ -132,14 +127,12 @@ pub fn modelardb_table_range(
 {
     let n = exports_stream::count_in(mode, count);
     let o = exports_stream::opening_of(mode, opening);
-    match place_table::range(bytes, n, o, table, entries, p, q, out) {
-        GridAnswer::Refused(r) => models::fault_of(r),
-        GridAnswer::Drawn => exports::ACCEPTED,
-    }
+    exports_stream::fault_in(place_table::range(bytes, n, o, table, entries, p, q, out))
 }
 
 // ---- the causes of refusal of a reopening and of a rescue: the row has to hold the state
 
+#[tactic(auto, unfolding(models::specs::Answers::judge))]
 fn judge_rescue(
     error_bound: ErrorBound,
     room: usize,
@@ -147,14 +140,15 @@ fn judge_rescue(
     limit: usize,
     words: usize,
     row_words: usize,
-) -> Verdict
-    ensures { says_verdict result ≡ verdict (table_rescue_causes_with error_bound room used limit words row_words) }
+) -> Result<(), Refusal>
+    ensures { said_by result ≡ verdict (table_rescue_causes_with error_bound room used limit words row_words) }
 {
-    let judged = place_table::judge_rescue(error_bound, room, used, limit, words);
-    judge_row(judged, row_words)
+    place_table::judge_rescue(error_bound, room, used, limit, words)?;
+    row::judge_row(row_words)
 }
 
 // What is judged before the buffer is touched.
+#[tactic(auto, unfolding(models::specs::Answers::judge))]
 fn judge_reopen(
     error_bound: ErrorBound,
     room: usize,
@@ -164,23 +158,9 @@ fn judge_reopen(
     words: usize,
     entries: usize,
     row_words: usize,
-) -> Verdict
-    ensures { says_verdict result ≡ verdict (table_reopen_causes_with error_bound room used count k words entries row_words) }
+) -> Result<(), Refusal>
+    ensures { said_by result ≡ verdict (table_reopen_causes_with error_bound room used count k words entries row_words) }
 {
-    let judged = place_table::judge_reopen(error_bound, room, used, count, k, words, entries);
-    judge_row(judged, row_words)
-}
-
-// Behind the causes that were judged: the words of the row.
-fn judge_row(judged: Verdict, row_words: usize) -> Verdict
-    ensures { RowJudged judged row_words result }
-{
-    match judged {
-        Verdict::Refused(r) => Verdict::Refused(r),
-        Verdict::Passed => models::when(
-            Refusal::OutputTooShort,
-            row_words < row::WORDS,
-            Verdict::Passed,
-        ),
-    }
+    place_table::judge_reopen(error_bound, room, used, count, k, words, entries)?;
+    row::judge_row(row_words)
 }

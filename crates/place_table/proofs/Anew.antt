@@ -1,6 +1,7 @@
 -- A table that is made anew: a stream gone through to note its entries, 64 values at a time; and what a rescue finds, as the table's words speak of it.
 -- Assumes nothing.
 use mathlib.Core.Path.{◌≡◌, refl, sym, ap, ap₂, ◌∙◌}
+use Rattle.std.specs.Prelude.{Result, Ok, Err}
 use mathlib.Core.Bool.{Bool}
 use mathlib.Core.List.{List, [], ◌∷◌}
 use Prim.Native.Nat.{ℕ, ◌+◌, ◌/◌, ◌≤◌, ◌<◌}
@@ -25,8 +26,7 @@ use Rattle.macaque_v.specs.Inner.ReadRun.{read_from, Reads, StopsBy, ReadableAt,
 use Rattle.macaque_v.specs.Inner.Read.{rescuing, state_with, OpensAs}
 use Rattle.macaque_v.specs.declared.Opening.{Opening}
 use Rattle.macaque_v.specs.declared.read_run.Cursor.{Cursor}
-use Rattle.macaque_v.specs.declared.read_run.Walk.{Walk}
-use Rattle.macaque_v.specs.declared.read_run.Walk.TheVariants as OfWalk
+use Rattle.macaque_v.specs.declared.read_run.Tally.{Tally}
 use Rattle.macaque_v.proofs.ReadingRun.{then-stops}
 use Rattle.macaque_v.proofs.ReadingAll.{stops-known}
 use Rattle.place_table.specs.Inner.Range.{here_of}
@@ -84,10 +84,10 @@ module _ (bytes : List ℕ) (o : Opening) (count : ℕ) where
 -- ---- what a rescue finds
 
 -- the values are there, and there is room for their entries
-pub found_in : (bytes : List ℕ) (o : Opening) (limit : ℕ) (words : List ℕ) (w : Walk) → limit ≤ most_values → entries_for limit ≤ entries_lent (length words)
+pub found_in : (bytes : List ℕ) (o : Opening) (limit : ℕ) (words : List ℕ) (w : Result (Cursor × Tally) Refusal) → limit ≤ most_values → entries_for limit ≤ entries_lent (length words)
     → OpensAs (rescuing bytes limit o) bytes w → FoundIn bytes o words w
-found_in bytes o limit words (OfWalk.Refused r) most room h = tt
-found_in bytes o limit words (OfWalk.To at t) most room h = go (read_whole S limit (opened o) bits) (arrived S limit (opened o) bits) h.0
+found_in bytes o limit words (Err r) most room h = tt
+found_in bytes o limit words (Ok (at, t)) most room h = go (read_whole S limit (opened o) bits) (arrived S limit (opened o) bits) h.0
   where
     S : Stream Known
     S = stream_in (is_first o)
@@ -107,7 +107,7 @@ found_in bytes o limit words (OfWalk.To at t) most room h = go (read_whole S lim
         counted e = cc
 
 -- and they are the table that the call leaves
-pub noted-anew : (bytes : List ℕ) (o : Opening) (words : List ℕ) (q : Reopened Known) (w : Walk) → OpensAs q bytes w
+pub noted-anew : (bytes : List ℕ) (o : Opening) (words : List ℕ) (q : Reopened Known) (w : Result (Cursor × Tally) Refusal) → OpensAs q bytes w
     → noted_found bytes o words w ≡ table_anew (stream_in (is_first o)) (opening_value o) bytes words q
-noted-anew bytes o words q (OfWalk.To at t) h = sym (ap (table_anew (stream_in (is_first o)) (opening_value o) bytes words) h.0)
-noted-anew bytes o words q (OfWalk.Refused r) u = sym (ap (table_anew (stream_in (is_first o)) (opening_value o) bytes words) u.opens)
+noted-anew bytes o words q (Ok (at, t)) h = sym (ap (table_anew (stream_in (is_first o)) (opening_value o) bytes words) h.0)
+noted-anew bytes o words q (Err r) u = sym (ap (table_anew (stream_in (is_first o)) (opening_value o) bytes words) u.opens)

@@ -35,7 +35,7 @@ table_write_table m xs buf words entries = tables.table_write_table (coder_by m)
 
 -- a writer and a number of entries are one beside the other
 abbrev pub says_table_write : Result (MacaqueV × ℕ) (Refused MacaqueV) → SaidOn MacaqueV (Beside MacaqueV)
-says_table_write (Ok a) = answered_on (beside a.0 a.1)
+says_table_write (Ok (m, n)) = answered_on (beside m n)
 says_table_write (Err e) = refused_on (fault_of e.cause) e.state
 
 abbrev unsaid_write : SaidOn MacaqueV (Beside MacaqueV) → Result (MacaqueV × ℕ) (Refused MacaqueV)
@@ -43,7 +43,7 @@ unsaid_write (answered_on a) = Ok (a.writer, a.entries)
 unsaid_write (refused_on f m) = Err (record { cause = refusal_of f; state = m })
 
 write-told : (r : Result (MacaqueV × ℕ) (Refused MacaqueV)) → unsaid_write (says_table_write r) ≡ r
-write-told (Ok a) = refl
+write-told (Ok (m, n)) = refl
 write-told (Err e) = rw (refusal-told e.cause)
 
 pub says_table_write-injective : Injective says_table_write
@@ -61,7 +61,7 @@ unfoldable pub table_reopen_memory : List ℕ → ℕ → ℕ → ℕ → Openin
 table_reopen_memory buf used count k o b words entries = tables.table_reopen_memory (coder_of b (is_first o)) (opening_value o) buf used count k words entries
 
 abbrev pub says_table_open : Result (MacaqueV × ℕ) Refusal → Said (Beside MacaqueV)
-says_table_open (Ok a) = answered (beside a.0 a.1)
+says_table_open (Ok (m, n)) = answered (beside m n)
 says_table_open (Err r) = refused (fault_of r)
 
 abbrev unsaid_open : Said (Beside MacaqueV) → Result (MacaqueV × ℕ) Refusal
@@ -69,7 +69,7 @@ unsaid_open (answered a) = Ok (a.writer, a.entries)
 unsaid_open (refused f) = Err (refusal_of f)
 
 open_told : (r : Result (MacaqueV × ℕ) Refusal) → unsaid_open (says_table_open r) ≡ r
-open_told (Ok a) = refl
+open_told (Ok (m, n)) = refl
 open_told (Err r) = rw (refusal-told r)
 
 pub says_table_open-injective : Injective says_table_open

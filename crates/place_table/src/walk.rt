@@ -1,5 +1,5 @@
 // Going through a stream: beside its table, to note its entries, or behind an entry.
-ghost use Rattle.std.specs.Prelude.{◌≡◌, ◌×◌, ◌+◌, ◌≤◌, length};
+ghost use Rattle.std.specs.Prelude.{◌≡◌, ◌+◌, ◌≤◌, length};
 ghost use Rattle.models.specs.Calls.{said_by};
 ghost use Rattle.models.specs.Limits.{most_values};
 ghost use Rattle.stream.specs.Calls.{drawn, drawn_in};

@@ -32,9 +32,9 @@ pub record ReadsFirst (bytes : List ℕ) (o : Opening) (n : ℕ) : Type 0 where
 
 -- what was found is there, and the words have room for its entries
 abbrev pub FoundIn : List ℕ → Opening → List ℕ → Result (Cursor × Tally) Refusal → Type 0
-FoundIn bytes o words (Ok w) = ReadsFirst bytes o w.0.count × (w.0.count ≤ most_values) × (entries_for w.0.count ≤ entries_lent (length words))
+FoundIn bytes o words (Ok (at, t)) = ReadsFirst bytes o at.count × (at.count ≤ most_values) × (entries_for at.count ≤ entries_lent (length words))
 FoundIn bytes o words (Err r) = Unit
 
 abbrev pub noted_found : List ℕ → Opening → List ℕ → Result (Cursor × Tally) Refusal → List ℕ
-noted_found bytes o words (Ok w) = laid_entries words 0 (own_entries bytes o w.0.count)
+noted_found bytes o words (Ok (at, t)) = laid_entries words 0 (own_entries bytes o at.count)
 noted_found bytes o words (Err r) = words
