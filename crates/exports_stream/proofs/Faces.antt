@@ -9,12 +9,11 @@ use lib.ListN.{length}
 use Rattle.models.specs.Answers.{Said, Done, answered, refused, SaidOn, answered_on, refused_on, stateless, Cause, judge, judged_memory, verdict, keeping, itself}
 use Rattle.models.specs.Bound.{bound_allowed}
 use Rattle.models.specs.Refusals.{fault_of}
-use Rattle.models.specs.Calls.{says_verdict}
+use Rattle.models.specs.Calls.{said_by}
 use Rattle.models.specs.declared.ErrorBound.{ErrorBound}
 use Rattle.models.specs.declared.Fault.{Fault}
 use Rattle.models.specs.declared.Refusal.{Refusal}
-use Rattle.models.specs.declared.Verdict.{Verdict}
-use Rattle.models.specs.declared.Verdict.TheVariants.{Passed, Refused}
+use Rattle.std.specs.Prelude.{Result, Ok, Err}
 use Rattle.models.proofs.Judged.{when-passed, when-refused, not-answered}
 use Rattle.models.proofs.Tests.{and-false}
 use Rattle.stream.specs.Format.{macaque, keeps_rule, usable}
@@ -34,14 +33,14 @@ use Rattle.exports_stream.specs.Rescue.{rescue_face_causes, rescue_said, rescue_
 
 -- ---- new, by the verdict on its causes
 
-module _ (kind bound mode opening : ℕ) (row : List ℕ) (v : Verdict) (says : says_verdict v ≡ verdict (new_causes (bound_of kind bound) mode (length row))) where
-  pub new-refused : (r : Refusal) → v ≡ Refused r → (fault_of r ≡ new_fault kind bound mode opening row) × (row ≡ new_row kind bound mode opening row)
+module _ (kind bound mode opening : ℕ) (row : List ℕ) (v : Result Done Refusal) (says : said_by v ≡ verdict (new_causes (bound_of kind bound) mode (length row))) where
+  pub new-refused : (r : Refusal) → v ≡ Err r → (fault_of r ≡ new_fault kind bound mode opening row) × (row ≡ new_row kind bound mode opening row)
   unfolding new_fault new_row
   new-refused r e =
       let causes = new_causes (bound_of kind bound) mode (length row) in
       (when-refused causes v says itself _ r e, when-refused causes v says (keeping row) _ r e)
 
-  pub new-passed : (said : Said MacaqueV) → said ≡ new_answer (bound_of kind bound) (opening_of mode opening) → v ≡ Passed
+  pub new-passed : (said : Said MacaqueV) → said ≡ new_answer (bound_of kind bound) (opening_of mode opening) → v ≡ Ok tt
       → (plain_fault said ≡ new_fault kind bound mode opening row) × (row_in writer_row row said ≡ new_row kind bound mode opening row)
   unfolding new_fault new_row
   new-passed said q e =
@@ -50,20 +49,20 @@ module _ (kind bound mode opening : ℕ) (row : List ℕ) (v : Verdict) (says : 
 
 -- ---- a state that is handed out, by the verdict on the causes of a call, and what the call behind says and leaves of the buffer
 
-module _ (buf row : List ℕ) (causes : List Cause) (v : Verdict) (says : says_verdict v ≡ verdict causes) where
-  pub opening-refused : (q : Said MacaqueV) (left : List ℕ) (r : Refusal) → v ≡ Refused r
+module _ (buf row : List ℕ) (causes : List Cause) (v : Result Done Refusal) (says : said_by v ≡ verdict causes) where
+  pub opening-refused : (q : Said MacaqueV) (left : List ℕ) (r : Refusal) → v ≡ Err r
       → (fault_of r ≡ judge itself causes (plain_fault q)) × (row ≡ judged_memory row causes (row_in writer_row row q)) × (buf ≡ judged_memory buf causes left)
   opening-refused q left r e = (when-refused causes v says itself _ r e, when-refused causes v says (keeping row) _ r e, when-refused causes v says (keeping buf) _ r e)
 
-  pub opening-passed : (said q : Said MacaqueV) (left : List ℕ) → said ≡ q → v ≡ Passed
+  pub opening-passed : (said q : Said MacaqueV) (left : List ℕ) → said ≡ q → v ≡ Ok tt
       → (plain_fault said ≡ judge itself causes (plain_fault q)) × (row_in writer_row row said ≡ judged_memory row causes (row_in writer_row row q)) × (left ≡ judged_memory buf causes left)
   opening-passed said q left is e =
       (ap plain_fault is ∙ when-passed causes v says itself _ e, ap (row_in writer_row row) is ∙ when-passed causes v says (keeping row) _ e, when-passed causes v says (keeping buf) _ e)
 
 -- ---- reopen and rescue
 
-module _ (buf : List ℕ) (used count k mode opening kind bound : ℕ) (row : List ℕ) (v : Verdict) (says : says_verdict v ≡ verdict (reopen_face_causes buf used count k mode kind bound row)) where
-  pub reopen-refused : (r : Refusal) → v ≡ Refused r
+module _ (buf : List ℕ) (used count k mode opening kind bound : ℕ) (row : List ℕ) (v : Result Done Refusal) (says : said_by v ≡ verdict (reopen_face_causes buf used count k mode kind bound row)) where
+  pub reopen-refused : (r : Refusal) → v ≡ Err r
       → (fault_of r ≡ reopen_fault buf used count k mode opening kind bound row)
       × (row ≡ reopen_row buf used count k mode opening kind bound row)
       × (buf ≡ reopen_buffer buf used count k mode opening kind bound row)
@@ -71,7 +70,7 @@ module _ (buf : List ℕ) (used count k mode opening kind bound : ℕ) (row : Li
   reopen-refused =
       opening-refused buf row (reopen_face_causes buf used count k mode kind bound row) v says (reopen_said buf used count k mode opening kind bound) (reopen_left buf used count k mode opening kind bound)
 
-  pub reopen-passed : (said : Said MacaqueV) → said ≡ reopen_said buf used count k mode opening kind bound → v ≡ Passed
+  pub reopen-passed : (said : Said MacaqueV) → said ≡ reopen_said buf used count k mode opening kind bound → v ≡ Ok tt
       → (plain_fault said ≡ reopen_fault buf used count k mode opening kind bound row)
       × (row_in writer_row row said ≡ reopen_row buf used count k mode opening kind bound row)
       × (reopen_left buf used count k mode opening kind bound ≡ reopen_buffer buf used count k mode opening kind bound row)
@@ -79,8 +78,8 @@ module _ (buf : List ℕ) (used count k mode opening kind bound : ℕ) (row : Li
   reopen-passed said =
       opening-passed buf row (reopen_face_causes buf used count k mode kind bound row) v says said (reopen_said buf used count k mode opening kind bound) (reopen_left buf used count k mode opening kind bound)
 
-module _ (buf : List ℕ) (used limit mode opening kind bound : ℕ) (row : List ℕ) (v : Verdict) (says : says_verdict v ≡ verdict (rescue_face_causes buf used limit mode kind bound row)) where
-  pub rescue-refused : (r : Refusal) → v ≡ Refused r
+module _ (buf : List ℕ) (used limit mode opening kind bound : ℕ) (row : List ℕ) (v : Result Done Refusal) (says : said_by v ≡ verdict (rescue_face_causes buf used limit mode kind bound row)) where
+  pub rescue-refused : (r : Refusal) → v ≡ Err r
       → (fault_of r ≡ rescue_fault buf used limit mode opening kind bound row)
       × (row ≡ rescue_row buf used limit mode opening kind bound row)
       × (buf ≡ rescue_buffer buf used limit mode opening kind bound row)
@@ -88,7 +87,7 @@ module _ (buf : List ℕ) (used limit mode opening kind bound : ℕ) (row : List
   rescue-refused =
       opening-refused buf row (rescue_face_causes buf used limit mode kind bound row) v says (rescue_said buf used limit mode opening kind bound) (rescue_left buf used limit mode opening kind bound)
 
-  pub rescue-passed : (said : Said MacaqueV) → said ≡ rescue_said buf used limit mode opening kind bound → v ≡ Passed
+  pub rescue-passed : (said : Said MacaqueV) → said ≡ rescue_said buf used limit mode opening kind bound → v ≡ Ok tt
       → (plain_fault said ≡ rescue_fault buf used limit mode opening kind bound row)
       × (row_in writer_row row said ≡ rescue_row buf used limit mode opening kind bound row)
       × (rescue_left buf used limit mode opening kind bound ≡ rescue_buffer buf used limit mode opening kind bound row)
@@ -98,7 +97,7 @@ module _ (buf : List ℕ) (used limit mode opening kind bound : ℕ) (row : List
 
 -- ---- a state that is handed out, in a row that holds its words
 
-pub put-plain : (row : List ℕ) (said : Said MacaqueV) (v : Verdict) (ws : List ℕ) → writer_length ≤ length row → length ws ≡ writer_length → words_said v ws ≡ worded writer_row said
+pub put-plain : (row : List ℕ) (said : Said MacaqueV) (v : Result Done Refusal) (ws : List ℕ) → writer_length ≤ length row → length ws ≡ writer_length → words_said v ws ≡ worded writer_row said
     → {told : Fault} {after : List ℕ} → Faced whole_row (length ws) row (words_said v ws) told after → (told ≡ plain_fault said) × (after ≡ row_in writer_row row said)
 put-plain row (answered m) v ws room size e f =
     step-said {S = Done} writer_length writer_row row (answered_on m) (inl room) (put writer_row writer_length row (answered m) v ws size e f)

@@ -48,7 +48,7 @@ pub fn writer_words(m: MacaqueV) -> [u64; WORDS]
     ensures { result ≡ writer_row m }
 {
     let b = m.error_bound;
-    let mode = exports::word_of(m.with_first) as u64;
+    let mode = u64::from(m.with_first);
     let sum = numbers::bits_of_f32(m.sum) as u64;
     state_words(words::kind_of(b), words::bits_of(b), mode, sum, m)
 }

@@ -2,12 +2,11 @@
 use mathlib.Core.Path.{◌≡◌, ap, ◌∙◌}
 use mathlib.Core.List.{List}
 use Prim.Native.Nat.{ℕ}
-use Rattle.models.specs.Answers.{Said, verdict, keeping, itself}
+use Rattle.models.specs.Answers.{Said, Done, verdict, keeping, itself}
 use Rattle.models.specs.Refusals.{fault_of}
-use Rattle.models.specs.Calls.{says_verdict}
+use Rattle.models.specs.Calls.{said_by}
 use Rattle.models.specs.declared.Refusal.{Refusal}
-use Rattle.models.specs.declared.Verdict.{Verdict}
-use Rattle.models.specs.declared.Verdict.TheVariants.{Passed, Refused}
+use Rattle.std.specs.Prelude.{Result, Ok, Err}
 use Rattle.models.proofs.Judged.{when-passed, when-refused}
 use Rattle.places.specs.Calls.{Beside}
 use Rattle.macaque_v.specs.declared.MacaqueV.{MacaqueV}
@@ -18,9 +17,9 @@ use Rattle.exports_table.specs.Rescue.{table_rescue_face_causes, table_rescue_sa
 
 -- ---- reopen, by the verdict on its causes
 
-module _ (buf : List ℕ) (used count k mode opening kind bound : ℕ) (row words : List ℕ) (entries : ℕ) (v : Verdict)
-    (says : says_verdict v ≡ verdict (table_reopen_face_causes buf used count k mode kind bound row words entries)) where
-  pub reopen-refused : (r : Refusal) → v ≡ Refused r
+module _ (buf : List ℕ) (used count k mode opening kind bound : ℕ) (row words : List ℕ) (entries : ℕ) (v : Result Done Refusal)
+    (says : said_by v ≡ verdict (table_reopen_face_causes buf used count k mode kind bound row words entries)) where
+  pub reopen-refused : (r : Refusal) → v ≡ Err r
       → (fault_of r ≡ table_reopen_fault buf used count k mode opening kind bound row words entries)
       × (row ≡ table_reopen_row buf used count k mode opening kind bound row words entries)
       × (buf ≡ table_reopen_buffer buf used count k mode opening kind bound row words entries)
@@ -34,7 +33,7 @@ module _ (buf : List ℕ) (used count k mode opening kind bound : ℕ) (row word
         when-refused causes v says (keeping entries) _ r e,
       )
 
-  pub reopen-passed : (said : Said (Beside MacaqueV)) → said ≡ table_reopen_said buf used count k mode opening kind bound words entries → v ≡ Passed
+  pub reopen-passed : (said : Said (Beside MacaqueV)) → said ≡ table_reopen_said buf used count k mode opening kind bound words entries → v ≡ Ok tt
       → (plain_fault said ≡ table_reopen_fault buf used count k mode opening kind bound row words entries)
       × (row_in beside_row row said ≡ table_reopen_row buf used count k mode opening kind bound row words entries)
       × (table_reopen_left buf used count k mode opening kind bound words entries ≡ table_reopen_buffer buf used count k mode opening kind bound row words entries)
@@ -50,9 +49,9 @@ module _ (buf : List ℕ) (used count k mode opening kind bound : ℕ) (row word
 
 -- ---- rescue, by the verdict on its causes
 
-module _ (buf : List ℕ) (used limit mode opening kind bound : ℕ) (row words : List ℕ) (entries : ℕ) (v : Verdict)
-    (says : says_verdict v ≡ verdict (table_rescue_face_causes buf used limit mode kind bound row words)) where
-  pub rescue-refused : (r : Refusal) → v ≡ Refused r
+module _ (buf : List ℕ) (used limit mode opening kind bound : ℕ) (row words : List ℕ) (entries : ℕ) (v : Result Done Refusal)
+    (says : said_by v ≡ verdict (table_rescue_face_causes buf used limit mode kind bound row words)) where
+  pub rescue-refused : (r : Refusal) → v ≡ Err r
       → (fault_of r ≡ table_rescue_fault buf used limit mode opening kind bound row words)
       × (row ≡ table_rescue_row buf used limit mode opening kind bound row words)
       × (buf ≡ table_rescue_buffer buf used limit mode opening kind bound row words)
@@ -68,7 +67,7 @@ module _ (buf : List ℕ) (used limit mode opening kind bound : ℕ) (row words 
         when-refused causes v says (keeping entries) _ r e,
       )
 
-  pub rescue-passed : (said : Said (Beside MacaqueV)) → said ≡ table_rescue_said buf used limit mode opening kind bound words → v ≡ Passed
+  pub rescue-passed : (said : Said (Beside MacaqueV)) → said ≡ table_rescue_said buf used limit mode opening kind bound words → v ≡ Ok tt
       → (plain_fault said ≡ table_rescue_fault buf used limit mode opening kind bound row words)
       × (row_in beside_row row said ≡ table_rescue_row buf used limit mode opening kind bound row words)
       × (table_rescue_left buf used limit mode opening kind bound words ≡ table_rescue_buffer buf used limit mode opening kind bound row words)

@@ -1,10 +1,8 @@
 -- What the calls of the place table's C face, but for the write, answer and leave: the fault, and the lent memory and number afterwards, by what the call
 -- behind says; and what is promised of rows. Assumes nothing.
 use Rattle.std.specs.Prelude.{◌≡◌, List, [], ◌∷◌, ◌++◌, ℕ, ltb, length, take}
-use Rattle.models.specs.Answers.{Said, Cause, ◌when◌, judge, judged_memory, verdict, keeping, itself, no_fault}
-use Rattle.models.specs.Calls.{says_verdict}
+use Rattle.models.specs.Answers.{Said, Cause, ◌when◌, judge, judged_memory, keeping, itself, no_fault}
 use Rattle.models.specs.declared.Fault.{Fault}
-use Rattle.models.specs.declared.Verdict.{Verdict}
 use Rattle.models.specs.declared.ErrorBound.{ErrorBound}
 use Rattle.places.specs.Calls.{Beside}
 use Rattle.places.specs.Table.{entries_for}

@@ -5,8 +5,7 @@ use mathlib.Core.Logic.{inl}
 use Prim.Native.Nat.{ℕ, ◌≤◌}
 use lib.ListN.{length}
 use Rattle.models.specs.Answers.{answered, answered_on, SaidOn, stateless}
-use Rattle.models.specs.declared.Verdict.TheVariants.{Passed}
-use Rattle.macaque_v.specs.Calls.{says_write, write_answer, write_memory}
+use Rattle.macaque_v.specs.Calls.{said_on, write_answer, write_memory}
 use Rattle.macaque_v.specs.declared.MacaqueV.{MacaqueV}
 use Rattle.exports.specs.Face.{step_fault, step_row}
 use Rattle.exports.specs.Inner.Put.{worded}
@@ -31,30 +30,30 @@ module _ (c : After-compress_values) where
   abbrev answer : SaidOn MacaqueV MacaqueV
   answer = write_answer (writer_in row) xs buf
 
-  said : answer ≡ says_write c.compress_values.result
+  said : answer ≡ said_on c.compress_values.result
   said = sym (c.compress_values.ensures.answer ∙ ap (λ (m : MacaqueV). write_answer m xs buf) c.writer_of.ensures)
 
   left : c.compress_values.new.buffer ≡ write_memory (writer_in row) xs buf
   left = c.compress_values.ensures.bytes ∙ ap (λ (m : MacaqueV). write_memory m xs buf) c.writer_of.ensures
 
   -- where it is accepted, the row holds its words
-  held : (m : MacaqueV) → says_write c.compress_values.result ≡ answered_on m → writer_length ≤ length row
+  held : (m : MacaqueV) → said_on c.compress_values.result ≡ answered_on m → writer_length ≤ length row
   held m e = has_words row (stands row xs buf m (said ∙ e))
 
 pub written_words-requires : goal.written_words-requires
-written_words-requires c = held (goal.at.written_words-requires c).After-compress_values _ (ap says_write c.in-Written.is)
+written_words-requires c = held (goal.at.written_words-requires c).After-compress_values _ (ap said_on c.in-Ok.is)
 
-pub returns-in-Refused : goal.returns-in-Refused
-returns-in-Refused c =
+pub returns-in-Err : goal.returns-in-Err
+returns-in-Err c =
     let k = c in
-    let e = said (goal.at.returns-in-Refused k).After-compress_values ∙ ap says_write c.in-Refused.is in
-    record { fault = c.fault_of.ensures ∙ sym (ap step_fault e); row = sym (ap (step_row (written_row (row (goal.at.returns-in-Refused k).After-compress_values)) (row (goal.at.returns-in-Refused k).After-compress_values)) e); bytes = left (goal.at.returns-in-Refused k).After-compress_values }
+    let e = said (goal.at.returns-in-Err k).After-compress_values ∙ ap said_on c.in-Err.is in
+    record { fault = c.from.ensures ∙ sym (ap step_fault e); row = sym (ap (step_row (written_row (row (goal.at.returns-in-Err k).After-compress_values)) (row (goal.at.returns-in-Err k).After-compress_values)) e); bytes = left (goal.at.returns-in-Err k).After-compress_values }
 
-pub returns-in-Written : goal.returns-in-Written
-returns-in-Written c =
+pub returns-in-Ok : goal.returns-in-Ok
+returns-in-Ok c =
     let k = c in
-    let after = ap says_write c.in-Written.is in
+    let after = ap said_on c.in-Ok.is in
     let words = c.written_words.ensures in
-    let e = ap answered words ∙ sym (ap (λ (q : SaidOn MacaqueV MacaqueV). worded (written_row (row (goal.at.returns-in-Written k).After-compress_values)) (stateless q)) (said (goal.at.returns-in-Written k).After-compress_values ∙ after)) in
-    let f = step-said writer_length (written_row (row (goal.at.returns-in-Written k).After-compress_values)) (row (goal.at.returns-in-Written k).After-compress_values) (answer (goal.at.returns-in-Written k).After-compress_values) (inl (held (goal.at.returns-in-Written k).After-compress_values _ after)) (put (written_row (row (goal.at.returns-in-Written k).After-compress_values)) writer_length (row (goal.at.returns-in-Written k).After-compress_values) (stateless (answer (goal.at.returns-in-Written k).After-compress_values)) Passed _ (ap length words ∙ written-long (row (goal.at.returns-in-Written k).After-compress_values) _) e (c.put_said.ensures.fault, c.put_said.ensures.row)) in
-    record { fault = f.0; row = f.1; bytes = left (goal.at.returns-in-Written k).After-compress_values }
+    let e = ap answered words ∙ sym (ap (λ (q : SaidOn MacaqueV MacaqueV). worded (written_row (row (goal.at.returns-in-Ok k).After-compress_values)) (stateless q)) (said (goal.at.returns-in-Ok k).After-compress_values ∙ after)) in
+    let f = step-said writer_length (written_row (row (goal.at.returns-in-Ok k).After-compress_values)) (row (goal.at.returns-in-Ok k).After-compress_values) (answer (goal.at.returns-in-Ok k).After-compress_values) (inl (held (goal.at.returns-in-Ok k).After-compress_values _ after)) (put (written_row (row (goal.at.returns-in-Ok k).After-compress_values)) writer_length (row (goal.at.returns-in-Ok k).After-compress_values) (stateless (answer (goal.at.returns-in-Ok k).After-compress_values)) Passed _ (ap length words ∙ written-long (row (goal.at.returns-in-Ok k).After-compress_values) _) e (c.put_said.ensures.fault, c.put_said.ensures.row)) in
+    record { fault = f.0; row = f.1; bytes = left (goal.at.returns-in-Ok k).After-compress_values }

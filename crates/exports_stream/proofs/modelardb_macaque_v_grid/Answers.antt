@@ -2,7 +2,7 @@
 use mathlib.Core.Path.{◌≡◌, sym, ap, ap₂, ◌∙◌}
 use Prim.Native.Nat.{ℕ}
 use lib.ListN.{length}
-use Rattle.models.specs.Calls.{says_grid}
+use Rattle.models.specs.Calls.{said_by}
 use Rattle.macaque_v.specs.Read.{grid_answer, grid_memory}
 use Rattle.macaque_v.specs.declared.Opening.{Opening}
 use Rattle.exports.specs.Face.{plain_fault}
@@ -12,7 +12,7 @@ use Rattle.exports_stream.proofs.modelardb_macaque_v_grid.Goals.{After-grid}
 
 -- what the call behind says and leaves, of the count and the opening that the mode allows
 said : (c : After-grid)
-    → plain_fault (says_grid c.grid.result)
+    → plain_fault (said_by c.grid.result)
     ≡ grid_fault c.args.bytes.now c.args.count c.args.mode
     c.args.opening c.args.out.now
 unfolding grid_fault
@@ -30,12 +30,12 @@ left c =
     let a = c.args in
     c.grid.ensures.values ∙ ap₂ (λ (n : ℕ) (o : Opening). grid_memory a.bytes.now n o a.out.now) c.count_in.ensures c.opening_of.ensures
 
-pub returns-in-Refused : goal.returns-in-Refused
-returns-in-Refused c =
+pub returns-in-Err : goal.returns-in-Err
+returns-in-Err c =
     let k = c in
-    record { fault = c.fault_of.ensures ∙ sym (ap (λ r. plain_fault (says_grid r)) c.in-Refused.is) ∙ said (goal.at.returns-in-Refused k).After-grid; values = left (goal.at.returns-in-Refused k).After-grid }
+    record { fault = c.from.ensures ∙ sym (ap (λ r. plain_fault (said_by r)) c.in-Err.is) ∙ said (goal.at.returns-in-Err k).After-grid; values = left (goal.at.returns-in-Err k).After-grid }
 
-pub returns-in-Drawn : goal.returns-in-Drawn
-returns-in-Drawn c =
+pub returns-in-Ok : goal.returns-in-Ok
+returns-in-Ok c =
     let k = c in
-    record { fault = sym (ap (λ r. plain_fault (says_grid r)) c.in-Drawn.is) ∙ said (goal.at.returns-in-Drawn k).After-grid; values = left (goal.at.returns-in-Drawn k).After-grid }
+    record { fault = sym (ap (λ r. plain_fault (said_by r)) c.in-Ok.is) ∙ said (goal.at.returns-in-Ok k).After-grid; values = left (goal.at.returns-in-Ok k).After-grid }

@@ -3,7 +3,7 @@ use mathlib.Core.Path.{◌≡◌, ap, ap₂, ◌∙◌}
 use borrow.Author.Tests.{ltb-false}
 use lib.ListN.{length}
 use Rattle.models.specs.Answers.{verdict}
-use Rattle.models.specs.Calls.{says_verdict}
+use Rattle.models.specs.Calls.{said_by}
 use Rattle.models.specs.declared.ErrorBound.{ErrorBound}
 use Rattle.models.proofs.Judged.{none-holds}
 use Rattle.macaque_v.specs.Calls.{new_answer}
@@ -16,7 +16,7 @@ use Rattle.exports_stream.proofs.modelardb_macaque_v_new.Goals.{After-judge_new}
 
 -- the verdict is that on the causes of the bound that the words stand for
 judged : (c : After-judge_new)
-    → says_verdict c.judge_new.result
+    → said_by c.judge_new.result
     ≡ verdict (new_causes (bound_of c.args.kind c.args.bound) c.args.mode (length c.args.state.now))
 judged c =
     let a = c.args in
@@ -26,21 +26,21 @@ pub put_opened-requires : goal.put_opened-requires
 put_opened-requires c =
     let k = c in
     let a = k.args in
-    let none = none-holds (new_causes (bound_of a.kind a.bound) a.mode (length a.state.now)) _ (judged (goal.at.put_opened-requires k).After-judge_new) c.in-Passed.is in
+    let none = none-holds (new_causes (bound_of a.kind a.bound) a.mode (length a.state.now)) _ (judged (goal.at.put_opened-requires k).After-judge_new) c.in-Ok.is in
     ltb-false (length a.state.now) writer_length none.1.1.0
 
-pub returns-in-Refused : goal.returns-in-Refused
-returns-in-Refused c =
+pub returns-in-Err : goal.returns-in-Err
+returns-in-Err c =
     let k = c in
     let a = k.args in
-    let t = new-refused a.kind a.bound a.mode a.opening a.state.now _ (judged (goal.at.returns-in-Refused k).After-judge_new) c.in-Refused.r c.in-Refused.is in
-    record { fault = c.fault_of.ensures ∙ t.0; row = t.1 }
+    let t = new-refused a.kind a.bound a.mode a.opening a.state.now _ (judged (goal.at.returns-in-Err k).After-judge_new) c.in-Err.r c.in-Err.is in
+    record { fault = c.from.ensures ∙ t.0; row = t.1 }
 
-pub returns-in-Passed : goal.returns-in-Passed
-returns-in-Passed c =
+pub returns-in-Ok : goal.returns-in-Ok
+returns-in-Ok c =
     let n = c in
     let k = c in
     let a = k.args in
     let said = n.new.ensures ∙ ap₂ new_answer k.bound_of-b.ensures n.opening_of.ensures in
-    let t = new-passed a.kind a.bound a.mode a.opening a.state.now _ (judged (goal.at.returns-in-Passed k).After-judge_new) _ said n.in-Passed.is in
+    let t = new-passed a.kind a.bound a.mode a.opening a.state.now _ (judged (goal.at.returns-in-Ok k).After-judge_new) _ said n.in-Ok.is in
     record { fault = c.put_opened.ensures.fault ∙ t.0; row = c.put_opened.ensures.row ∙ t.1 }

@@ -4,10 +4,9 @@ use Prim.Native.Nat.{ℕ}
 use borrow.Author.Tests.{ltb-false}
 use lib.ListN.{length}
 use Rattle.models.specs.Answers.{verdict}
-use Rattle.models.specs.Calls.{says_verdict}
+use Rattle.models.specs.Calls.{said_by}
 use Rattle.models.specs.declared.ErrorBound.{ErrorBound}
 use Rattle.models.proofs.Judged.{none-holds}
-use Rattle.macaque_v.specs.Read.{says_open}
 use Rattle.exports_stream.specs.Row.{writer_length}
 use Rattle.exports_stream.specs.Calls.{reopen_causes_with, reopen_face_causes, reopen_said, reopen_left}
 use Rattle.exports_stream.proofs.Faces.{reopen-refused, reopen-passed}
@@ -16,7 +15,7 @@ use Rattle.exports_stream.proofs.modelardb_macaque_v_reopen.Goals.{After-judge_r
 
 -- the verdict is that on the causes of the bound and the count that the words stand for
 judged : (c : After-judge_reopen)
-    → says_verdict c.judge_reopen.result
+    → said_by c.judge_reopen.result
     ≡ verdict
     (reopen_face_causes c.args.buffer.now c.args.used c.args.count c.args.k
     c.args.mode c.args.kind c.args.bound c.args.state.now)
@@ -29,25 +28,25 @@ pub put_opened-requires : goal.put_opened-requires
 put_opened-requires c =
     let k = c in
     let a = k.args in
-    let none = none-holds (reopen_face_causes a.buffer.now a.used a.count a.k a.mode a.kind a.bound a.state.now) _ (judged (goal.at.put_opened-requires k).After-judge_reopen) c.in-Passed.is in
+    let none = none-holds (reopen_face_causes a.buffer.now a.used a.count a.k a.mode a.kind a.bound a.state.now) _ (judged (goal.at.put_opened-requires k).After-judge_reopen) c.in-Ok.is in
     ltb-false (length a.state.now) writer_length none.1.1.1.0
 
-pub returns-in-Refused : goal.returns-in-Refused
-returns-in-Refused c =
+pub returns-in-Err : goal.returns-in-Err
+returns-in-Err c =
     let k = c in
     let a = k.args in
-    let t = reopen-refused a.buffer.now a.used a.count a.k a.mode a.opening a.kind a.bound a.state.now _ (judged (goal.at.returns-in-Refused k).After-judge_reopen) c.in-Refused.r c.in-Refused.is in
-    record { fault = c.fault_of.ensures ∙ t.0; row = t.1; bytes = t.2 }
+    let t = reopen-refused a.buffer.now a.used a.count a.k a.mode a.opening a.kind a.bound a.state.now _ (judged (goal.at.returns-in-Err k).After-judge_reopen) c.in-Err.r c.in-Err.is in
+    record { fault = c.from.ensures ∙ t.0; row = t.1; bytes = t.2 }
 
-pub returns-in-Passed : goal.returns-in-Passed
-returns-in-Passed c =
+pub returns-in-Ok : goal.returns-in-Ok
+returns-in-Ok c =
     let r = c in
     let k = c in
     let a = k.args in
     let b = k.bound_of-b.ensures in
     let n = k.count_in-n.ensures in
     let o = r.opening_of.ensures in
-    let said : says_open r.reopen-writer.result ≡ reopen_said a.buffer.now a.used a.count a.k a.mode a.opening a.kind a.bound = r.reopen-writer.ensures.answer ∙ rw (b, n, o) in
+    let said : said_by r.reopen-writer.result ≡ reopen_said a.buffer.now a.used a.count a.k a.mode a.opening a.kind a.bound = r.reopen-writer.ensures.answer ∙ rw (b, n, o) in
     let left : r.reopen-writer.new.buffer ≡ reopen_left a.buffer.now a.used a.count a.k a.mode a.opening a.kind a.bound = r.reopen-writer.ensures.bytes ∙ rw (b, n, o) in
-    let t = reopen-passed a.buffer.now a.used a.count a.k a.mode a.opening a.kind a.bound a.state.now _ (judged (goal.at.returns-in-Passed k).After-judge_reopen) _ said r.in-Passed.is in
+    let t = reopen-passed a.buffer.now a.used a.count a.k a.mode a.opening a.kind a.bound a.state.now _ (judged (goal.at.returns-in-Ok k).After-judge_reopen) _ said r.in-Ok.is in
     record { fault = c.put_opened.ensures.fault ∙ t.0; row = c.put_opened.ensures.row ∙ t.1; bytes = left ∙ t.2 }

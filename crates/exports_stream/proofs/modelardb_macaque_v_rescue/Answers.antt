@@ -6,12 +6,11 @@ use borrow.Author.Tests.{ltb-false}
 use lib.Dec.{ltb}
 use lib.ListN.{length}
 use Rattle.models.specs.Answers.{Cause, ◌when◌, verdict}
-use Rattle.models.specs.Calls.{says_verdict}
+use Rattle.models.specs.Calls.{said_by}
 use Rattle.models.specs.Causes.{bound_causes}
 use Rattle.models.specs.declared.ErrorBound.{ErrorBound}
 use Rattle.models.proofs.Judged.{none-holds}
 use Rattle.stream.proofs.RescueCalls.{same-causes}
-use Rattle.macaque_v.specs.Read.{says_open}
 use Rattle.exports_stream.specs.Row.{writer_length}
 use Rattle.exports_stream.specs.Rescue.{rescue_causes_with, rescue_face_causes, rescue_said, rescue_left}
 use Rattle.exports_stream.proofs.Faces.{rescue-refused, rescue-passed}
@@ -20,7 +19,7 @@ use Rattle.exports_stream.proofs.modelardb_macaque_v_rescue.Goals.{After-judge_r
 
 -- the verdict is that on the causes of the bound and the limit that the words stand for: those of a reopening at the limit
 judged : (c : After-judge_reopen)
-    → says_verdict c.judge_reopen.result
+    → said_by c.judge_reopen.result
     ≡ verdict (rescue_face_causes c.args.buffer.now c.args.used c.args.limit c.args.mode c.args.kind c.args.bound c.args.state.now)
 judged c =
     let a = c.args in
@@ -34,25 +33,25 @@ pub put_opened-requires : goal.put_opened-requires
 put_opened-requires c =
     let k = c in
     let a = k.args in
-    let none = none-holds (rescue_face_causes a.buffer.now a.used a.limit a.mode a.kind a.bound a.state.now) _ (judged (goal.at.put_opened-requires k).After-judge_reopen) c.in-Passed.is in
+    let none = none-holds (rescue_face_causes a.buffer.now a.used a.limit a.mode a.kind a.bound a.state.now) _ (judged (goal.at.put_opened-requires k).After-judge_reopen) c.in-Ok.is in
     ltb-false (length a.state.now) writer_length none.1.1.1.0
 
-pub returns-in-Refused : goal.returns-in-Refused
-returns-in-Refused c =
+pub returns-in-Err : goal.returns-in-Err
+returns-in-Err c =
     let k = c in
     let a = k.args in
-    let t = rescue-refused a.buffer.now a.used a.limit a.mode a.opening a.kind a.bound a.state.now _ (judged (goal.at.returns-in-Refused k).After-judge_reopen) c.in-Refused.r c.in-Refused.is in
-    record { fault = c.fault_of.ensures ∙ t.0; row = t.1; bytes = t.2 }
+    let t = rescue-refused a.buffer.now a.used a.limit a.mode a.opening a.kind a.bound a.state.now _ (judged (goal.at.returns-in-Err k).After-judge_reopen) c.in-Err.r c.in-Err.is in
+    record { fault = c.from.ensures ∙ t.0; row = t.1; bytes = t.2 }
 
-pub returns-in-Passed : goal.returns-in-Passed
-returns-in-Passed c =
+pub returns-in-Ok : goal.returns-in-Ok
+returns-in-Ok c =
     let r = c in
     let k = c in
     let a = k.args in
     let b = k.bound_of-b.ensures in
     let n = k.count_in-n.ensures in
     let o = r.opening_of.ensures in
-    let said : says_open r.rescue-writer.result ≡ rescue_said a.buffer.now a.used a.limit a.mode a.opening a.kind a.bound = r.rescue-writer.ensures.answer ∙ rw (b, n, o) in
+    let said : said_by r.rescue-writer.result ≡ rescue_said a.buffer.now a.used a.limit a.mode a.opening a.kind a.bound = r.rescue-writer.ensures.answer ∙ rw (b, n, o) in
     let left : r.rescue-writer.new.buffer ≡ rescue_left a.buffer.now a.used a.limit a.mode a.opening a.kind a.bound = r.rescue-writer.ensures.bytes ∙ rw (b, n, o) in
-    let t = rescue-passed a.buffer.now a.used a.limit a.mode a.opening a.kind a.bound a.state.now _ (judged (goal.at.returns-in-Passed k).After-judge_reopen) _ said r.in-Passed.is in
+    let t = rescue-passed a.buffer.now a.used a.limit a.mode a.opening a.kind a.bound a.state.now _ (judged (goal.at.returns-in-Ok k).After-judge_reopen) _ said r.in-Ok.is in
     record { fault = c.put_opened.ensures.fault ∙ t.0; row = c.put_opened.ensures.row ∙ t.1; bytes = left ∙ t.2 }

@@ -5,7 +5,6 @@ use mathlib.Core.Logic.{inl}
 use Prim.Native.Nat.{ℕ, ◌≤◌}
 use lib.ListN.{length}
 use Rattle.models.specs.Answers.{answered, answered_on, SaidOn, stateless}
-use Rattle.models.specs.declared.Verdict.TheVariants.{Passed}
 use Rattle.places.specs.Calls.{Beside}
 use Rattle.macaque_v.specs.declared.MacaqueV.{MacaqueV}
 use Rattle.place_table.specs.Calls.{says_table_write, table_write_answer, table_write_memory, table_write_table}
@@ -56,31 +55,31 @@ module _ (c : After-compress_values) where
   held a e = has_words row (stands row xs buf words entries a (said ∙ e))
 
 pub written_words-requires : goal.written_words-requires
-written_words-requires c = held (goal.at.written_words-requires c).After-compress_values _ (ap says_table_write c.in-Written.is)
+written_words-requires c = held (goal.at.written_words-requires c).After-compress_values _ (ap says_table_write c.in-Ok.is)
 
-pub returns-in-Refused : goal.returns-in-Refused
-returns-in-Refused c =
+pub returns-in-Err : goal.returns-in-Err
+returns-in-Err c =
     let k = c in
-    let e = said (goal.at.returns-in-Refused k).After-compress_values ∙ ap says_table_write c.in-Refused.is in
+    let e = said (goal.at.returns-in-Err k).After-compress_values ∙ ap says_table_write c.in-Err.is in
     record {
-      fault = c.fault_of.ensures ∙ sym (ap step_fault e);
-      row = sym (ap (step_row (beside_written (row (goal.at.returns-in-Refused k).After-compress_values)) (row (goal.at.returns-in-Refused k).After-compress_values)) e);
-      bytes = left (goal.at.returns-in-Refused k).After-compress_values;
-      words = laid (goal.at.returns-in-Refused k).After-compress_values;
-      number = sym (ap (λ (q : SaidOn MacaqueV (Beside MacaqueV)). entries_after (entries (goal.at.returns-in-Refused k).After-compress_values) (stateless q)) e);
+      fault = c.from.ensures ∙ sym (ap step_fault e);
+      row = sym (ap (step_row (beside_written (row (goal.at.returns-in-Err k).After-compress_values)) (row (goal.at.returns-in-Err k).After-compress_values)) e);
+      bytes = left (goal.at.returns-in-Err k).After-compress_values;
+      words = laid (goal.at.returns-in-Err k).After-compress_values;
+      number = sym (ap (λ (q : SaidOn MacaqueV (Beside MacaqueV)). entries_after (entries (goal.at.returns-in-Err k).After-compress_values) (stateless q)) e);
     }
 
-pub returns-in-Written : goal.returns-in-Written
-returns-in-Written c =
+pub returns-in-Ok : goal.returns-in-Ok
+returns-in-Ok c =
     let k = c in
-    let after = ap says_table_write c.in-Written.is in
+    let after = ap says_table_write c.in-Ok.is in
     let words = c.written_words.ensures in
-    let e = ap answered words ∙ sym (ap (λ (q : SaidOn MacaqueV (Beside MacaqueV)). worded (beside_written (row (goal.at.returns-in-Written k).After-compress_values)) (stateless q)) (said (goal.at.returns-in-Written k).After-compress_values ∙ after)) in
-    let f = step-said writer_length (beside_written (row (goal.at.returns-in-Written k).After-compress_values)) (row (goal.at.returns-in-Written k).After-compress_values) (answer (goal.at.returns-in-Written k).After-compress_values) (inl (held (goal.at.returns-in-Written k).After-compress_values _ after)) (put (beside_written (row (goal.at.returns-in-Written k).After-compress_values)) writer_length (row (goal.at.returns-in-Written k).After-compress_values) (stateless (answer (goal.at.returns-in-Written k).After-compress_values)) Passed _ (ap length words ∙ written-long (row (goal.at.returns-in-Written k).After-compress_values) _) e (c.put_said.ensures.fault, c.put_said.ensures.row)) in
+    let e = ap answered words ∙ sym (ap (λ (q : SaidOn MacaqueV (Beside MacaqueV)). worded (beside_written (row (goal.at.returns-in-Ok k).After-compress_values)) (stateless q)) (said (goal.at.returns-in-Ok k).After-compress_values ∙ after)) in
+    let f = step-said writer_length (beside_written (row (goal.at.returns-in-Ok k).After-compress_values)) (row (goal.at.returns-in-Ok k).After-compress_values) (answer (goal.at.returns-in-Ok k).After-compress_values) (inl (held (goal.at.returns-in-Ok k).After-compress_values _ after)) (put (beside_written (row (goal.at.returns-in-Ok k).After-compress_values)) writer_length (row (goal.at.returns-in-Ok k).After-compress_values) (stateless (answer (goal.at.returns-in-Ok k).After-compress_values)) Passed _ (ap length words ∙ written-long (row (goal.at.returns-in-Ok k).After-compress_values) _) e (c.put_said.ensures.fault, c.put_said.ensures.row)) in
     record {
       fault = f.0;
       row = f.1;
-      bytes = left (goal.at.returns-in-Written k).After-compress_values;
-      words = laid (goal.at.returns-in-Written k).After-compress_values;
-      number = sym (ap (λ (q : SaidOn MacaqueV (Beside MacaqueV)). entries_after (entries (goal.at.returns-in-Written k).After-compress_values) (stateless q)) (said (goal.at.returns-in-Written k).After-compress_values ∙ after));
+      bytes = left (goal.at.returns-in-Ok k).After-compress_values;
+      words = laid (goal.at.returns-in-Ok k).After-compress_values;
+      number = sym (ap (λ (q : SaidOn MacaqueV (Beside MacaqueV)). entries_after (entries (goal.at.returns-in-Ok k).After-compress_values) (stateless q)) (said (goal.at.returns-in-Ok k).After-compress_values ∙ after));
     }

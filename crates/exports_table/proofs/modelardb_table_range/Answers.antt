@@ -2,7 +2,7 @@
 use mathlib.Core.Path.{◌≡◌, sym, ap, ap₂, ◌∙◌}
 use Prim.Native.Nat.{ℕ}
 use lib.ListN.{length}
-use Rattle.models.specs.Calls.{says_grid}
+use Rattle.models.specs.Calls.{said_by}
 use Rattle.macaque_v.specs.declared.Opening.{Opening}
 use Rattle.place_table.specs.Calls.{range_answer, range_memory}
 use Rattle.exports.specs.Face.{plain_fault}
@@ -12,7 +12,7 @@ use Rattle.exports_table.proofs.modelardb_table_range.Goals.{After-range}
 
 -- what the call behind says and leaves, of the count and the opening that the mode allows
 module _ (c : After-range) where
-  said : plain_fault (says_grid c.range.result)
+  said : plain_fault (said_by c.range.result)
       ≡ table_range_fault c.args.bytes.now c.args.count c.args.mode c.args.opening c.args.table.now c.args.entries c.args.p c.args.q c.args.out.now
   unfolding table_range_fault
   said =
@@ -29,12 +29,12 @@ module _ (c : After-range) where
       c.range.ensures.values
       ∙ ap₂ (λ (n : ℕ) (o : Opening). range_memory a.bytes.now n o a.table.now a.entries a.p a.q a.out.now) c.count_in-n.ensures c.opening_of-o.ensures
 
-pub returns-in-Refused : goal.returns-in-Refused
-returns-in-Refused c =
+pub returns-in-Err : goal.returns-in-Err
+returns-in-Err c =
     let k = c in
-    record { fault = c.fault_of.ensures ∙ sym (ap (λ r. plain_fault (says_grid r)) c.in-Refused.is) ∙ said (goal.at.returns-in-Refused k).After-range; values = left (goal.at.returns-in-Refused k).After-range }
+    record { fault = c.from.ensures ∙ sym (ap (λ r. plain_fault (said_by r)) c.in-Err.is) ∙ said (goal.at.returns-in-Err k).After-range; values = left (goal.at.returns-in-Err k).After-range }
 
-pub returns-in-Drawn : goal.returns-in-Drawn
-returns-in-Drawn c =
+pub returns-in-Ok : goal.returns-in-Ok
+returns-in-Ok c =
     let k = c in
-    record { fault = sym (ap (λ r. plain_fault (says_grid r)) c.in-Drawn.is) ∙ said (goal.at.returns-in-Drawn k).After-range; values = left (goal.at.returns-in-Drawn k).After-range }
+    record { fault = sym (ap (λ r. plain_fault (said_by r)) c.in-Ok.is) ∙ said (goal.at.returns-in-Ok k).After-range; values = left (goal.at.returns-in-Ok k).After-range }

@@ -5,7 +5,7 @@ use Prim.Native.Nat.{ℕ}
 use borrow.Author.Tests.{ltb-false}
 use lib.ListN.{length}
 use Rattle.models.specs.Answers.{verdict}
-use Rattle.models.specs.Calls.{says_verdict}
+use Rattle.models.specs.Calls.{said_by}
 use Rattle.models.specs.declared.ErrorBound.{ErrorBound}
 use Rattle.models.proofs.Judged.{none-holds}
 use Rattle.macaque_v.specs.declared.Opening.{Opening}
@@ -18,7 +18,7 @@ use Rattle.exports_table.proofs.modelardb_table_reopen.Goals.{After-judge_reopen
 
 -- the verdict is that on the causes of the bound and the count that the words stand for
 module _ (c : After-judge_reopen) where
-  judged : says_verdict c.judge_reopen.result
+  judged : said_by c.judge_reopen.result
       ≡ verdict
       (table_reopen_face_causes c.args.buffer.now c.args.used c.args.count c.args.k c.args.mode c.args.kind c.args.bound c.args.state.now c.args.table.now
       c.args.entries.now)
@@ -58,29 +58,29 @@ put_opened-requires c =
     let r = c in
     let a = r.args in
     let none = none-holds (table_reopen_face_causes a.buffer.now a.used a.count a.k a.mode a.kind a.bound a.state.now a.table.now a.entries.now) _ (judged (goal.at.put_opened-requires r).After-judge_reopen)
-    r.in-Passed.is in
+    r.in-Ok.is in
     ltb-false (length a.state.now) writer_length none.1.1.1.1.1.0
 
-pub returns-in-Refused : goal.returns-in-Refused
-returns-in-Refused c =
+pub returns-in-Err : goal.returns-in-Err
+returns-in-Err c =
     let k = c in
     let a = k.args in
-    let t = reopen-refused a.buffer.now a.used a.count a.k a.mode a.opening a.kind a.bound a.state.now a.table.now a.entries.now _ (judged (goal.at.returns-in-Refused k).After-judge_reopen) c.in-Refused.r
-    c.in-Refused.is in
-    record { fault = c.fault_of.ensures ∙ t.0; row = t.1; bytes = t.2; number = t.3 }
+    let t = reopen-refused a.buffer.now a.used a.count a.k a.mode a.opening a.kind a.bound a.state.now a.table.now a.entries.now _ (judged (goal.at.returns-in-Err k).After-judge_reopen) c.in-Err.r
+    c.in-Err.is in
+    record { fault = c.from.ensures ∙ t.0; row = t.1; bytes = t.2; number = t.3 }
 
-pub returns-in-Refused-reopen : goal.returns-in-Refused-reopen
-returns-in-Refused-reopen c =
+pub returns-in-Err-reopen : goal.returns-in-Err-reopen
+returns-in-Err-reopen c =
     let r = c in
     let a = r.args in
-    let t = reopen-passed a.buffer.now a.used a.count a.k a.mode a.opening a.kind a.bound a.state.now a.table.now a.entries.now _ (judged (goal.at.returns-in-Refused-reopen r).After-judge_reopen) _
-    (sym (ap says_table_open c.in-Refused-reopen.is) ∙ said (goal.at.returns-in-Refused-reopen r).After-reopen) r.in-Passed.is in
-    record { fault = c.fault_of-in-Refused-reopen.ensures ∙ t.0; row = t.1; bytes = left (goal.at.returns-in-Refused-reopen r).After-reopen ∙ t.2; number = t.3 }
+    let t = reopen-passed a.buffer.now a.used a.count a.k a.mode a.opening a.kind a.bound a.state.now a.table.now a.entries.now _ (judged (goal.at.returns-in-Err-reopen r).After-judge_reopen) _
+    (sym (ap says_table_open c.in-Err-reopen.is) ∙ said (goal.at.returns-in-Err-reopen r).After-reopen) r.in-Ok.is in
+    record { fault = c.from-in-Err-reopen.ensures ∙ t.0; row = t.1; bytes = left (goal.at.returns-in-Err-reopen r).After-reopen ∙ t.2; number = t.3 }
 
-pub returns-in-Opened : goal.returns-in-Opened
-returns-in-Opened c =
+pub returns-in-Ok : goal.returns-in-Ok
+returns-in-Ok c =
     let r = c in
     let a = r.args in
-    let t = reopen-passed a.buffer.now a.used a.count a.k a.mode a.opening a.kind a.bound a.state.now a.table.now a.entries.now _ (judged (goal.at.returns-in-Opened r).After-judge_reopen) _
-    (sym (ap says_table_open c.in-Opened.is) ∙ said (goal.at.returns-in-Opened r).After-reopen) r.in-Passed.is in
-    record { fault = c.put_opened.ensures.fault ∙ t.0; row = c.put_opened.ensures.row ∙ t.1; bytes = left (goal.at.returns-in-Opened r).After-reopen ∙ t.2; number = t.3 }
+    let t = reopen-passed a.buffer.now a.used a.count a.k a.mode a.opening a.kind a.bound a.state.now a.table.now a.entries.now _ (judged (goal.at.returns-in-Ok r).After-judge_reopen) _
+    (sym (ap says_table_open c.in-Ok.is) ∙ said (goal.at.returns-in-Ok r).After-reopen) r.in-Ok.is in
+    record { fault = c.put_opened.ensures.fault ∙ t.0; row = c.put_opened.ensures.row ∙ t.1; bytes = left (goal.at.returns-in-Ok r).After-reopen ∙ t.2; number = t.3 }

@@ -5,7 +5,7 @@ use Prim.Native.Nat.{ℕ}
 use borrow.Author.Tests.{ltb-false}
 use lib.ListN.{length}
 use Rattle.models.specs.Answers.{verdict}
-use Rattle.models.specs.Calls.{says_verdict}
+use Rattle.models.specs.Calls.{said_by}
 use Rattle.models.specs.declared.ErrorBound.{ErrorBound}
 use Rattle.models.proofs.Judged.{none-holds}
 use Rattle.macaque_v.specs.declared.Opening.{Opening}
@@ -18,7 +18,7 @@ use Rattle.exports_table.proofs.modelardb_table_rescue.Goals.{After-judge_rescue
 
 -- the verdict is that on the causes of the bound and the limit that the words stand for
 module _ (c : After-judge_rescue) where
-  judged : says_verdict c.judge_rescue.result
+  judged : said_by c.judge_rescue.result
       ≡ verdict
       (table_rescue_face_causes c.args.buffer.now c.args.used c.args.limit c.args.mode c.args.kind c.args.bound c.args.state.now c.args.table.now)
   judged =
@@ -66,29 +66,29 @@ pub put_opened-requires : goal.put_opened-requires
 put_opened-requires c =
     let r = c in
     let a = r.args in
-    let none = none-holds (table_rescue_face_causes a.buffer.now a.used a.limit a.mode a.kind a.bound a.state.now a.table.now) _ (judged (goal.at.put_opened-requires r).After-judge_rescue) c.in-Passed.is in
+    let none = none-holds (table_rescue_face_causes a.buffer.now a.used a.limit a.mode a.kind a.bound a.state.now a.table.now) _ (judged (goal.at.put_opened-requires r).After-judge_rescue) c.in-Ok.is in
     ltb-false (length a.state.now) writer_length none.1.1.1.1.0
 
-pub returns-in-Refused : goal.returns-in-Refused
-returns-in-Refused c =
+pub returns-in-Err : goal.returns-in-Err
+returns-in-Err c =
     let k = c in
     let a = k.args in
-    let t = rescue-refused a.buffer.now a.used a.limit a.mode a.opening a.kind a.bound a.state.now a.table.now a.entries.now _ (judged (goal.at.returns-in-Refused k).After-judge_rescue) c.in-Refused.r
-    c.in-Refused.is in
-    record { fault = c.fault_of.ensures ∙ t.0; row = t.1; bytes = t.2; words = t.3; number = t.4 }
+    let t = rescue-refused a.buffer.now a.used a.limit a.mode a.opening a.kind a.bound a.state.now a.table.now a.entries.now _ (judged (goal.at.returns-in-Err k).After-judge_rescue) c.in-Err.r
+    c.in-Err.is in
+    record { fault = c.from.ensures ∙ t.0; row = t.1; bytes = t.2; words = t.3; number = t.4 }
 
-pub returns-in-Refused-rescue : goal.returns-in-Refused-rescue
-returns-in-Refused-rescue c =
+pub returns-in-Err-rescue : goal.returns-in-Err-rescue
+returns-in-Err-rescue c =
     let r = c in
     let a = r.args in
-    let t = rescue-passed a.buffer.now a.used a.limit a.mode a.opening a.kind a.bound a.state.now a.table.now a.entries.now _ (judged (goal.at.returns-in-Refused-rescue r).After-judge_rescue) _
-    (sym (ap says_table_open c.in-Refused-rescue.is) ∙ said (goal.at.returns-in-Refused-rescue r).After-rescue) c.in-Passed.is in
-    record { fault = c.fault_of-in-Refused-rescue.ensures ∙ t.0; row = t.1; bytes = left (goal.at.returns-in-Refused-rescue r).After-rescue ∙ t.2; words = noted (goal.at.returns-in-Refused-rescue r).After-rescue ∙ t.3; number = t.4 }
+    let t = rescue-passed a.buffer.now a.used a.limit a.mode a.opening a.kind a.bound a.state.now a.table.now a.entries.now _ (judged (goal.at.returns-in-Err-rescue r).After-judge_rescue) _
+    (sym (ap says_table_open c.in-Err-rescue.is) ∙ said (goal.at.returns-in-Err-rescue r).After-rescue) c.in-Ok.is in
+    record { fault = c.from-in-Err-rescue.ensures ∙ t.0; row = t.1; bytes = left (goal.at.returns-in-Err-rescue r).After-rescue ∙ t.2; words = noted (goal.at.returns-in-Err-rescue r).After-rescue ∙ t.3; number = t.4 }
 
-pub returns-in-Opened : goal.returns-in-Opened
-returns-in-Opened c =
+pub returns-in-Ok : goal.returns-in-Ok
+returns-in-Ok c =
     let r = c in
     let a = r.args in
-    let t = rescue-passed a.buffer.now a.used a.limit a.mode a.opening a.kind a.bound a.state.now a.table.now a.entries.now _ (judged (goal.at.returns-in-Opened r).After-judge_rescue) _
-    (sym (ap says_table_open c.in-Opened.is) ∙ said (goal.at.returns-in-Opened r).After-rescue) c.in-Passed.is in
-    record { fault = c.put_opened.ensures.fault ∙ t.0; row = c.put_opened.ensures.row ∙ t.1; bytes = left (goal.at.returns-in-Opened r).After-rescue ∙ t.2; words = noted (goal.at.returns-in-Opened r).After-rescue ∙ t.3; number = t.4 }
+    let t = rescue-passed a.buffer.now a.used a.limit a.mode a.opening a.kind a.bound a.state.now a.table.now a.entries.now _ (judged (goal.at.returns-in-Ok r).After-judge_rescue) _
+    (sym (ap says_table_open c.in-Ok.is) ∙ said (goal.at.returns-in-Ok r).After-rescue) c.in-Ok.is in
+    record { fault = c.put_opened.ensures.fault ∙ t.0; row = c.put_opened.ensures.row ∙ t.1; bytes = left (goal.at.returns-in-Ok r).After-rescue ∙ t.2; words = noted (goal.at.returns-in-Ok r).After-rescue ∙ t.3; number = t.4 }

@@ -1,12 +1,12 @@
--- `place_table::walk::compare` meets its contract: `done` values were read from the start, and the entries before them were compared. Assumes nothing.
+-- `place_table::walk::compare` meets its contract: the values before where reading stands were read from the start, and the entries before them were compared. Assumes nothing.
 use mathlib.Core.Path.{◌≡◌}
 use Prim.Native.Nat.{◌-◌}
 use lib.ListN.{length}
 use Rattle.place_table.proofs.Comparing.{Along}
 use Rattle.place_table.proofs.walk.compare.Given as goal
 
-abbrev pub invariant-loop-done : goal.invariant-loop-done
-invariant-loop-done l = (length l.values ≡ 92) × Along l.first l.bytes l.initial.at l.table l.count l.done l.at l.same
+abbrev pub invariant-loop-at : goal.invariant-loop-at
+invariant-loop-at l = (length l.values ≡ 92) × Along l.first l.bytes l.initial.at l.table l.count l.at.count l.at l.same
 
-abbrev pub decreases-loop-done : goal.decreases-loop-done
-decreases-loop-done l = l.count - l.done
+abbrev pub decreases-loop-at : goal.decreases-loop-at
+decreases-loop-at l = l.count - l.at.count
