@@ -1,7 +1,7 @@
 -- A table that is made anew: a stream gone through to note its entries, 64 values at a time; and what a rescue finds, as the table's words speak of it.
 -- Assumes nothing.
 use mathlib.Core.Path.{◌≡◌, refl, sym, ap, ap₂, ◌∙◌}
-use Rattle.std.specs.Prelude.{Result, Ok, Err}
+use Rattle.std.specs.Prelude.{Result, Ok, Err, IsOk}
 use mathlib.Core.Bool.{Bool}
 use mathlib.Core.List.{List, [], ◌∷◌}
 use Prim.Native.Nat.{ℕ, ◌+◌, ◌/◌, ◌≤◌, ◌<◌}
@@ -22,7 +22,7 @@ use Rattle.places.proofs.Words.{laid_none, laid_more, laid-length}
 use Rattle.macaque_v.specs.State.{Known, mode_of, stream_in, is_first, opening_value, opened}
 use Rattle.macaque_v.specs.Read.{start_of}
 use Rattle.macaque_v.specs.ReadRun.{state_at, ahead}
-use Rattle.macaque_v.specs.Inner.ReadRun.{read_from, Reads, StopsBy, ReadableAt, known_in}
+use Rattle.macaque_v.specs.Inner.ReadRun.{read_from, Reads, StopsBy, FillSays, ReadableAt, known_in}
 use Rattle.macaque_v.specs.Inner.Read.{rescuing, state_with, OpensAs}
 use Rattle.macaque_v.specs.declared.Opening.{Opening}
 use Rattle.macaque_v.specs.declared.read_run.Cursor.{Cursor}
@@ -74,12 +74,17 @@ module _ (bytes : List ℕ) (o : Opening) (count : ℕ) where
   noted-all at old words N = N.table ∙ ap (laid_entries old 0) (own-entries bytes o count old)
 
   -- reading does not stop among values that are there
-  pub never-stops : ReadsFirst bytes o count → (n k : ℕ) (at : Cursor) → Gone (is_first o) bytes (start_of o) count n at → n + k ≤ count
+  never-stops : ReadsFirst bytes o count → (n k : ℕ) (at : Cursor) → Gone (is_first o) bytes (start_of o) count n at → n + k ≤ count
       → (r : Refusal) → StopsBy (read_from (is_first o) bytes at k) r → ⊥
   never-stops there n k at G le r s =
       let stops = stops-known bytes o count (then-stops (is_first o) bytes G.reads k s count le) in
       let reads = there.reads in
       never (cc stops.stops)
+
+  pub not-stopped : ReadsFirst bytes o count → (n k : ℕ) (at : Cursor) → Gone (is_first o) bytes (start_of o) count n at → n + k ≤ count
+      → (old new : List ℕ) (q : Result Cursor Refusal) → FillSays (is_first o) bytes at k old new q → IsOk q
+  not-stopped there n k at G le old new (Ok to) says = refl
+  not-stopped there n k at G le old new (Err r) says = absurd (never-stops there n k at G le r says)
 
 -- ---- what a rescue finds
 

@@ -44,10 +44,10 @@ pub fn may_start(bytes: usize, table: &[u64], entries: usize, i: usize) -> bool
     let lead = table[at + 2];
     let trail = table[at + 3];
     let opening = (lead == (MacaqueV::OPENING_LEADING as u64))
-        && (trail == (MacaqueV::OPENING_TRAILING as u64));
+        & (trail == (MacaqueV::OPENING_TRAILING as u64));
     (table[at + 1] < 0x1_0000_0000)
-        && (table[at] <= 8 * (write::lent_bytes(bytes) as u64))
-        && (opening || leaves_a_bit(lead, trail))
+        & ((table[at] <= 8 * (write::lent_bytes(bytes) as u64))
+            & (opening | leaves_a_bit(lead, trail)))
 }
 
 fn leaves_a_bit(lead: u64, trail: u64) -> bool

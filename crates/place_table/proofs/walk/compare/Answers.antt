@@ -1,0 +1,71 @@
+use mathlib.Core.Path.{◌≡◌, refl, sym, subst}
+use mathlib.Core.Bool.{Bool, true, ◌&&◌}
+use Prim.Native.Nat.{ℕ}
+use native.Mathlib.Omega.{arith}
+use lib.ListN.{take}
+use Rattle.macaque_v.specs.State.{is_first}
+use Rattle.macaque_v.specs.Read.{start_of}
+use Rattle.macaque_v.specs.Inner.ReadRun.{read_from, ReadableAt, StopsBy}
+use Rattle.macaque_v.specs.declared.read_run.Cursor.{Cursor}
+use Rattle.macaque_v.proofs.Passing.{passed-on}
+use Rattle.macaque_v.proofs.ReadingAll.{starts}
+use Rattle.place_table.proofs.Comparing.{opens, Along, along-start, along-more, stops-early, stops-late, decides}
+use Rattle.place_table.proofs.walk.compare.Goals as goal
+use Rattle.place_table.proofs.walk.compare.Goals.{After-loop-at}
+
+-- behind the loop all values were read
+all : (c : After-loop-at) → Along (is_first c.args.opening) c.args.bytes.now (start_of c.args.opening) c.args.table.now c.args.count c.args.count c.loop-at.at c.loop-at.same
+all c =
+    let a = c.args in
+    let l = c.loop-at in
+    let e : l.at.count ≡ a.count = omega (arith, l.invariant.gone.few) in
+    subst (λ (n : ℕ). Along (is_first a.opening) a.bytes.now (start_of a.opening) a.table.now a.count n l.at l.same) e l.invariant
+
+pub loop-at-init : goal.loop-at-init
+loop-at-init c =
+    let a = c.args in
+    let o = a.opening in
+    let is = c.start-at.ensures.0 in
+    let readable = subst (ReadableAt a.bytes.now) is (starts a.bytes.now o c.start-at.result c.start-at.ensures).0 in
+    subst (λ (at : Cursor). Along (is_first o) a.bytes.now (start_of o) a.table.now a.count at.count at true) (sym is)
+    (along-start (is_first o) a.bytes.now (start_of o) refl (opens o) a.count a.table.now readable)
+
+pub returns-in_err-at : goal.returns-in_err-at
+returns-in_err-at c =
+    let a = c.args in
+    let l = c.loop-at in
+    let k = c.min-k.result in
+    rw (passed-on c.from_residual.result c.from_residual.ensures.1)
+    (stops-early a.bytes.now a.opening a.count a.table.now l.at.count k l.at l.same l.invariant (omega arith) c.in_err-at.field-0.0
+    (subst (λ (first : Bool). StopsBy (read_from first a.bytes.now l.at k) c.in_err-at.field-0.0) c.is_first-first.ensures c.in_err-at.ensures))
+
+pub loop-at-preserved : goal.loop-at-preserved
+loop-at-preserved c =
+    let a = c.args in
+    let o = a.opening in
+    let l = c.loop-at in
+    let k = c.min-k.result in
+    let to = c.in_ok-at.at in
+    let R = (rw c.is_first-first.ensures at c.in_ok-at.ensures).0 in
+    subst (λ (n : ℕ). Along (is_first o) a.bytes.now (start_of o) a.table.now a.count n to (l.same && c.says-same.result)) (sym R.counted)
+    (along-more (is_first o) a.bytes.now (start_of o) refl (opens o) a.count a.table.now l.at.count l.at l.same l.invariant c.loop-at-test.true k (take k c.fill.new.out) to
+    (omega arith) (omega arith) (omega arith) (λ lt. omega arith) R c.says-same.result c.says-same.ensures)
+
+pub returns-in_err-judge_end : goal.returns-in_err-judge_end
+returns-in_err-judge_end c =
+    let a = c.args in
+    let l = c.loop-at in
+    rw (passed-on c.from_residual-in_err-judge_end.result c.from_residual-in_err-judge_end.ensures.1)
+    (stops-late a.bytes.now a.opening a.count a.table.now l.at l.same (all (goal.at.returns-in_err-judge_end c).After-loop-at) c.in_err-judge_end.field-0.0 c.in_err-judge_end.ensures)
+
+pub returns-then-not-same : goal.returns-then-not-same
+returns-then-not-same c =
+    let a = c.args in
+    let l = c.loop-at in
+    rw c.if-not-same.true at (decides a.bytes.now a.opening a.count a.table.now l.at l.same (all (goal.at.returns-then-not-same c).After-loop-at) (sym c.in_ok-judge_end.ensures))
+
+pub returns : goal.returns
+returns c =
+    let a = c.args in
+    let l = c.loop-at in
+    rw c.if-not-same.false at (decides a.bytes.now a.opening a.count a.table.now l.at l.same (all (goal.at.returns c).After-loop-at) (sym c.in_ok-judge_end.ensures))
