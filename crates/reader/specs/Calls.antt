@@ -1,13 +1,12 @@
 -- What a reader's calls say and answer: for each, its causes of refusal in 01's order, the answer, and the law that its results are told apart.
 -- Assumes nothing.
-use Rattle.std.specs.Prelude.{◌≡◌, refl, Bool, not, List, [], ◌∷◌, ℕ, eqb, length}
+use Rattle.std.specs.Prelude.{◌≡◌, refl, Result, Ok, Err, Bool, not, List, [], ◌∷◌, ℕ, eqb, length}
 use Rattle.std.proofs.Common.{sym, ◌∙◌}
 use Rattle.std.specs.Borrow.{Bor}
 use Rattle.models.specs.Answers.{Said, Done, answered, refused, SaidOn, answered_on, refused_on, Cause, ◌when◌, judge, Injective, told-apart, refusing}
 use Rattle.models.specs.Limits.{most_values}
 use Rattle.models.specs.Refusals.{refusal_of, refusal-told, fault_of}
-use Rattle.models.specs.declared.ValueAnswer.{ValueAnswer}
-use Rattle.models.specs.declared.ValueAnswer.TheVariants as OfValue
+use Rattle.models.specs.declared.Refusal.{Refusal}
 use Rattle.stream.specs.Format.{macaque, window_in, keeps_rule}
 use Rattle.macaque_v.specs.State.{is_first}
 use Rattle.macaque_v.specs.Calls.{lent_bytes}
@@ -55,23 +54,23 @@ next_read bytes p = handed p (next_from p.with_first bytes p.at)
 unfoldable pub next_answer : List ℕ → Position → SaidOn Position Taken
 next_answer bytes p = judge (refusing p) (next_causes (length bytes) p.at) (next_read bytes p)
 
-abbrev pub says_next : ValueAnswer → Position → SaidOn Position Taken
-says_next (OfValue.Answered v) p = answered_on (record { value = v; after = p })
-says_next (OfValue.Refused r) p = refused_on (fault_of r) p
+abbrev pub says_next : Result ℕ Refusal → Position → SaidOn Position Taken
+says_next (Ok v) p = answered_on (record { value = v; after = p })
+says_next (Err r) p = refused_on (fault_of r) p
 
 abbrev pub says_moved : Moved → SaidOn Position Taken
 says_moved s = says_next s.answer s.after
 
 abbrev moved_back : SaidOn Position Taken → Moved
-moved_back (answered_on t) = record { answer = OfValue.Answered t.value; after = t.after }
-moved_back (refused_on n p) = record { answer = OfValue.Refused (refusal_of n); after = p }
+moved_back (answered_on t) = record { answer = Ok t.value; after = t.after }
+moved_back (refused_on n p) = record { answer = Err (refusal_of n); after = p }
 
 moved_told : (s : Moved) → moved_back (says_moved s) ≡ s
 moved_told s = go s.answer
   where
-    go : (a : ValueAnswer) → moved_back (says_next a s.after) ≡ record { answer = a; after = s.after }
-    go (OfValue.Answered v) = refl
-    go (OfValue.Refused r) = rw (refusal-told r)
+    go : (a : Result ℕ Refusal) → moved_back (says_next a s.after) ≡ record { answer = a; after = s.after }
+    go (Ok v) = refl
+    go (Err r) = rw (refusal-told r)
 
 pub says_moved-injective : Injective says_moved
 says_moved-injective = told-apart says_moved moved_back moved_told

@@ -1,18 +1,16 @@
 // A reader that keeps hold of the lent stream and its place: it is opened, read value by value, and
-// ended. The borrow checker covers no function over a struct that holds a reference, so the reader's calls
-// are thin, and proved by hand: each takes the reader apart and leaves the work to `position`, on the
-// slice and the place.
+// ended. Each call takes the reader apart and leaves the work to `position`, on the slice and the place.
 #![tactic(auto)]
 
 ghost use Rattle.std.specs.Prelude.{◌≡◌};
-ghost use Rattle.models.specs.Calls.{says_verdict, says_value};
+ghost use Rattle.models.specs.Calls.{said_by};
 ghost use Rattle.reader.specs.Calls.{opened_at, says_next, next_answer, end_answer};
 ghost use Rattle.reader.specs.Run.{last_answer};
 
 use crate::position::Position;
-use macaque_v::read_run::{Aim, Walk};
+use macaque_v::read_run::Aim;
 use macaque_v::{MacaqueV, Opening, read, read_run};
-use models::{Refusal, ValueAnswer, Verdict};
+use models::Refusal;
 
 pub mod position;
 
@@ -25,7 +23,7 @@ pub struct Reader<'a> {
 // What a next answers, and the reader after it: behind the value or, where it is refused, as it was.
 #[derive(Clone, Copy)]
 pub struct Next<'a> {
-    pub answer: ValueAnswer,
+    pub answer: Result<u32, Refusal>,
     pub reader: Reader<'a>,
 }
 
@@ -53,34 +51,26 @@ impl<'a> Reader<'a> {
     }
 
     // Whether the stream ends behind the values read.
-    pub fn end(self) -> Verdict
-        ensures { says_verdict result ≡ end_answer self.entry.stream.now self.entry.position }
+    pub fn end(self) -> Result<(), Refusal>
+        ensures { said_by result ≡ end_answer self.entry.stream.now self.entry.position }
     {
         position::end_from(self.stream, self.position)
     }
 }
 
 // The last of a stream's values, `count` of them, as a reader that goes through them all finds it; +0
-// where there are none. Its parameters are plain, so whoever calls it needs no proof by hand.
-pub fn last_value(stream: &[u8], count: usize, opening: Opening) -> ValueAnswer
-    ensures { says_value result ≡ last_answer stream.now count opening }
+// where there are none.
+pub fn last_value(stream: &[u8], count: usize, opening: Opening) -> Result<u32, Refusal>
+    ensures { said_by result ≡ last_answer stream.now count opening }
 {
     if MacaqueV::MOST_VALUES < count {
-        return ValueAnswer::Refused(Refusal::OverLimit);
+        return Err(Refusal::OverLimit);
     }
-    match read_run::go_to_end(
-        stream,
-        read::is_first(opening),
-        read::start(opening),
-        count,
-        Aim::Nothing,
-    ) {
-        Walk::Refused(r) => ValueAnswer::Refused(r),
-        Walk::To(to, _) => {
-            if count == 0 {
-                return ValueAnswer::Answered(0);
-            }
-            ValueAnswer::Answered(to.last)
-        }
+    let first = read::is_first(opening);
+    let start = read::start(opening);
+    let (to, _) = read_run::go_to_end(stream, first, start, count, Aim::Nothing)?;
+    if count == 0 {
+        return Ok(0);
     }
+    Ok(to.last)
 }

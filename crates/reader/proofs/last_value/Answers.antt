@@ -4,6 +4,7 @@ use mathlib.Core.Bool.{Bool}
 use Prim.Native.Nat.{ℕ}
 use native.Mathlib.Omega.{arith}
 use borrow.Author.Tests.{lt-ltb, le-ltb}
+use Rattle.std.proofs.lemmas.Result.{err_from_is_err_and}
 use Rattle.models.specs.Answers.{answered, judge}
 use Rattle.models.specs.Limits.{most_values}
 use Rattle.macaque_v.specs.State.{is_first}
@@ -23,7 +24,7 @@ told : (c : After-go_to_end)
 told c =
     let a = c.args in
     subst₂ (λ (first : Bool) (from : Cursor). WholeSays first a.stream.now from a.count OfAim.Nothing c.go_to_end.result)
-    c.is_first.ensures c.start.ensures.0 c.go_to_end.ensures
+    c.is_first-first.ensures c.start-start.ensures.0 c.go_to_end.ensures
 
 -- not too many values
 few : (c : Else-count-gt-MOST_VALUES)
@@ -38,30 +39,31 @@ returns-then-count-gt-MOST_VALUES c = rw (lt-ltb most_values c.args.count c.if-c
 
 pub go_to_end-requires : goal.go_to_end-requires
 go_to_end-requires c =
-    let s = starts c.args.stream.now c.args.opening c.start.result c.start.ensures in
+    let s = starts c.args.stream.now c.args.opening c.start-start.result c.start-start.ensures in
     (s.0, omega (arith, s.1))
 
 pub returns-then-count-eq0 : goal.returns-then-count-eq0
 returns-then-count-eq0 c =
     let a = c.args in
     let first = is_first a.opening in
-    let to = c.in-To.to in
-    let says = subst (WholeSays first a.stream.now (start_of a.opening) a.count OfAim.Nothing) c.in-To.is (told (goal.at.returns-then-count-eq0 c).After-go_to_end) in
+    let to = c.in_ok-to.to in
+    let says = subst (WholeSays first a.stream.now (start_of a.opening) a.count OfAim.Nothing) c.in_ok-to.was (told (goal.at.returns-then-count-eq0 c).After-go_to_end) in
     let whole = few (goal.at.returns-then-count-eq0 c).Else-count-gt-MOST_VALUES ∙ ap (last_of 0) (values-right a.stream.now a.opening says.0.reads says.1) in
     let none = subst (λ (n : ℕ). Reads first a.stream.now (start_of a.opening) n says.0.values to) c.if-count-eq0.true says.0.reads in
     sym (whole ∙ ap answered (last-of-none first a.stream.now (start_of a.opening) to says.0.values none))
 
-pub returns-in-Refused : goal.returns-in-Refused
-returns-in-Refused c =
+pub returns-in_err-to : goal.returns-in_err-to
+returns-in_err-to c =
     let a = c.args in
-    let says = subst (WholeSays (is_first a.opening) a.stream.now (start_of a.opening) a.count OfAim.Nothing) c.in-Refused.is (told (goal.at.returns-in-Refused c).After-go_to_end) in
-    sym (few (goal.at.returns-in-Refused c).Else-count-gt-MOST_VALUES ∙ ap (last_of 0) (values-wrong a.stream.now a.opening a.count c.in-Refused.r says))
+    let says = subst (WholeSays (is_first a.opening) a.stream.now (start_of a.opening) a.count OfAim.Nothing) c.in_err-to.was (told (goal.at.returns-in_err-to c).After-go_to_end) in
+    let p = err_from_is_err_and c.from_residual.result c.from_residual.ensures.1 in
+    rw (p.1, p.2) (sym (few (goal.at.returns-in_err-to c).Else-count-gt-MOST_VALUES ∙ ap (last_of 0) (values-wrong a.stream.now a.opening a.count c.in_err-to.field-0.0 says)))
 
-pub returns-else-count-eq0 : goal.returns-else-count-eq0
-returns-else-count-eq0 c =
+pub returns : goal.returns
+returns c =
     let a = c.args in
     let first = is_first a.opening in
-    let to = c.in-To.to in
-    let says = subst (WholeSays first a.stream.now (start_of a.opening) a.count OfAim.Nothing) c.in-To.is (told (goal.at.returns-else-count-eq0 c).After-go_to_end) in
-    let whole = few (goal.at.returns-else-count-eq0 c).Else-count-gt-MOST_VALUES ∙ ap (last_of 0) (values-right a.stream.now a.opening says.0.reads says.1) in
+    let to = c.in_ok-to.to in
+    let says = subst (WholeSays first a.stream.now (start_of a.opening) a.count OfAim.Nothing) c.in_ok-to.was (told (goal.at.returns c).After-go_to_end) in
+    let whole = few (goal.at.returns c).Else-count-gt-MOST_VALUES ∙ ap (last_of 0) (values-right a.stream.now a.opening says.0.reads says.1) in
     sym (whole ∙ ap answered (last-of-some first a.stream.now (start_of a.opening) to a.count says.0.values (omega (arith, c.if-count-eq0.false)) says.0.reads))
