@@ -38,4 +38,3 @@ model_causes s = Shared.model_causes s.error_bound (usable s) s.length
 
 unfoldable pub model_answer : PMCMean → SaidOn PMCMean ℕ
 model_answer s = judged_on s (model_causes s) (to_bits binary32 (average s))
-

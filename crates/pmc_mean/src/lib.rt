@@ -123,8 +123,8 @@ impl PMCMean {
         ensures { result ≡ with_value self value }
     {
         let mut s = self;
-        s.min_value = models::min_f32(self.min_value, value);
-        s.max_value = models::max_f32(self.max_value, value);
+        s.min_value = models::lesser(self.min_value, value);
+        s.max_value = models::greater(self.max_value, value);
         s.sum_of_values = self.sum_of_values + numbers::widen(value);
         s.length = self.length + 1;
         s

@@ -2,6 +2,7 @@
 -- Assumes nothing.
 use lib.Ieee as Ieee
 use Rattle.models.specs.Bound.{deviation}
+use Rattle.models.proofs.Laws.{abs-as}
 use borrow.Author.Rules.{rules}
 use Rattle.models.proofs.deviation.Goals as goal
 
@@ -15,4 +16,4 @@ returns-in-Absolute c = search rules
 
 pub returns-in-Relative : goal.returns-in-Relative
 unfolding deviation Ieee.of_bits
-returns-in-Relative c = rw (c.in-Relative.is, c.abs_f64.ensures, c.widen-in-Relative.ensures)
+returns-in-Relative c = rw (c.in-Relative.is, c.abs.ensures.value, abs-as, c.widen-in-Relative.ensures)

@@ -2,7 +2,7 @@
 use mathlib.Core.Path.{◌∙◌}
 use borrow.Author.Tests.{ltb-false}
 use lib.ListN.{length}
-use Rattle.models.specs.Answers.{refused, keeping}
+use Rattle.models.specs.Answers.{keeping}
 use Rattle.models.proofs.Judged.{none-holds, when-passed, when-refused}
 use Rattle.pmc_mean.specs.Grid.{grid_causes, grid_memory}
 use Rattle.pmc_mean.proofs.grid.Goals as goal

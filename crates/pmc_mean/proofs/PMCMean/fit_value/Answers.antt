@@ -1,10 +1,9 @@
 -- `PMCMean::fit_value` meets its contract: refused by the first cause that holds, else the step. Assumes nothing.
-use mathlib.Core.Path.{◌≡◌, ap, ◌∙◌}
 use mathlib.Core.List.{[]}
 use native.Mathlib.Omega.{arith}
 use borrow.Author.Tests.{leb-true}
 use Rattle.models.specs.Limits.{most_values}
-use Rattle.models.specs.Answers.{answered_on, refusing}
+use Rattle.models.specs.Answers.{refusing}
 use Rattle.models.proofs.Judged.{none-holds, when-passed, when-refused, steps}
 use Rattle.pmc_mean.specs.State.{usable}
 use Rattle.pmc_mean.specs.Calls.{fit_answer}
