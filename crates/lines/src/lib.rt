@@ -146,7 +146,7 @@ pub fn in_time(a: Point, b: Point) -> bool
 pub fn both_finite(a: f64, b: f64) -> bool
     ensures { result ≡ both_finite a b }
 {
-    models::is_finite_f64(a) & models::is_finite_f64(b)
+    a.is_finite() & b.is_finite()
 }
 
 // Whether no line can be drawn: the values differ, and not both are finite.

@@ -216,8 +216,8 @@ impl Swing {
     {
         let sums = self.sums();
         let projected = sums.numerator / sums.denominator;
-        let under = models::min_f64(projected, self.upper_bound_slope);
-        let slope = models::max_f64(self.lower_bound_slope, under);
+        let under = models::lesser(projected, self.upper_bound_slope);
+        let slope = models::greater(self.lower_bound_slope, under);
         slope * lines::span(self.start_time, self.end_time) + self.first_value
     }
 }
