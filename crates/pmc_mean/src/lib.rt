@@ -45,6 +45,7 @@ impl PMCMean {
     }
 
     // Tries to have the model stand for one more value.
+    #[tactic(auto, unfolding(crate::specs::Calls::fit_answer, models::specs::Answers::judge))]
     pub fn fit_value(self, value: u32) -> Result<Stepped<PMCMean>, Refused<PMCMean>>
         ensures { said_on result ≡ fit_answer self value }
     {
@@ -62,6 +63,7 @@ impl PMCMean {
     }
 
     // The bytes for each value: a segment's metadata is of m bytes, and the model needs no more.
+    #[tactic(auto, unfolding(crate::specs::Calls::cost_answer, models::specs::Answers::judge))]
     pub fn bytes_per_value(self, m: usize) -> Result<f32, Refused<PMCMean>>
         ensures { said_on result ≡ cost_answer self m }
     {
@@ -72,6 +74,7 @@ impl PMCMean {
     }
 
     // The model: the average of the values.
+    #[tactic(auto, unfolding(crate::specs::Calls::model_answer, models::specs::Answers::judge))]
     pub fn model(self) -> Result<u32, Refused<PMCMean>>
         ensures { said_on result ≡ model_answer self }
     {
@@ -90,6 +93,7 @@ impl PMCMean {
         self.length <= models::MOST_VALUES
     }
 
+    #[tactic(auto, unfolding(models::specs::Answers::judge))]
     fn judge_fit(self) -> Result<(), Refusal>
         ensures { said_by result ≡ verdict (fit_causes self) }
     {
@@ -99,6 +103,7 @@ impl PMCMean {
     // ---- the step
 
     // The step, once nothing refuses it.
+    #[tactic(auto, unfolding(crate::specs::State::tried, crate::specs::State::with_value))]
     pub fn tried(self, value: f32) -> Stepped<PMCMean>
         requires { self.length < most_values }
         ensures { result ≡ tried self value }
@@ -118,6 +123,7 @@ impl PMCMean {
     }
 
     // The state with the value taken in.
+    #[tactic(auto, unfolding(crate::specs::State::with_value, models::specs::Floats::min_f, models::specs::Floats::max_f))]
     fn with_value(self, value: f32) -> PMCMean
         requires { self.length < most_values }
         ensures { result ≡ with_value self value }
@@ -140,6 +146,7 @@ impl PMCMean {
     }
 
     // Whether the average may stand for the least and for the greatest value.
+    #[tactic(auto, unfolding(crate::specs::State::fits))]
     fn fits(self) -> bool
         requires { self.length ≤ most_values }
         ensures { result ≡ fits self }
@@ -166,6 +173,7 @@ pub fn sum(length: usize, value: u32) -> Result<u32, Refusal>
 }
 
 // Writes the model's value `count` times to the front of `out`.
+#[tactic(auto, unfolding(crate::specs::Grid::grid_memory, models::specs::Answers::judge))]
 pub fn grid(value: u32, count: usize, out: &mut [u32]) -> Result<(), Refusal>
     ensures answer { said_by result ≡ verdict (grid_causes count (length out.old)) }
     ensures output { out.new ≡ grid_memory value count out.old }
