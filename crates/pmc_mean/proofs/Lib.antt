@@ -1,5 +1,4 @@
 -- What the proofs of this crate and of those over it share.
-pub mod Stores
 pub mod Runs
 pub mod First
 pub mod Causes

@@ -28,17 +28,17 @@ impl PMCMean {
     // ---- the public calls
 
     // The state before any value.
+    #[tactic(auto, using(numbers::proofs::Nans::nan32, models::proofs::Laws::zero_read), unfolding(crate::specs::Calls::new_answer, crate::specs::State::fresh, models::specs::Answers::judge))]
     pub fn new(error_bound: ErrorBound) -> Result<PMCMean, Refusal>
         ensures { said_by result ≡ new_answer error_bound }
     {
         if !models::bound_allowed(error_bound) {
             return Err(Refusal::BoundNotAllowed);
         }
-        let nan = 0.0f32 / 0.0;
         Ok(PMCMean {
             error_bound,
-            min_value: nan,
-            max_value: nan,
+            min_value: f32::NAN,
+            max_value: f32::NAN,
             sum_of_values: 0.0,
             length: 0,
         })
@@ -137,6 +137,7 @@ impl PMCMean {
     }
 
     // The average, in f64, rounded to f32.
+    #[tactic(auto, unfolding(crate::specs::State::average))]
     pub fn average(self) -> f32
         requires { self.length ≤ most_values }
         ensures { result ≡ average self }
@@ -163,6 +164,7 @@ impl PMCMean {
 // ---- a model's values
 
 // The sum of `length` values that the model stands for: a product in f32.
+#[tactic(auto, unfolding(crate::specs::Grid::sum_answer, models::specs::Answers::judge))]
 pub fn sum(length: usize, value: u32) -> Result<u32, Refusal>
     ensures { said_by result ≡ sum_answer «length» value }
 {
@@ -196,6 +198,7 @@ fn judge_grid(count: usize, room: usize) -> Result<(), Refusal>
     Ok(())
 }
 
+#[tactic(auto, unfolding(crate::specs::Grid::filled))]
 pub fn fill(bits: u32, count: usize, out: &mut [u32])
     requires { count ≤ length out.old }
     ensures { out.new ≡ filled bits count out.old }
