@@ -76,14 +76,14 @@ fn hand_out(form: Form, out: &mut [u8]) -> Result<usize, Refusal>
 // ---- which form
 
 // The Rust's form, or the value where that does not give it back bit for bit.
-#[tactic(auto, unfolding(crate::specs::Forms::pmc_mean_form))]
+#[tactic(auto, unfolding(crate::specs::Forms::pmc_mean_form, models::specs::Floats::min_bits, models::specs::Floats::max_bits))]
 pub fn form_for_pmc_mean(value: u32, residuals_min_value: u32, residuals_max_value: u32) -> Form
     ensures { result ≡ pmc_mean_form value residuals_min_value residuals_max_value }
 {
     let v = models::plain(value);
     let form = rusts_for_pmc_mean(v, residuals_min_value, residuals_max_value);
-    let min = models::min_bits(v, residuals_min_value);
-    let max = models::max_bits(v, residuals_max_value);
+    let min = models::lesser(v, residuals_min_value);
+    let max = models::greater(v, residuals_max_value);
     match pmc_mean_in(form, min, max) {
         Ok(read) if read == v => form,
         _ => Form::Value(v),
@@ -91,7 +91,7 @@ pub fn form_for_pmc_mean(value: u32, residuals_min_value: u32, residuals_max_val
 }
 
 // The Rust's form, or both ends where that does not give them back bit for bit.
-#[tactic(auto, unfolding(crate::specs::Forms::swing_form))]
+#[tactic(auto, unfolding(crate::specs::Forms::swing_form, models::specs::Floats::min_bits, models::specs::Floats::max_bits))]
 pub fn form_for_swing(
     first_value: u32,
     last_value: u32,
@@ -103,8 +103,8 @@ pub fn form_for_swing(
     let a = models::plain(first_value);
     let b = models::plain(last_value);
     let form = rusts_for_swing(a, b, residuals_min_value, residuals_max_value);
-    let min = models::min_bits(models::min_bits(a, b), residuals_min_value);
-    let max = models::max_bits(models::max_bits(a, b), residuals_max_value);
+    let min = models::lesser(models::lesser(a, b), residuals_min_value);
+    let max = models::greater(models::greater(a, b), residuals_max_value);
     match swing_in(form, min, max) {
         Ok((first, last)) if first == a && last == b => form,
         _ => Form::Both(a, b),
@@ -131,7 +131,7 @@ fn rusts_for_pmc_mean(value: u32, residuals_min_value: u32, residuals_max_value:
     }
 }
 
-#[tactic(auto, unfolding(crate::specs::Forms::rusts_for_swing))]
+#[tactic(auto, unfolding(crate::specs::Forms::rusts_for_swing, models::specs::Floats::min_bits, models::specs::Floats::max_bits))]
 fn rusts_for_swing(
     first_value: u32,
     last_value: u32,
@@ -140,8 +140,8 @@ fn rusts_for_swing(
 ) -> Form
     ensures { result ≡ rusts_for_swing first_value last_value residuals_min_value residuals_max_value }
 {
-    let min = models::min_bits(first_value, last_value);
-    let max = models::max_bits(first_value, last_value);
+    let min = models::lesser(first_value, last_value);
+    let max = models::greater(first_value, last_value);
     let below = is_lower(residuals_min_value, min);
     let above = is_lower(max, residuals_max_value);
     let rises = is_lower(first_value, last_value);

@@ -92,8 +92,8 @@ fn hand_out(
     parameters::put(form, values_out);
     put_counted(stream, used, count, residuals_out);
     Ok(Segment {
-        min_value: models::min_bits(min_of(model, first_value, last_value), after.min_value),
-        max_value: models::max_bits(max_of(model, first_value, last_value), after.max_value),
+        min_value: models::lesser(min_of(model, first_value, last_value), after.min_value),
+        max_value: models::greater(max_of(model, first_value, last_value), after.max_value),
         values_length,
         residuals_length,
     })
@@ -112,6 +112,7 @@ fn last_of(model: u32, first_value: u32, last_value: u32) -> u32
     }
 }
 
+#[tactic(auto, unfolding(models::specs::Floats::min_bits))]
 fn min_of(model: u32, first_value: u32, last_value: u32) -> u32
     ensures { result ≡ model_min model first_value last_value }
 {
@@ -119,10 +120,11 @@ fn min_of(model: u32, first_value: u32, last_value: u32) -> u32
     if model == 0 {
         first
     } else {
-        models::min_bits(first, models::plain(last_value))
+        models::lesser(first, models::plain(last_value))
     }
 }
 
+#[tactic(auto, unfolding(models::specs::Floats::max_bits))]
 fn max_of(model: u32, first_value: u32, last_value: u32) -> u32
     ensures { result ≡ model_max model first_value last_value }
 {
@@ -130,7 +132,7 @@ fn max_of(model: u32, first_value: u32, last_value: u32) -> u32
     if model == 0 {
         first
     } else {
-        models::max_bits(first, models::plain(last_value))
+        models::greater(first, models::plain(last_value))
     }
 }
 

@@ -133,7 +133,7 @@ fn end_lost(swing: SelectedModel) -> bool
 {
     let first = numbers::value_of_f32(swing.first_value);
     let last = numbers::value_of_f32(swing.last_value);
-    models::is_finite_f32(first) & !models::is_finite_f32(last)
+    first.is_finite() & !last.is_finite()
 }
 
 fn choose(wins: bool, pmc_mean: SelectedModel, swing: SelectedModel) -> SelectedModel

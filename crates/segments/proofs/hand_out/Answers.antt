@@ -13,6 +13,7 @@ use Rattle.bits.specs.Bits.{whole_bytes}
 use lib.ListN.{length, take}
 use native.Mathlib.Omega.{arith}
 use mathlib.Core.Path.{◌≡◌, refl, sym, ap, ◌∙◌}
+use Rattle.models.specs.Floats.{min_bits, max_bits}
 use Rattle.segments.proofs.hand_out.Goals as goal
 use Rattle.segments.proofs.hand_out.Goals.{After-counted_length-residuals_length, Else-values_out-values_length}
 
@@ -49,7 +50,7 @@ put_counted-requires c = record {
 }
 
 pub returns : goal.returns
-unfolding stored_by handed_answer handed_values handed_residuals
+unfolding stored_by handed_answer handed_values handed_residuals min_bits max_bits
 returns c =
     let room = rw (values-long (goal.at.returns c).After-counted_length-residuals_length, residuals-long (goal.at.returns c).After-counted_length-residuals_length) at c.if-values_out-values_length.false in
-    record { answer = ap answered (rw (c.max_bits.ensures, c.max_of.ensures, c.min_bits.ensures, c.min_of.ensures, values-long (goal.at.returns c).After-counted_length-residuals_length, residuals-long (goal.at.returns c).After-counted_length-residuals_length)) ∙ accepted _ _ _ (room, tt); values = c.put.ensures ∙ rw c.form_of-form.ensures (accepted _ _ _ (room, tt)); bytes = c.put_counted.ensures ∙ accepted _ _ _ (room, tt) }
+    record { answer = ap answered (rw (c.greater.ensures, c.max_of.ensures, c.lesser.ensures, c.min_of.ensures, values-long (goal.at.returns c).After-counted_length-residuals_length, residuals-long (goal.at.returns c).After-counted_length-residuals_length)) ∙ accepted _ _ _ (room, tt); values = c.put.ensures ∙ rw c.form_of-form.ensures (accepted _ _ _ (room, tt)); bytes = c.put_counted.ensures ∙ accepted _ _ _ (room, tt) }

@@ -1,7 +1,8 @@
 -- `choice::end_lost` meets its contract. Assumes nothing.
+use Rattle.models.proofs.Laws.{finite-as}
 use Rattle.types.specs.Choice.{end_lost}
 use Rattle.types.proofs.choice.end_lost.Goals as goal
 
 pub returns : goal.returns
 unfolding end_lost
-returns c = rw (c.is_finite_f32-2.ensures, c.is_finite_f32.ensures, c.value_of_f32-last.ensures, c.value_of_f32-first.ensures)
+returns c = rw (c.is_finite-2.ensures.value, c.is_finite.ensures.value, finite-as, finite-as, c.value_of_f32-last.ensures, c.value_of_f32-first.ensures)
