@@ -2,6 +2,5 @@
 pub mod Parts
 pub mod Back
 pub mod Stands
-pub mod Answers
 pub mod Short
 pub mod Fair

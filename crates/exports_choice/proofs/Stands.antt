@@ -11,7 +11,8 @@ use lib.Ieee.{Float, binary32, fits}
 use lib.Ieee.Bits.{of_bits-fits}
 use mir.Syntax.{w64}
 use mir.Val.{SFits}
-use Rattle.models.specs.Answers.{Stepped, NoneHolds}
+use Rattle.models.specs.declared.Stepped.{Stepped}
+use Rattle.models.specs.Answers.{NoneHolds}
 use Rattle.models.specs.Bound.{bound_allowed, BoundHeld}
 use Rattle.models.specs.declared.ErrorBound.{ErrorBound}
 use Rattle.models.proofs.Tests.{and_left, by-test}

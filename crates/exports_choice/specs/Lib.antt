@@ -1,4 +1,3 @@
 -- How the choice crosses the C face.
 pub mod Row
 pub mod Fair
-pub mod Inner

@@ -3,7 +3,7 @@
 use Rattle.std.specs.Prelude.{Bool, true, cond, not, ◌&&◌, ◌||◌, List, [], ◌∷◌, ◌++◌, ℕ, ◌+◌, ◌-◌, eqb, leb, ltb, length, drop, get_or}
 use Rattle.std.specs.Float.{binary32}
 use Rattle.std.specs.Float.Ieee.{to_bits}
-use Rattle.models.specs.Answers.{Stepped}
+use Rattle.models.specs.declared.Stepped.{Stepped}
 use Rattle.models.specs.declared.ErrorBound.{ErrorBound}
 use Rattle.pmc_mean.specs.declared.PMCMean.{PMCMean}
 use Rattle.swing.specs.Run.{Given}

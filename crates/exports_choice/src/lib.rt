@@ -4,20 +4,17 @@
 #![tactic(auto)]
 
 ghost use Rattle.std.specs.Prelude.{◌≡◌, cond, length};
-ghost use Rattle.models.specs.Answers.{answered};
+ghost use Rattle.models.specs.Calls.{said_by};
 ghost use Rattle.types.specs.Calls.{new_answer, update_answer, finish_answer};
 ghost use Rattle.types.specs.Run.{choice_answer};
 ghost use Rattle.exports.specs.Face.{bound_of, fault_said, row_after, step_fault, step_row, ask_fault, ask_row};
 ghost use Rattle.exports_choice.specs.Row.{builder_length, builder_row, unusable, later_bound, no_builder, builder_in, builder_step, model_length, model_words};
-ghost use Rattle.exports_choice.specs.Inner.Answers.{builder_step_of};
 
 use exports::words;
 use exports_fit::rows;
-use models::{ErrorBound, Fault, Verdict};
+use models::{ErrorBound, Fault, Refusal};
 use pmc_mean::PMCMean;
-use types::{
-    ChoiceAnswer, FinishAnswer, ModelBuilder, NewAnswer, SelectedModel, UpdateAnswer, choice,
-};
+use types::{ModelBuilder, SelectedModel, choice};
 
 // ---- a builder's row
 
@@ -33,14 +30,17 @@ fn usable_if(is: bool, s: PMCMean) -> PMCMean
     ensures { result ≡ cond is s (unusable s) }
 {
     if is {
-        return s;
+        s
+    } else {
+        PMCMean {
+            length: words::NO_COUNT,
+            ..s
+        }
     }
-    let mut t = s;
-    t.length = words::NO_COUNT;
-    t
 }
 
 // The bound of the second model.
+#[tactic(auto, using(crate::proofs::Parts::the_rest), unfolding(exports::specs::Words::bound_front))]
 fn later_bound(row: &[u64]) -> ErrorBound
     ensures { result ≡ later_bound row.now }
 {
@@ -54,16 +54,15 @@ fn later_bound(row: &[u64]) -> ErrorBound
 fn no_builder(row: &[u64]) -> ModelBuilder
     ensures { result ≡ no_builder row.now }
 {
-    let pmc_mean = rows::no_pmc(words::bound_front(row));
-    let swing = rows::no_swing(later_bound(row));
     ModelBuilder {
-        pmc_mean,
+        pmc_mean: rows::no_pmc(words::bound_front(row)),
         pmc_mean_could_fit_all: true,
-        swing,
+        swing: rows::no_swing(later_bound(row)),
         swing_could_fit_all: true,
     }
 }
 
+#[tactic(auto, using(crate::proofs::Parts::the_rest), unfolding(crate::specs::Row::builder_in))]
 fn builder_in(row: &[u64]) -> ModelBuilder
     ensures { result ≡ builder_in row.now }
 {
@@ -71,71 +70,46 @@ fn builder_in(row: &[u64]) -> ModelBuilder
         return no_builder(row);
     }
     let flags = (row[PMC_FLAG] <= 1) & (row[SWING_FLAG] <= 1);
-    let pmc_mean = usable_if(flags, rows::pmc_in(row));
-    let swing = rows::swing_in(&row[rows::PMC_WORDS..]);
     ModelBuilder {
-        pmc_mean,
+        pmc_mean: usable_if(flags, rows::pmc_in(row)),
         pmc_mean_could_fit_all: !flags | (row[PMC_FLAG] == 1),
-        swing,
+        swing: rows::swing_in(&row[rows::PMC_WORDS..]),
         swing_could_fit_all: !flags | (row[SWING_FLAG] == 1),
     }
 }
 
+#[tactic(auto, unfolding(crate::specs::Row::builder_row))]
 fn builder_words(b: ModelBuilder) -> [u64; BUILDER_WORDS]
     ensures { result ≡ builder_row b }
 {
-    let p = b.pmc_mean;
-    let s = b.swing;
-    let first = rows::pmc_words(p, b.pmc_mean_could_fit_all);
-    let later = rows::swing_words(s, b.swing_could_fit_all);
-    [
-        first[0], first[1], first[2], first[3], first[4], first[5], first[6], later[0], later[1],
-        later[2], later[3], later[4], later[5], later[6], later[7], later[8], later[9], later[10],
-        later[11], later[12],
-    ]
-}
-
-#[derive(Clone, Copy)]
-struct BuilderStep {
-    verdict: Verdict,
-    state: ModelBuilder,
-}
-
-fn builder_step(answer: UpdateAnswer) -> BuilderStep
-    ensures { result ≡ builder_step_of answer }
-{
-    match answer {
-        UpdateAnswer::Refused(r, b) => BuilderStep {
-            verdict: Verdict::Refused(r),
-            state: b,
-        },
-        UpdateAnswer::Fits(b) => BuilderStep {
-            verdict: Verdict::Passed,
-            state: b,
-        },
-        UpdateAnswer::NoFit(b) => BuilderStep {
-            verdict: Verdict::Passed,
-            state: b,
-        },
-    }
+    let mut row = [0; BUILDER_WORDS];
+    row[..rows::PMC_WORDS].copy_from_slice(&rows::pmc_words(b.pmc_mean, b.pmc_mean_could_fit_all));
+    row[rows::PMC_WORDS..].copy_from_slice(&rows::swing_words(b.swing, b.swing_could_fit_all));
+    row
 }
 
 // ---- the words of the chosen model, and the fault of the answer
 
 const MODEL_WORDS: usize = 5;
 
-fn put_model(out: &mut [u64], m: SelectedModel) -> Fault
-    ensures fault { result ≡ fault_said model_length (length out.old) (answered m) }
-    ensures row { out.new ≡ row_after model_length model_words out.old (answered m) }
+#[tactic(auto, unfolding(exports::specs::Face::fault_said, exports::specs::Face::row_after, exports::specs::Inner::Put::front_after, crate::specs::Row::model_words))]
+fn put_model(answer: Result<SelectedModel, Refusal>, out: &mut [u64]) -> Fault
+    ensures fault { result ≡ fault_said model_length (length out.old) (said_by answer) }
+    ensures row { out.new ≡ row_after model_length model_words out.old (said_by answer) }
 {
-    let words = [
-        m.model_type_id as u64,
-        m.length as u64,
-        m.first_value as u64,
-        m.last_value as u64,
-        numbers::bits_of_f32(m.bytes_per_value) as u64,
-    ];
-    exports::put_said(Verdict::Passed, &words, out)
+    match answer {
+        Err(r) => exports::fault_with(r, MODEL_WORDS, out.len()),
+        Ok(m) => {
+            let words = [
+                u64::from(m.model_type_id),
+                m.length as u64,
+                u64::from(m.first_value),
+                u64::from(m.last_value),
+                u64::from(numbers::bits_of_f32(m.bytes_per_value)),
+            ];
+            exports::put_words(&words, out)
+        }
+    }
 }
 
 // ---- the calls
@@ -146,8 +120,8 @@ pub fn modelardb_model_builder_new(kind: u32, bound: u32, state: &mut [u64]) -> 
     ensures row { state.new ≡ row_after builder_length builder_row state.old (new_answer (bound_of kind bound)) }
 {
     match ModelBuilder::new(exports::bound_of(kind, bound)) {
-        NewAnswer::Refused(r) => exports::fault_with(r, BUILDER_WORDS, state.len()),
-        NewAnswer::Answered(b) => { exports::put_said(Verdict::Passed, &builder_words(b), state) }
+        Err(r) => exports::fault_with(r, BUILDER_WORDS, state.len()),
+        Ok(b) => exports::put_words(&builder_words(b), state),
     }
 }
 
@@ -161,10 +135,10 @@ pub fn modelardb_model_builder_try_to_update_models(
     ensures fault { result ≡ step_fault (update_answer (builder_in state.old) timestamp value) }
     ensures row { state.new ≡ step_row builder_step state.old (update_answer (builder_in state.old) timestamp value) }
 {
-    let after = builder_step(builder_in(state).try_to_update_models(timestamp, value));
-    let verdict = after.verdict;
-    let words = builder_words(after.state);
-    exports::put_said(verdict, &words, state)
+    match builder_in(state).try_to_update_models(timestamp, value) {
+        Err(refused) => exports::fault_with(refused.cause, BUILDER_WORDS, state.len()),
+        Ok(step) => exports::put_words(&builder_words(step.state), state),
+    }
 }
 
 // The model that needs fewer bytes for each value, with metadata of m bytes, into `out`.
@@ -172,11 +146,7 @@ pub fn modelardb_model_builder_finish(state: &[u64], m: usize, out: &mut [u64]) 
     ensures fault { result ≡ ask_fault model_length (length out.old) (finish_answer (builder_in state.now) m) }
     ensures row { out.new ≡ ask_row model_length model_words out.old (finish_answer (builder_in state.now) m) }
 {
-    let b = builder_in(state);
-    match b.finish(m) {
-        FinishAnswer::Refused(r, _) => exports::fault_with(r, MODEL_WORDS, out.len()),
-        FinishAnswer::Answered(model) => put_model(out, model),
-    }
+    put_model(rows::stateless(builder_in(state).finish(m)), out)
 }
 
 // Fits both models to the points from the first one on, each until it fails, and the chosen one into
@@ -193,8 +163,5 @@ pub fn modelardb_choose_model(
     ensures row { out.new ≡ row_after model_length model_words out.old (choice_answer timestamps.now values.now (bound_of kind bound) m) }
 {
     let b = exports::bound_of(kind, bound);
-    match choice::choose_model(timestamps, values, b, m) {
-        ChoiceAnswer::Refused(r) => exports::fault_with(r, MODEL_WORDS, out.len()),
-        ChoiceAnswer::Answered(model) => put_model(out, model),
-    }
+    put_model(choice::choose_model(timestamps, values, b, m), out)
 }
