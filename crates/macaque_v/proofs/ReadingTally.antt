@@ -7,6 +7,8 @@ use native.Mathlib.Nat.{add-zero}
 use native.Mathlib.Numerals.{add-one}
 use native.Mathlib.Omega.{arith}
 use lib.ListN.{length, take, get_or}
+use Rattle.std.specs.Prelude.{Some, None, slice_get}
+use Rattle.std.proofs.lemmas.Option.{slice_get-get_or}
 use lib.Seq.{take-suc, length-take-le}
 use lib.Ieee.{Float, binary32, add, of_bits}
 use Rattle.stream.specs.Format.{Gather, Mode, gathered, raw_next, gather_from}
@@ -30,6 +32,11 @@ module _ {A : Type 0} (G : Gather A) (mode : Mode) where
       let b : A = gathered G (raw_next mode n) a u in
       gather_append (suc n) b us vs ∙ ap (λ (m : ℕ). gather_from G mode m (gather_from G mode (suc n) b us) vs) e
 
+  pub gather-empty : (n : ℕ) (a : A) (vs : List ℕ) → length vs ≡ 0 → a ≡ gather_from G mode n a vs
+  unfolding gather_from
+  gather-empty n a [] e = refl
+  gather-empty n a (v ∷ vs) e = absurd (omega arith)
+
   pub gather-more : (n : ℕ) (a : A) (vs : List ℕ) (i : ℕ) → i < length vs
       → gather_from G mode n a (take (i + 1) vs) ≡ gathered G (raw_next mode (n + i)) (gather_from G mode n a (take i vs)) (get_or vs i 0)
   unfolding gather_from
@@ -39,6 +46,13 @@ module _ {A : Type 0} (G : Gather A) (mode : Mode) where
       ap (gather_from G mode n a) (ap (λ (m : ℕ). take m vs) (add-one i) ∙ take-suc vs i 0 h)
       ∙ gather_append n a (take i vs) (get_or vs i 0 ∷ [])
       ∙ ap (λ (m : ℕ). gathered G (raw_next mode (n + m)) b (get_or vs i 0)) long
+
+-- no last value: no value
+pub no-last : (vs : List ℕ) → None ≡ slice_get vs (length vs - 1) → length vs ≡ 0
+no-last [] e = refl
+no-last (v ∷ vs) e =
+    let there : None ≡ Some (get_or (v ∷ vs) (length (v ∷ vs) - 1) 0) = e ∙ slice_get-get_or (v ∷ vs) (length (v ∷ vs) - 1) 0 (omega arith) in
+    absurd (cc)
 
 -- a raw value enters the least and the greatest as any other
 pub ends_more : (mode : Mode) (n : ℕ) (e : MinMax) (vs : List ℕ) (i : ℕ) → i < length vs

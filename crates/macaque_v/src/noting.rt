@@ -5,7 +5,6 @@ ghost use Rattle.places.specs.Table.{spacing};
 ghost use Rattle.places.specs.Calls.{entries_lent, laid_entries};
 ghost use Rattle.macaque_v.specs.Inner.Noting.{DueAt, entry_in, noted_by};
 
-use crate::read_run;
 use crate::write::Pen;
 
 // How many values lie between two entries, and how many words an entry takes.
@@ -45,7 +44,7 @@ pub fn noted(
     let last = last_before(raw, pen.last);
     let k = (count + i) / SPACING;
     put_entry(table, k, pen.place, last, pen.lead, pen.trail);
-    read_run::smaller(i + SPACING, n)
+    n.min(i + SPACING)
 }
 
 // Entry k into the table: the place before its value, the last value kept there and the window.

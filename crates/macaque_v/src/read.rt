@@ -153,7 +153,7 @@ pub fn draw(
     ensures values { out.new ≡ drawn_at i out.old (values_from whole first bytes.now at n) }
 {
     let mut values = [0u32; 1052];
-    let k = read_run::smaller(1024, n);
+    let k = n.min(1024);
     let to = read_run::fill(bytes, first, at, k, &mut values)?;
     if k < n {
         draw(bytes, first, to, n - k, i + k, out, whole)?;

@@ -191,7 +191,7 @@ fn last_repeats(
     ensures { ReadsOn first bytes.now at i n out.old out.new result }
 {
     let ahead = decode::look_at_end(bytes, at.place);
-    let k = at_once(ahead.word, out.len() - i, smaller(ahead.left / 2, n - i));
+    let k = at_once(ahead.word, out.len() - i, (ahead.left / 2).min(n - i));
     take_repeats(bytes, first, at, k, i, n, out)
 }
 
@@ -222,11 +222,7 @@ fn at_once(word: u64, room: usize, left: usize) -> usize
     if room < 28 {
         return 0;
     }
-    let k = decode::at_top(word);
-    if k < left {
-        return k;
-    }
-    left
+    decode::at_top(word).min(left)
 }
 
 // A value into 28 places.
@@ -234,11 +230,7 @@ fn spread(out: &mut [u32], i: usize, value: u32)
     requires { i + 28 ≤ length out.old }
     ensures { out.new ≡ take i out.old ++ (replicate 28 value ++ drop (i + 28) out.old) }
 {
-    let mut j: usize = 0;
-    while j < 28 {
-        out[i + j] = value;
-        j += 1;
-    }
+    out[i..i + 28].fill(value);
 }
 
 // The first n values of `values`, to the places of `out` from i on.
@@ -246,11 +238,7 @@ pub fn copy(values: &[u32], n: usize, i: usize, out: &mut [u32])
     requires { (n ≤ length values.now) × (i + n ≤ length out.old) }
     ensures { out.new ≡ take i out.old ++ (take n values.now ++ drop (i + n) out.old) }
 {
-    let mut j: usize = 0;
-    while j < n {
-        out[i + j] = values[j];
-        j += 1;
-    }
+    out[i..i + n].copy_from_slice(&values[..n]);
 }
 
 // ---- through a small array
@@ -290,9 +278,9 @@ pub fn go_through(
     };
     let mut read: usize = 0;
     while read < n {
-        let k = smaller(1024, n - read);
+        let k = (n - read).min(1024);
         let to = fill(bytes, first, at, k, &mut values)?;
-        tally = taken_in(aim, first, at.count, tally, &values, k);
+        tally = taken_in(aim, first, at.count, tally, &values[..k]);
         at = to;
         read += k;
     }
@@ -350,56 +338,50 @@ pub fn smaller(a: usize, b: usize) -> usize
     if a < b { a } else { b }
 }
 
-// The first k values, behind `count` others.
-fn taken_in(aim: Aim, first: bool, count: usize, tally: Tally, values: &[u32], k: usize) -> Tally
-    requires { (k ≤ length values.now) × (count + k ≤ most_values) }
-    ensures { result ≡ tallied aim (mode_of first) count tally (take k values.now) }
+// The values, behind `count` others.
+fn taken_in(aim: Aim, first: bool, count: usize, tally: Tally, values: &[u32]) -> Tally
+    requires { count + length values.now ≤ most_values }
+    ensures { result ≡ tallied aim (mode_of first) count tally values.now }
 {
     match aim {
         Aim::Nothing => tally,
         Aim::Sum => Tally {
-            sum: added(first, count, tally.sum, values, k),
+            sum: added(first, count, tally.sum, values),
             min: tally.min,
             max: tally.max,
         },
-        Aim::All => all_taken_in(first, count, tally, values, k),
+        Aim::All => all_taken_in(first, count, tally, values),
     }
 }
 
-fn added(first: bool, count: usize, sum: f32, values: &[u32], k: usize) -> f32
-    requires { (k ≤ length values.now) × (count + k ≤ most_values) }
-    ensures { result ≡ gather_from gather_sum (mode_of first) count sum (take k values.now) }
+fn added(first: bool, count: usize, sum: f32, values: &[u32]) -> f32
+    requires { count + length values.now ≤ most_values }
+    ensures { result ≡ gather_from gather_sum (mode_of first) count sum values.now }
 {
-    if k == 0 {
+    if values.is_empty() {
         return sum;
     }
     let mut total = total::begun(first & (count == 0), sum);
-    let mut i: usize = 0;
-    while i < k {
-        total = total::joined(total, values[i]);
-        i += 1;
+    for &value in values {
+        total = total::joined(total, value);
     }
     total
 }
 
 // The sum, the least and the greatest in one loop: none of the three waits for another.
-fn all_taken_in(first: bool, count: usize, tally: Tally, values: &[u32], k: usize) -> Tally
-    requires { (k ≤ length values.now) × (count + k ≤ most_values) }
-    ensures { result ≡ tally_of (gather_from gather_known (mode_of first) count (known_in tally) (take k values.now)) }
+fn all_taken_in(first: bool, count: usize, tally: Tally, values: &[u32]) -> Tally
+    requires { count + length values.now ≤ most_values }
+    ensures { result ≡ tally_of (gather_from gather_known (mode_of first) count (known_in tally) values.now) }
 {
-    if k == 0 {
+    let Some(&last) = values.last() else {
         return tally;
-    }
+    };
     let mut ends = span::begun(tally.min, tally.max);
     let mut total = total::begun(first & (count == 0), tally.sum);
-    let mut i: usize = 0;
-    while i < k {
-        let value = values[i];
+    for &value in values {
         ends = span::joined(ends, value);
         total = total::joined(total, value);
-        i += 1;
     }
-    let last = values[k - 1];
     Tally {
         sum: total,
         min: span::least(ends, tally.min, last),

@@ -8,7 +8,7 @@ ghost use Rattle.macaque_v.specs.Inner.Read.{rescuing, OpensAs};
 
 use crate::read_run::{Aim, Cursor, Tally};
 use crate::{MacaqueV, Opening, read, read_run};
-use models::{ErrorBound, Fault, Refusal};
+use models::{ErrorBound, Refusal};
 
 impl MacaqueV {
     // The writer behind the values that arrived whole in the buffer's first `used` bytes, but no more than `limit`, which is how many the upload was
@@ -54,13 +54,12 @@ pub fn arrived(
     let first = read::is_first(opening);
     let at = read::start(opening);
     match read_run::go_through(bytes, first, at, limit, Aim::All) {
-        Ok((to, tally)) => Ok((to, tally)),
-        Err(r) => {
-            let fault = Fault::from(r);
-            if fault.number != 5 {
-                return Err(r);
+        Ok(found) => Ok(found),
+        Err(r) => match r {
+            Refusal::EndsEarly { value, .. } => {
+                read_run::go_through(bytes, first, at, value as usize, Aim::All)
             }
-            read_run::go_through(bytes, first, at, fault.value as usize, Aim::All)
-        }
+            _ => Err(r),
+        },
     }
 }

@@ -189,7 +189,7 @@ loop-i-init c =
       omega arith,
       pen-start a.self a.values.now c.pen-pen.result c.pen-pen.ensures (small (goal.at.loop-i-init b).Start).0 (small (goal.at.loop-i-init b).Start).1,
       lay-start a.lay a.self a.values.now a.buffer.now o.new.bytes o.result o.ensures.same (λ n. (c.slice_known-3-1.given n).fits) o.ensures.waiting b.requires.1,
-      note-start a.note a.self a.values.now a.table.now c.first_due-due.result c.smaller-to.result c.first_due-due.ensures c.smaller-to.ensures,
+      note-start a.note a.self a.values.now a.table.now c.first_due-due.result c.min-to.result c.first_due-due.ensures (omega arith),
     )
 
 pub noted-to-requires : goal.noted-to-requires

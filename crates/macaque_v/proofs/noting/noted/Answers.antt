@@ -1,4 +1,5 @@
 -- `macaque_v::noting::noted` meets its contract: the entry, where the value has one. Assumes nothing.
+use native.Mathlib.Omega.{arith}
 use borrow.Author.Tests.{eq-eqb, ne_eqb}
 use mathlib.Core.Path.{refl, ap, ◌∙◌}
 use mathlib.Core.List.{[], ◌∷◌}
@@ -17,7 +18,7 @@ returns c =
     let a = c.args in
     let last = c.last_before-last.ensures in
     rw (eq-eqb a.i a.to c.if-i-to.false)
-    record { next = c.smaller.ensures; words = c.put_entry.ensures ∙ ap (λ (l : ℕ). laid_entries a.table.now ((a.count + a.i) / 64) (entry_in a.pen.place l a.pen.lead a.pen.trail ∷ [])) last }
+    record { next = omega arith; words = c.put_entry.ensures ∙ ap (λ (l : ℕ). laid_entries a.table.now ((a.count + a.i) / 64) (entry_in a.pen.place l a.pen.lead a.pen.trail ∷ [])) last }
 
 pub put_entry-requires : goal.put_entry-requires
 put_entry-requires c = c.requires.2 c.if-i-to.false

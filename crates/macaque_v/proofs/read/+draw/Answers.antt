@@ -15,7 +15,7 @@ use Rattle.macaque_v.proofs.read.+draw.Goals.{then-k-n+in_ok-draw, else-k-n+in_o
 pub returns-in_err-draw : goal.returns-in_err-draw
 returns-in_err-draw t c =
     let a = c.args in
-    let k = c.smaller-k.result in
+    let k = c.min-k.result in
     let us = take k c.fill.new.out in
     let rest = values_from a.whole a.first a.bytes.now c.in_ok-to.to (a.n - k) in
     let all = from_then a.whole a.first a.bytes.now a.at c.in_ok-to.ensures.0 a.n (omega arith) in
@@ -31,7 +31,7 @@ returns-in_err-draw t c =
 pub returns-in_err-judge_behind : goal.returns-in_err-judge_behind
 returns-in_err-judge_behind t c =
     let a = c.args in
-    let k = c.smaller-k.result in
+    let k = c.min-k.result in
     let e : k ≡ a.n = omega arith in
     let r = c.in_err-judge_behind in
     let stops = wrong-where c.in_ok-to.ensures.0 a.whole (ap said_by (sym r.was) ∙ c.judge_behind.ensures) in
@@ -42,14 +42,14 @@ pub returns-in_err-to : goal.returns-in_err-to
 returns-in_err-to t c =
     let a = c.args in
     let wrong =
-    from-early a.whole a.first a.bytes.now a.at a.n c.smaller-k.result c.in_err-to.field-0.0 c.requires.0 (omega arith) c.in_err-to.ensures in
+    from-early a.whole a.first a.bytes.now a.at a.n c.min-k.result c.in_err-to.field-0.0 c.requires.0 (omega arith) c.in_err-to.ensures in
     record { answer = rw (passed-on c.from_residual.result c.from_residual.ensures.1) (sym (ap drawn wrong)); values = sym (ap (drawn_at a.i a.out.now) wrong) }
 
 -- nothing stands behind the block, or the rest was drawn
 pub returns : goal.returns
 returns t c =
     let a = c.args in
-    let k = c.smaller-k.result in
+    let k = c.min-k.result in
     let us = take k c.fill.new.out in
     let to = c.in_ok-to.to in
     let R = c.in_ok-to.ensures.0 in
@@ -69,5 +69,5 @@ returns t c =
     ] in
     record {
       answer = sym (ap drawn q.are);
-      values = c.copy.ensures ∙ right-copied us a.i k a.out.now q R.long (omega (arith, c.requires.2, c.smaller-k.ensures));
+      values = c.copy.ensures ∙ right-copied us a.i k a.out.now q R.long (omega (arith, c.requires.2, c.min-k.ensures));
     }

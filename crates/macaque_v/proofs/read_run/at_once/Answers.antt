@@ -9,4 +9,4 @@ returns-then-room-lt28 c = record { top = none_at_top c.args.word; wanted = omeg
 pub returns : goal.returns
 returns c =
     let a = c.args in
-    record { top = fewer-at-top a.word c.at_top-k.result a.left c.at_top-k.ensures (omega arith); wanted = omega arith; free = λ some. omega arith }
+    record { top = fewer-at-top a.word c.at_top.result c.min.result c.at_top.ensures (omega arith); wanted = omega arith; free = λ some. omega arith }

@@ -2,6 +2,7 @@ use mathlib.Core.Path.{◌≡◌, refl, subst}
 use Prim.Native.Nat.{ℕ}
 use native.Mathlib.Omega.{arith}
 use lib.ListN.{take}
+use lib.Seq.{length-take-le}
 use lib.Ieee.{of_bits}
 use Rattle.macaque_v.specs.Inner.ReadRun.{FillSays, Walked}
 use Rattle.std.specs.Prelude.{Result}
@@ -28,20 +29,21 @@ returns-in_err-to c =
     let a = c.args in
     let l = c.loop-read in
     let f = c.fill in
-    let k = c.smaller-k.result in
+    let k = c.min-k.result in
     rw (passed-on c.from_residual.result c.from_residual.ensures.1)
     (then-stops a.first a.bytes.now l.invariant.2.reads k
     (subst (λ (q : Result Cursor Refusal). FillSays a.first a.bytes.now l.at k l.values f.new.out q) c.in_err-to.was f.ensures) a.n (omega arith))
 
 pub taken_in-tally-requires : goal.taken_in-tally-requires
-taken_in-tally-requires c = (omega (arith, c.fill.auto.out), omega (arith, c.loop-read.invariant.2.reads.counted))
+taken_in-tally-requires c =
+    omega (arith, length-take-le c.min-k.result c.fill.new.out (omega (arith, c.fill.auto.out)), c.loop-read.invariant.2.reads.counted)
 
 pub loop-read-preserved : goal.loop-read-preserved
 loop-read-preserved c =
     let a = c.args in
     let l = c.loop-read in
     let f = c.fill in
-    let k = c.smaller-k.result in
+    let k = c.min-k.result in
     let new = f.new.out in
     let says = subst (λ (q : Result Cursor Refusal). FillSays a.first a.bytes.now l.at k l.values new q) c.in_ok-to.was f.ensures in (
       omega arith,

@@ -7,12 +7,11 @@ pub take_repeats-requires : goal.take_repeats-requires
 take_repeats-requires c =
     let s = c in
     let k = c.at_once-k in
-    let few = c.smaller in
     let ahead = c.look_at_end-ahead in (
       s.requires.0,
       omega arith,
       omega arith,
-      omega (arith, k.ensures.wanted, few.ensures),
-      repeats-ahead s.args.bytes.now s.args.at.place ahead.result s.requires.0.within ahead.ensures k.result k.ensures.top (omega (arith, k.ensures.wanted, few.ensures)),
+      omega (arith, k.ensures.wanted),
+      repeats-ahead s.args.bytes.now s.args.at.place ahead.result s.requires.0.within ahead.ensures k.result k.ensures.top (omega (arith, k.ensures.wanted)),
       λ some. omega (arith, k.ensures.free some),
     )

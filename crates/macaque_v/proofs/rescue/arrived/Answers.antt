@@ -1,9 +1,12 @@
 -- `macaque_v::rescue::arrived` meets its contract: as many values as the limit, else as many as the refusal counts, or damage. Assumes nothing.
-use mathlib.Core.Path.{◌≡◌, sym, ap, ◌∙◌, subst, subst₂}
+use mathlib.Core.Path.{◌≡◌, refl, sym, ap, subst₂}
 use mathlib.Core.Bool.{Bool}
+use Prim.Native.Nat.{ℕ}
+use Rattle.std.specs.Prelude.{Ok, Err}
 use native.Mathlib.Omega.{arith}
 use Rattle.models.specs.Refusals.{fault_of}
-use Rattle.models.specs.declared.Fault.{Fault}
+use Rattle.models.specs.declared.Refusal.{Refusal}
+use Rattle.models.specs.declared.Refusal.TheVariants as OfRefusal
 use Rattle.macaque_v.specs.State.{is_first}
 use Rattle.macaque_v.specs.Read.{start_of}
 use Rattle.macaque_v.specs.Inner.ReadRun.{read_from, StopsBy, WalkSays}
@@ -12,55 +15,63 @@ use Rattle.macaque_v.specs.declared.read_run.Aim.TheVariants as OfAim
 use Rattle.macaque_v.proofs.ReadingAll.{starts}
 use Rattle.macaque_v.proofs.Arriving.{all-arrived, damage-there, few-there, cut-there}
 use Rattle.macaque_v.proofs.rescue.arrived.Goals as goal
-use Rattle.macaque_v.proofs.rescue.arrived.Goals.{After-from-fault, After-go_through}
-
--- what going through so many values says, from the start
-told : (c : After-go_through)
-    → WalkSays (is_first c.args.opening) c.args.bytes.now (start_of c.args.opening) c.args.limit OfAim.All c.go_through.result
-told c =
-    let a = c.args in
-    subst₂ (λ (first : Bool) (from : Cursor). WalkSays first a.bytes.now from a.limit OfAim.All c.go_through.result)
-    c.is_first-first.ensures c.start-at.ensures.0 c.go_through.ensures
+use Rattle.macaque_v.proofs.rescue.arrived.Goals.{In-Err}
 
 -- why there are fewer
-stops : (c : After-from-fault)
-    → StopsBy (read_from (is_first c.args.opening) c.args.bytes.now (start_of c.args.opening) c.args.limit) c.in-Err.r
+stops : (c : In-Err) → StopsBy (read_from (is_first c.args.opening) c.args.bytes.now (start_of c.args.opening) c.args.limit) c.in-Err.r
 stops c =
     let a = c.args in
-    subst (WalkSays (is_first a.opening) a.bytes.now (start_of a.opening) a.limit OfAim.All) c.in-Err.is
-    (subst₂ (λ (first : Bool) (from : Cursor). WalkSays first a.bytes.now from a.limit OfAim.All c.go_through.result)
-    c.is_first-first.ensures c.start-at.ensures.0 c.go_through.ensures)
+    subst₂ (λ (first : Bool) (from : Cursor). WalkSays first a.bytes.now from a.limit OfAim.All (Err c.in-Err.r))
+    c.is_first-first.ensures c.start-at.ensures.0 c.in-Err.ensures
+
+-- 5 is the number of no other refusal
+other : (r : Refusal) → ((value place : ℕ) → ¬ (r ≡ OfRefusal.EndsEarly value place)) → ¬ ((fault_of r).number ≡ 5)
+other OfRefusal.BoundNotAllowed n h = absurd (omega arith)
+other OfRefusal.StateNotAllowed n h = absurd (omega arith)
+other OfRefusal.OverLimit n h = absurd (omega arith)
+other OfRefusal.OutputTooShort n h = absurd (omega arith)
+other (OfRefusal.EndsEarly value place) n h = n value place refl
+other (OfRefusal.NoWindow value place) n h = absurd (omega arith)
+other (OfRefusal.WindowNotAllowed value place) n h = absurd (omega arith)
+other (OfRefusal.Leftover value place) n h = absurd (omega arith)
+other OfRefusal.FormNotAllowed n h = absurd (omega arith)
+other OfRefusal.TimesNotAllowed n h = absurd (omega arith)
+other OfRefusal.NoModel n h = absurd (omega arith)
+other OfRefusal.CountsDisagree n h = absurd (omega arith)
+other OfRefusal.TableDoesNotMatch n h = absurd (omega arith)
 
 pub go_through-requires : goal.go_through-requires
 go_through-requires c =
     let s = starts c.args.bytes.now c.args.opening c.start-at.result c.start-at.ensures in
     (s.0, omega (arith, s.1))
 
-pub go_through-requires-in-Err : goal.go_through-requires-in-Err
-go_through-requires-in-Err c =
+
+pub go_through-requires-in-EndsEarly : goal.go_through-requires-in-EndsEarly
+go_through-requires-in-EndsEarly c =
     let a = c.args in
     let s = starts a.bytes.now a.opening c.start-at.result c.start-at.ensures in
-    let few = few-there a.bytes.now a.opening a.limit c.in-Err.r (stops (goal.at.go_through-requires-in-Err c).After-from-fault) in
-    let value : c.from-fault.result.value ≡ (fault_of c.in-Err.r).value = ap (λ (f : Fault). f.value) c.from-fault.ensures in
+    let few = few-there a.bytes.now a.opening a.limit c.in-Err.r (stops (goal.at.go_through-requires-in-EndsEarly c).In-Err) in
+    let value : (fault_of c.in-Err.r).value ≡ c.in-EndsEarly.value = ap (λ (r : Refusal). (fault_of r).value) c.in-EndsEarly.is in
     (s.0, omega (arith, s.1, few, value, c.requires))
-
-pub returns-then-fault-ne5 : goal.returns-then-fault-ne5
-returns-then-fault-ne5 c =
-    let a = c.args in
-    damage-there a.bytes.now a.opening a.limit c.in-Err.r (stops (goal.at.returns-then-fault-ne5 c).After-from-fault)
-    (λ h. c.if-fault-ne5.true (ap (λ (f : Fault). f.number) c.from-fault.ensures ∙ h))
 
 pub returns-in-Ok : goal.returns-in-Ok
 returns-in-Ok c =
     let a = c.args in
     all-arrived a.bytes.now a.opening a.limit
-    (subst (WalkSays (is_first a.opening) a.bytes.now (start_of a.opening) a.limit OfAim.All) c.in-Ok.is (told (goal.at.returns-in-Ok c).After-go_through))
+    (subst₂ (λ (first : Bool) (from : Cursor). WalkSays first a.bytes.now from a.limit OfAim.All (Ok c.in-Ok.found))
+    c.is_first-first.ensures c.start-at.ensures.0 c.in-Ok.ensures)
 
-pub returns-else-fault-ne5 : goal.returns-else-fault-ne5
-returns-else-fault-ne5 c =
+pub returns-in-EndsEarly : goal.returns-in-EndsEarly
+returns-in-EndsEarly c =
     let a = c.args in
-    let says = subst₂ (λ (first : Bool) (from : Cursor). WalkSays first a.bytes.now from c.from-fault.result.value OfAim.All c.go_through-in-Err.result)
-    c.is_first-first.ensures c.start-at.ensures.0 c.go_through-in-Err.ensures in
-    cut-there a.bytes.now a.opening a.limit c.in-Err.r (stops (goal.at.returns-else-fault-ne5 c).After-from-fault)
-    (sym (ap (λ (f : Fault). f.number) c.from-fault.ensures) ∙ c.if-fault-ne5.false) c.from-fault.result.value (ap (λ (f : Fault). f.value) c.from-fault.ensures)
-    c.go_through-in-Err.result says
+    let value = c.in-EndsEarly.value in
+    let says = subst₂ (λ (first : Bool) (from : Cursor). WalkSays first a.bytes.now from value OfAim.All c.go_through-in-EndsEarly.result)
+    c.is_first-first.ensures c.start-at.ensures.0 c.go_through-in-EndsEarly.ensures in
+    cut-there a.bytes.now a.opening a.limit c.in-Err.r (stops (goal.at.returns-in-EndsEarly c).In-Err)
+    (ap (λ (r : Refusal). (fault_of r).number) c.in-EndsEarly.is) value (sym (ap (λ (r : Refusal). (fault_of r).value) c.in-EndsEarly.is))
+    c.go_through-in-EndsEarly.result says
+
+pub returns-in_default : goal.returns-in_default
+returns-in_default c =
+    let a = c.args in
+    damage-there a.bytes.now a.opening a.limit c.in-Err.r (stops (goal.at.returns-in_default c).In-Err) (other c.in-Err.r c.in_default.not-EndsEarly)
