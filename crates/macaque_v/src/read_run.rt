@@ -331,13 +331,6 @@ fn left_behind(bytes: &[u8], place: usize) -> Option<usize>
     None
 }
 
-// The smaller of the two.
-pub fn smaller(a: usize, b: usize) -> usize
-    ensures { result ≡ a - (a - b) }
-{
-    if a < b { a } else { b }
-}
-
 // The values, behind `count` others.
 fn taken_in(aim: Aim, first: bool, count: usize, tally: Tally, values: &[u32]) -> Tally
     requires { count + length values.now ≤ most_values }
