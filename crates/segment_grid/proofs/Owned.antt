@@ -1,12 +1,12 @@
 -- What a segment that nothing refuses has; the times that its model owns keep the order of all. Assumes nothing.
-use mathlib.Core.Path.{◌≡◌, refl, sym, subst, ◌∙◌}
+use mathlib.Core.Path.{◌≡◌, refl}
 use mathlib.Core.Bool.{Bool, true, false, cond, ◌&&◌}
 use mathlib.Core.List.{List, [], ◌∷◌, map}
 use Prim.Native.Nat.{ℕ, zero, suc, ◌≤◌, ◌<◌}
 use native.Mathlib.Nat.{le_of_suc-le-suc, not-suc-le-zero}
 use native.Mathlib.Omega.{arith}
 use mir.Syntax.{w64}
-use mir.Val.{to_z, of_z, SFits}
+use mir.Val.{to_z, of_z}
 use mir.ValLaws.{to_z-of_z}
 use borrow.Author.Tests.{le-ltb, ltb-false, leb-false, not-false}
 use lib.Dec.{ltb}
@@ -63,8 +63,8 @@ in-order-later (t ∷ ts) zero h some l = absurd (not-suc-le-zero some)
 in-order-later (t ∷ ts) (suc i) h some l = after-later t ts i (and_right (time_allowed t) (after t ts) h) (le_of_suc-le-suc l)
 
 -- one of them, as a call hands it on
-pub passed_on : (ts : List ℤ) (i : ℕ) (t : ℤ) → in_order ts ≡ true → i < length ts → t ≡ get_or ts i (pos 0) → to_z w64 (of_z w64 t) ≡ get_or ts i (pos 0)
-passed_on ts i t ok lt e = to_z-of_z w64 t (subst (SFits w64) (sym e) (time-fits (get_or ts i (pos 0)) (in-order-at ts i ok lt))) ∙ e
+pub passed_on : (ts : List ℤ) (i : ℕ) → in_order ts ≡ true → i < length ts → to_z w64 (of_z w64 (get_or ts i (pos 0))) ≡ get_or ts i (pos 0)
+passed_on ts i ok lt = to_z-of_z w64 (get_or ts i (pos 0)) (time-fits (get_or ts i (pos 0)) (in-order-at ts i ok lt))
 
 -- ---- a segment that no cause refuses, with an output that has `room`
 

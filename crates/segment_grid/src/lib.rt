@@ -9,15 +9,13 @@ mod parts;
 mod total;
 
 ghost use Rattle.std.specs.Prelude.{◌≡◌, length};
-ghost use Rattle.models.specs.Answers.{verdict};
-ghost use Rattle.models.specs.Calls.{says_verdict, says_value, says_grid};
-ghost use Rattle.parameters.specs.Calls.{says_ends};
-ghost use Rattle.segment_grid.specs.Segment.{ends_in, by_average, over_times};
+ghost use Rattle.models.specs.Answers.{judged};
+ghost use Rattle.models.specs.Calls.{said_by};
+ghost use Rattle.segment_grid.specs.Segment.{ends_in, given, by_average, over_times};
 ghost use Rattle.segment_grid.specs.Calls.{grid_causes, grid_answer, grid_memory, sum_answer};
 
 use macaque_v::MacaqueV;
-use models::{GridAnswer, Refusal, ValueAnswer, Verdict};
-use parameters::EndsAnswer;
+use models::Refusal;
 
 // ---- the public calls
 
@@ -30,15 +28,13 @@ pub fn grid(
     values: &[u8],
     residuals: &[u8],
     out: &mut [u32],
-) -> GridAnswer
-    ensures answer { says_grid result ≡ grid_answer model timestamps.now (ends_in model min_value max_value values.now) residuals.now (length out.old) }
+) -> Result<(), Refusal>
+    ensures answer { said_by result ≡ grid_answer model timestamps.now (ends_in model min_value max_value values.now) residuals.now (length out.old) }
     ensures output { out.new ≡ grid_memory model timestamps.now (ends_in model min_value max_value values.now) residuals.now out.old }
 {
     let ends = parts::ends_in(model, min_value, max_value, values);
-    match judge(model, timestamps, ends, residuals, out.len()) {
-        Verdict::Refused(r) => GridAnswer::Refused(r),
-        Verdict::Passed => draw::draw(model, timestamps, ends, residuals, out),
-    }
+    let (first, last) = judge(model, timestamps, ends, residuals, out.len())?;
+    draw::draw(model, timestamps, first, last, residuals, out)
 }
 
 // The sum of all values: of the model's by the average of its ends, and the residuals'.
@@ -49,8 +45,8 @@ pub fn sum_by_average(
     max_value: u32,
     values: &[u8],
     residuals: &[u8],
-) -> ValueAnswer
-    ensures { says_value result ≡ sum_answer by_average model timestamps.now (ends_in model min_value max_value values.now) residuals.now }
+) -> Result<u32, Refusal>
+    ensures { said_by result ≡ sum_answer by_average model timestamps.now (ends_in model min_value max_value values.now) residuals.now }
 {
     let ends = parts::ends_in(model, min_value, max_value, values);
     sum(true, model, timestamps, ends, residuals)
@@ -64,50 +60,64 @@ pub fn sum_over(
     max_value: u32,
     values: &[u8],
     residuals: &[u8],
-) -> ValueAnswer
-    ensures { says_value result ≡ sum_answer over_times model timestamps.now (ends_in model min_value max_value values.now) residuals.now }
+) -> Result<u32, Refusal>
+    ensures { said_by result ≡ sum_answer over_times model timestamps.now (ends_in model min_value max_value values.now) residuals.now }
 {
     let ends = parts::ends_in(model, min_value, max_value, values);
     sum(false, model, timestamps, ends, residuals)
 }
 
-// Both: `by_average` says which.
+// Both: `by_average` says which. A closure for the model's own sum is no plainer: its contract would
+// have to name what `sum_answer` takes as this truth.
 fn sum(
     by_average: bool,
     model: u32,
     timestamps: &[i64],
-    ends: EndsAnswer,
+    ends: Result<(u32, u32), Refusal>,
     residuals: &[u8],
-) -> ValueAnswer
-    ensures { says_value result ≡ sum_answer by_average model timestamps.now (says_ends ends) residuals.now }
+) -> Result<u32, Refusal>
+    ensures { said_by result ≡ sum_answer by_average model timestamps.now (said_by ends) residuals.now }
 {
-    match judge(model, timestamps, ends, residuals, timestamps.len()) {
-        Verdict::Refused(r) => ValueAnswer::Refused(r),
-        Verdict::Passed => total::total(by_average, model, timestamps, ends, residuals),
-    }
+    let (first, last) = judge(model, timestamps, ends, residuals, timestamps.len())?;
+    total::total(by_average, model, timestamps, first, last, residuals)
 }
 
-// ---- the causes of refusal, the last of them first
+// ---- the causes of refusal, in their order, and the model's ends where none of them holds
 
 // `room` is the lent output's; a sum has none, and asks for no more than there are timestamps.
-fn judge(model: u32, timestamps: &[i64], ends: EndsAnswer, residuals: &[u8], room: usize) -> Verdict
-    ensures { says_verdict result ≡ verdict (grid_causes model timestamps.now (says_ends ends) residuals.now room) }
+#[tactic(auto, unfolding(models::specs::Answers::judge, lines::specs::Values::no_line))]
+fn judge(
+    model: u32,
+    timestamps: &[i64],
+    ends: Result<(u32, u32), Refusal>,
+    residuals: &[u8],
+    room: usize,
+) -> Result<(u32, u32), Refusal>
+    ensures { said_by result ≡ judged (grid_causes model timestamps.now (said_by ends) residuals.now room) (given (said_by ends)) }
 {
     let total = timestamps.len();
     let count = parts::count_in(residuals);
-    let lone = (model == 1) & (parts::owned(total, residuals) == 1);
-    let times_wrong = !lines::times::in_order(timestamps) | lone;
-    let count_of_0 = !(residuals.len() == 0) & (count == 0);
-    let form_wrong = parts::unread(ends) | count_of_0;
-    let line_missing = (model == 1) & parts::no_line(ends);
-    let line = models::when(Refusal::NoModel, line_missing, Verdict::Passed);
-    let form = models::when(Refusal::FormNotAllowed, form_wrong, line);
-    let times = models::when(Refusal::TimesNotAllowed, times_wrong, form);
-    let short = models::when(Refusal::OutputTooShort, room < total, times);
-    let none = models::when(Refusal::CountsDisagree, total <= count, short);
-    models::when(
-        Refusal::OverLimit,
-        (1 < model) | (MacaqueV::MOST_VALUES < total),
-        none,
-    )
+    if 1 < model || MacaqueV::MOST_VALUES < total {
+        return Err(Refusal::OverLimit);
+    }
+    if total <= count {
+        return Err(Refusal::CountsDisagree);
+    }
+    if room < total {
+        return Err(Refusal::OutputTooShort);
+    }
+    let lone = model == 1 && total - count == 1;
+    if !lines::times::in_order(timestamps) || lone {
+        return Err(Refusal::TimesNotAllowed);
+    }
+    if !residuals.is_empty() && count == 0 {
+        return Err(Refusal::FormNotAllowed);
+    }
+    let Ok((first, last)) = ends else {
+        return Err(Refusal::FormNotAllowed);
+    };
+    if model == 1 && parts::no_line(first, last) {
+        return Err(Refusal::NoModel);
+    }
+    Ok((first, last))
 }

@@ -15,13 +15,13 @@ use Rattle.segment_grid.proofs.draw.draw_model.Goals.{After-point_of-a, After-po
 start : (c : After-point_of-a) → c.point_of-a.result ≡ start_of c.args.times.now (c.args.first, c.args.last)
 start c =
     let p = c.requires in
-    c.point_of-a.ensures ∙ rw (passed_on c.args.times.now 0 c.time_at.result p.0 p.1 c.time_at.ensures)
+    c.point_of-a.ensures ∙ rw (passed_on c.args.times.now 0 p.0 p.1)
 
 end : (c : After-point_of-b) → c.point_of-b.result ≡ end_of c.args.times.now (c.args.first, c.args.last)
 end c =
     let p = c.requires in
     let ts = c.args.times.now in
-    c.point_of-b.ensures ∙ rw (passed_on ts (length ts - 1) c.time_at-then-model-eq1.result p.0 (omega (arith, p.1)) c.time_at-then-model-eq1.ensures)
+    c.point_of-b.ensures ∙ rw (passed_on ts (length ts - 1) p.0 (omega (arith, p.1)))
 
 pub line_through-requires : goal.line_through-requires
 line_through-requires c =
@@ -33,6 +33,6 @@ pub returns-then-model-eq1 : goal.returns-then-model-eq1
 unfolding model_values line_drawn
 returns-then-model-eq1 c = rw (eq-eqb c.args.model 1 c.if-model-eq1.true) (c.draw.ensures ∙ rw (c.line_through.ensures, start (goal.at.returns-then-model-eq1 c).After-point_of-a, end (goal.at.returns-then-model-eq1 c).After-point_of-b))
 
-pub returns : goal.returns
+pub returns-else-model-eq1 : goal.returns-else-model-eq1
 unfolding model_values filled
-returns c = rw (ne_eqb c.args.model 1 c.if-model-eq1.false) c.fill.ensures
+returns-else-model-eq1 c = rw (ne_eqb c.args.model 1 c.if-model-eq1.false) c.fill.ensures

@@ -1,10 +1,8 @@
 -- `segment_grid::draw::draw_residuals` meets its contract: neither the count nor the room refuses. Assumes nothing.
 use mathlib.Core.Path.{sym, ap₂, ◌∙◌}
 use Prim.Native.Nat.{ℕ}
-use native.Mathlib.Omega.{arith}
 use borrow.Author.Tests.{le-ltb}
 use lib.ListN.{length, take}
-use lib.Seq.{length-take-le}
 use Rattle.models.specs.Answers.{refused, keeping, NoneHolds}
 use Rattle.models.specs.Limits.{most_values}
 use Rattle.models.proofs.Judged.{accepted}
@@ -12,9 +10,6 @@ use Rattle.macaque_v.specs.Read.{drawn, drawn_in, grid_causes, grid_answer, grid
 use Rattle.macaque_v.specs.declared.Opening.TheVariants.{On}
 use Rattle.segment_grid.specs.Segment.{count_in, residuals_in}
 use Rattle.segment_grid.proofs.draw.draw_residuals.Goals as goal
-
-pub slice_bounds-grid-end : goal.slice_bounds-grid-end
-slice_bounds-grid-end c = sym (length-take-le c.less-used.result c.args.residuals.now (omega (arith, c.less-used.ensures)))
 
 pub returns : goal.returns
 unfolding grid_answer grid_memory
@@ -25,6 +20,6 @@ returns c =
     let none : NoneHolds (grid_causes (count_in bytes) (length out)) = (le-ltb most_values (count_in bytes) c.requires.0, (le-ltb (length out) (count_in bytes) c.requires.1, tt)) in
     let says = c.grid.ensures in
     record {
-      answer = says.answer ∙ ap₂ (λ (n used : ℕ). grid_answer (take used bytes) n (On a.last) (length out)) c.count_in-count.ensures c.less-used.ensures ∙ sym (accepted refused (drawn (residuals_in bytes a.last)) (grid_causes (count_in bytes) (length out)) none);
-      output = says.values ∙ ap₂ (λ (n used : ℕ). grid_memory (take used bytes) n (On a.last) out) c.count_in-count.ensures c.less-used.ensures ∙ sym (accepted (keeping out) (drawn_in out (residuals_in bytes a.last)) (grid_causes (count_in bytes) (length out)) none);
+      answer = says.answer ∙ ap₂ (λ (n used : ℕ). grid_answer (take used bytes) n (On a.last) (length out)) c.count_in-count.ensures c.saturating_sub-used.ensures ∙ sym (accepted refused (drawn (residuals_in bytes a.last)) (grid_causes (count_in bytes) (length out)) none);
+      output = says.values ∙ ap₂ (λ (n used : ℕ). grid_memory (take used bytes) n (On a.last) out) c.count_in-count.ensures c.saturating_sub-used.ensures ∙ sym (accepted (keeping out) (drawn_in out (residuals_in bytes a.last)) (grid_causes (count_in bytes) (length out)) none);
     }
