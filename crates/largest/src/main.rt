@@ -3,10 +3,8 @@
 // second write was refused.
 #![tactic(auto)]
 
-use macaque_v::read::OpenAnswer;
-use macaque_v::size::SizeAnswer;
-use macaque_v::{MacaqueV, Opening, WriteAnswer};
-use models::{ErrorBound, Refusal};
+use macaque_v::{MacaqueV, Opening};
+use models::{ErrorBound, Fault, Refusal};
 
 const STDOUT_FILENO: i32 = 1;
 
@@ -14,12 +12,9 @@ const STDOUT_FILENO: i32 = 1;
 const OPENING: u32 = 0x3F80_0000;
 
 fn main() {
-    both(1);
-    both(2);
-    both(3);
-    both(64);
-    both(1_000);
-    both(65_536);
+    for count in [1, 2, 3, 64, 1_000, 65_536] {
+        both(count);
+    }
 }
 
 fn both(count: usize) {
@@ -48,11 +43,9 @@ fn fill_in(values: &mut [u32], count: usize, first: bool, opening: Opening, buff
 // 31 bits that the other does not fit into, and the last by one that has all 32. A first value that is stored in full is 0.
 fn draw(values: &mut [u32], count: usize, first: bool) {
     let mut last: u32 = if first { 0 } else { OPENING };
-    let mut i: usize = 0;
-    while i < values.len() {
-        last = last ^ difference(i, count, first);
-        values[i] = last;
-        i += 1;
+    for (i, value) in values.iter_mut().enumerate() {
+        last ^= difference(i, count, first);
+        *value = last;
     }
 }
 
@@ -61,7 +54,7 @@ fn difference(i: usize, count: usize, first: bool) -> u32 {
     if first & (i == 0) {
         return 0;
     }
-    if std::num::wrapping_add_u64(i as u64, 1) == count as u64 {
+    if i.wrapping_add(1) == count {
         return 0x8000_0001;
     }
     if i % 2 == 0 { 0x4000_0001 } else { 0x8000_0002 }
@@ -69,10 +62,10 @@ fn difference(i: usize, count: usize, first: bool) -> u32 {
 
 // How many bits the values take, and how many so many can.
 fn tell(values: &[u32], opening: Opening, buffer: &mut [u8]) {
-    let bytes = answered(MacaqueV::most_bytes(values.len(), opening));
+    let bytes = MacaqueV::most_bytes(values.len(), opening).unwrap_or(0);
     write(values, opening, buffer, bytes);
     print(
-        answered(MacaqueV::most_bits(values.len(), opening)),
+        MacaqueV::most_bits(values.len(), opening).unwrap_or(0),
         b" at most, in ",
     );
     print(bytes, b" bytes; in one fewer ");
@@ -86,28 +79,19 @@ fn write(values: &[u32], opening: Opening, buffer: &mut [u8], bytes: usize) {
     if buffer.len() < bytes {
         return;
     }
-    match MacaqueV::new(ErrorBound::Lossless, opening) {
-        OpenAnswer::Refused(_) => {}
-        OpenAnswer::Opened(writer) => {
-            match writer.compress_values(values, &mut buffer[..bytes]) {
-                WriteAnswer::Refused(r, _) => refused(r),
-                WriteAnswer::Written(after) => print(after.place, b" bits, "),
-            }
-        }
+    let Ok(writer) = MacaqueV::new(ErrorBound::Lossless, opening) else {
+        return;
+    };
+    match writer.compress_values(values, &mut buffer[..bytes]) {
+        Err(refused) => tell_refusal(refused.cause),
+        Ok(after) => print(after.place, b" bits, "),
     }
 }
 
-fn refused(r: Refusal) {
-    let fault = models::fault_of(r);
+fn tell_refusal(r: Refusal) {
+    let fault = Fault::from(r);
     io::write_all(STDOUT_FILENO, b"refused with ");
     io::print_decimal(STDOUT_FILENO, fault.number as u64);
-}
-
-fn answered(answer: SizeAnswer) -> usize {
-    match answer {
-        SizeAnswer::Refused(_) => 0,
-        SizeAnswer::Answered(n) => n,
-    }
 }
 
 fn print(n: usize, what: &[u8]) {
