@@ -2,9 +2,8 @@
 // two uploads".
 #![tactic(auto)]
 
-use comparing::{Judged, Pair, Side, StepAnswer};
+use comparing::{Pair, RefusedFile, StepLine};
 use listing::line;
-use models::Refusal;
 
 const STDIN_FILENO: i32 = 0;
 
@@ -26,18 +25,14 @@ fn main() {
 
 fn compare(left: &[u8], right: &[u8]) {
     match comparing::judge(left, right) {
-        Judged::Refused { side, cause } => {
-            refuse(side, cause);
-        }
-        Judged::Begun(at) => {
-            steps(left, right, at);
-        }
+        Err(file) => refuse(file),
+        Ok(at) => steps(left, right, at),
     }
 }
 
-fn refuse(side: Side, cause: Refusal) {
+fn refuse(file: RefusedFile) {
     let mut line = [0u8; 80];
-    let n = comparing::refusal(side, cause, &mut line);
+    let n = comparing::refusal(file.side, file.cause, &mut line);
     io::write_all(STDOUT_FILENO, line::front(&line, n));
 }
 
@@ -45,20 +40,16 @@ fn refuse(side: Side, cause: Refusal) {
 fn steps(left: &[u8], right: &[u8], begun: Pair) {
     let mut line = [0u8; 80];
     let mut at = begun;
-    let mut i: usize = 0;
-    while i < MOST_STEPS {
+    for _ in 0..MOST_STEPS {
         match comparing::step(left, right, at, &mut line) {
-            StepAnswer::Refused(_) => {
-                return;
-            }
-            StepAnswer::Last { length } => {
+            Err(_) => return,
+            Ok(StepLine::Last { length }) => {
                 io::write_all(STDOUT_FILENO, line::front(&line, length));
                 return;
             }
-            StepAnswer::On { length, next } => {
+            Ok(StepLine::On { length, next }) => {
                 io::write_all(STDOUT_FILENO, line::front(&line, length));
                 at = next;
-                i += 1;
             }
         }
     }

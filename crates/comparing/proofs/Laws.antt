@@ -7,56 +7,55 @@ use Prim.Native.Nat.{ℕ, zero, suc, ◌+◌, ◌≤◌, ◌<◌, max}
 use native.Mathlib.Nat.{max_comm, le-max_left, le-max_right}
 use native.Mathlib.Omega.{arith}
 use borrow.Author.Tests.{eq-eqb, ne_eqb, eqb-false, eqb-true, leb-true, leb-false}
+use Rattle.std.specs.Prelude.{Option, Some, None}
 use lib.Dec.{eqb, leb}
 use lib.ListN.{length, get_or}
 use Rattle.models.proofs.Tests.{by-test, never}
 use Rattle.comparing.specs.Differences.{entry_at, same_entry, both_at, if_differs, differences_from, differences, Among, PartsAt, other_values, left_only, right_only, Above, Rising, swapped}
-use Rattle.comparing.specs.declared.Entry.{Entry}
-use Rattle.comparing.specs.declared.Entry.TheVariants.{Value, Missing}
 use Rattle.comparing.specs.declared.Difference.{Difference}
 
 -- ---- entries
 
-pub entry-there : (us : List ℕ) (i : ℕ) → i < length us → entry_at us i ≡ Value (get_or us i 0)
+pub entry-there : (us : List ℕ) (i : ℕ) → i < length us → entry_at us i ≡ Some (get_or us i 0)
 unfolding entry_at
 entry-there [] i h = absurd (omega arith)
 entry-there (u ∷ us) zero h = refl
 entry-there (u ∷ us) (suc i) h = entry-there us i (omega arith)
 
-pub entry-missing : (us : List ℕ) (i : ℕ) → length us ≤ i → entry_at us i ≡ Missing
+pub entry-missing : (us : List ℕ) (i : ℕ) → length us ≤ i → entry_at us i ≡ None
 unfolding entry_at
 entry-missing [] i h = refl
 entry-missing (u ∷ us) zero h = absurd (omega arith)
 entry-missing (u ∷ us) (suc i) h = entry-missing us i (omega arith)
 
-same_refl : (a : Entry) → same_entry a a ≡ true
-same_refl Missing = refl
-same_refl (Value u) = eq-eqb u u refl
+same_refl : (a : Option ℕ) → same_entry a a ≡ true
+same_refl None = refl
+same_refl (Some u) = eq-eqb u u refl
 
-pub same-swapped : (a b : Entry) → same_entry b a ≡ same_entry a b
-same-swapped Missing Missing = refl
-same-swapped Missing (Value v) = refl
-same-swapped (Value u) Missing = refl
-same-swapped (Value u) (Value v) = eqb-swapped (eqb u v) refl
+pub same-swapped : (a b : Option ℕ) → same_entry b a ≡ same_entry a b
+same-swapped None None = refl
+same-swapped None (Some v) = refl
+same-swapped (Some u) None = refl
+same-swapped (Some u) (Some v) = eqb-swapped (eqb u v) refl
   where
     eqb-swapped : (t : Bool) → eqb u v ≡ t → eqb v u ≡ t
     eqb-swapped true e = eq-eqb v u (sym (eqb-true u v e))
     eqb-swapped false e = ne_eqb v u (λ f. eqb-false u v e (sym f))
 
-missing-no-value : {v : ℕ} → Missing ≡ Value v → ⊥
+missing-no-value : {v : ℕ} → None ≡ Some v → ⊥
 missing-no-value e = never (cc)
 
-same-value : {u v : ℕ} → Value u ≡ Value v → u ≡ v
+same-value : {u v : ℕ} → Some u ≡ Some v → u ≡ v
 same-value e = cc
 
 -- entries that are the same are equal
-pub same-equal : (a b : Entry) → same_entry a b ≡ true → a ≡ b
-same-equal Missing Missing h = refl
-same-equal Missing (Value v) h = absurd (false≢true h)
-same-equal (Value u) Missing h = absurd (false≢true h)
-same-equal (Value u) (Value v) h = ap Value (eqb-true u v h)
+pub same-equal : (a b : Option ℕ) → same_entry a b ≡ true → a ≡ b
+same-equal None None h = refl
+same-equal None (Some v) h = absurd (false≢true h)
+same-equal (Some u) None h = absurd (false≢true h)
+same-equal (Some u) (Some v) h = ap Some (eqb-true u v h)
 
-pub not_same : (a b : Entry) → ¬ (a ≡ b) → same_entry a b ≡ false
+pub not_same : (a b : Option ℕ) → ¬ (a ≡ b) → same_entry a b ≡ false
 not_same a b h = go (same_entry a b) refl
   where
     go : (t : Bool) → same_entry a b ≡ t → t ≡ false
@@ -204,14 +203,14 @@ module _ (us vs : List ℕ) where
       empty (d ∷ ds) h = absurd (omega arith)
 
   -- the entries of an index that both lists have, and that one of them has
-  both-there : (i : ℕ) → i < length us → i < length vs → both_at us vs i ≡ record { index = i; left = Value (get_or us i 0); right = Value (get_or vs i 0) }
-  both-there i p q = ap₂ (λ (a b : Entry). record { index = i; left = a; right = b }) (entry-there us i p) (entry-there vs i q)
+  both-there : (i : ℕ) → i < length us → i < length vs → both_at us vs i ≡ record { index = i; left = Some (get_or us i 0); right = Some (get_or vs i 0) }
+  both-there i p q = ap₂ (λ (a b : Option ℕ). record { index = i; left = a; right = b }) (entry-there us i p) (entry-there vs i q)
 
-  left_there : (i : ℕ) → i < length us → length vs ≤ i → both_at us vs i ≡ record { index = i; left = Value (get_or us i 0); right = Missing }
-  left_there i p q = ap₂ (λ (a b : Entry). record { index = i; left = a; right = b }) (entry-there us i p) (entry-missing vs i q)
+  left_there : (i : ℕ) → i < length us → length vs ≤ i → both_at us vs i ≡ record { index = i; left = Some (get_or us i 0); right = None }
+  left_there i p q = ap₂ (λ (a b : Option ℕ). record { index = i; left = a; right = b }) (entry-there us i p) (entry-missing vs i q)
 
-  right_there : (i : ℕ) → length us ≤ i → i < length vs → both_at us vs i ≡ record { index = i; left = Missing; right = Value (get_or vs i 0) }
-  right_there i p q = ap₂ (λ (a b : Entry). record { index = i; left = a; right = b }) (entry-missing us i p) (entry-there vs i q)
+  right_there : (i : ℕ) → length us ≤ i → i < length vs → both_at us vs i ≡ record { index = i; left = None; right = Some (get_or vs i 0) }
+  right_there i p q = ap₂ (λ (a b : Option ℕ). record { index = i; left = a; right = b }) (entry-missing us i p) (entry-there vs i q)
 
   -- where the lists part is listed
   pub parting-listed : (d : Difference) → PartsAt us vs d → Among d (differences us vs)
@@ -243,7 +242,7 @@ module _ (us vs : List ℕ) where
           let there = leb-false (length us) i x in
           let also = leb-false (length vs) i y in
           subst (PartsAt us vs) (sym (p.is ∙ both-there i there also))
-          (other_values i there also (λ e. p.apart (entry-there us i there ∙ ap Value e ∙ sym (entry-there vs i also))))
+          (other_values i there also (λ e. p.apart (entry-there us i there ∙ ap Some e ∙ sym (entry-there vs i also))))
       go false x true y =
           let there = leb-false (length us) i x in
           let ended = leb-true (length vs) i y in

@@ -2,6 +2,7 @@
 use mathlib.Core.List.{List, ◌++◌}
 use Prim.Native.Nat.{ℕ, ◌≤◌}
 use native.Mathlib.Omega.{arith}
+use Rattle.std.specs.Prelude.{Option, Some, None}
 use lib.Dec.{lit≤}
 use lib.ListN.{length, length-append}
 use Rattle.models.specs.declared.Fault.{Fault}
@@ -10,13 +11,11 @@ use Rattle.listing.proofs.Putting.{length_digits, length-field, length_last, dec
 use Rattle.comparing.specs.Text.{entry_text, difference_text, differ_word, differ_text, side_word, side_text}
 use Rattle.comparing.specs.declared.Side.{Side}
 use Rattle.comparing.specs.declared.Side.TheVariants.{Left, Right}
-use Rattle.comparing.specs.declared.Entry.{Entry}
-use Rattle.comparing.specs.declared.Entry.TheVariants.{Value, Missing}
 use Rattle.comparing.specs.declared.Difference.{Difference}
 
-entry-most : (e : Entry) → length (entry_text e) ≤ 8
-entry-most (Value v) = omega (arith, length_digits 16 8 v)
-entry-most Missing = lit≤ tt
+entry-most : (e : Option ℕ) → length (entry_text e) ≤ 8
+entry-most (Some v) = omega (arith, length_digits 16 8 v)
+entry-most None = lit≤ tt
 
 pub difference-most : (d : Difference) → length (difference_text d) ≤ 80
 unfolding difference_text

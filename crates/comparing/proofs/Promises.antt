@@ -9,6 +9,7 @@ use Prim.Native.Nat.{ℕ, ◌+◌, ◌^◌, ◌≤◌, ◌<◌, max}
 use native.Mathlib.Nat.{zero-add}
 use native.Mathlib.Omega.{arith}
 use borrow.Author.Tests.{ltb-true, ltb-false, lt-ltb, le-ltb, leb-true, leb-false}
+use Rattle.std.specs.Prelude.{Some, None}
 use lib.Dec.{eqb, ltb, leb}
 use lib.ListN.{length, get_or, length-take, length-drop, get_or-eq_default}
 use lib.Seq.{take_all, get_or-take}
@@ -36,7 +37,6 @@ use Rattle.comparing.specs.Compared.{nothing_differs, lines_text, differences_te
 use Rattle.comparing.specs.Calls.{half_of, begun_by, open_answer, begun_pair, begun_both, judge_answer}
 use Rattle.comparing.specs.Printed.{printed_both, printed}
 use Rattle.comparing.specs.declared.Side.TheVariants.{Left, Right}
-use Rattle.comparing.specs.declared.Entry.TheVariants.{Value, Missing}
 use Rattle.comparing.specs.declared.Half.{Half}
 use Rattle.comparing.specs.declared.Difference.{Difference}
 use Rattle.comparing.proofs.Laws.{rising, none-of-itself, length-swapped, only-of-the-same, parting-listed, listed-parting, all-turned}
@@ -46,8 +46,8 @@ use Rattle.comparing.proofs.Walking.{Gives, Stands, gives-long, walks}
 -- ---- the lines that the request itself shows: `3 3F800000 40000000`, `4 - 40000000`, `differ 2`, `left refused 7 2 40`
 
 pub the-lines-of-the-request :
-    (difference_text (record { index = 3; left = Value 1065353216; right = Value 1073741824 }) ≡ 51 ∷ 32 ∷ 51 ∷ 70 ∷ 56 ∷ 48 ∷ 48 ∷ 48 ∷ 48 ∷ 48 ∷ 32 ∷ 52 ∷ 48 ∷ 48 ∷ 48 ∷ 48 ∷ 48 ∷ 48 ∷ 48 ∷ 10 ∷ [])
-    × (difference_text (record { index = 4; left = Missing; right = Value 1073741824 }) ≡ 52 ∷ 32 ∷ 45 ∷ 32 ∷ 52 ∷ 48 ∷ 48 ∷ 48 ∷ 48 ∷ 48 ∷ 48 ∷ 48 ∷ 10 ∷ [])
+    (difference_text (record { index = 3; left = Some 1065353216; right = Some 1073741824 }) ≡ 51 ∷ 32 ∷ 51 ∷ 70 ∷ 56 ∷ 48 ∷ 48 ∷ 48 ∷ 48 ∷ 48 ∷ 32 ∷ 52 ∷ 48 ∷ 48 ∷ 48 ∷ 48 ∷ 48 ∷ 48 ∷ 48 ∷ 10 ∷ [])
+    × (difference_text (record { index = 4; left = None; right = Some 1073741824 }) ≡ 52 ∷ 32 ∷ 45 ∷ 32 ∷ 52 ∷ 48 ∷ 48 ∷ 48 ∷ 48 ∷ 48 ∷ 48 ∷ 48 ∷ 10 ∷ [])
     × (differ_text 2 ≡ 100 ∷ 105 ∷ 102 ∷ 102 ∷ 101 ∷ 114 ∷ 32 ∷ 50 ∷ 10 ∷ [])
     × (side_text Left (fault_in 7 2 40) ≡ 108 ∷ 101 ∷ 102 ∷ 116 ∷ 32 ∷ 114 ∷ 101 ∷ 102 ∷ 117 ∷ 115 ∷ 101 ∷ 100 ∷ 32 ∷ 55 ∷ 32 ∷ 50 ∷ 32 ∷ 52 ∷ 48 ∷ 10 ∷ [])
 unfolding difference_text differ_text side_text refused_text digits_of places_up_to digit_text

@@ -6,6 +6,7 @@ use Prim.Native.Nat.{ℕ, zero, suc, ◌+◌, ◌-◌, ◌≤◌, ◌<◌, max}
 use native.Mathlib.Nat.{add-zero}
 use native.Mathlib.Omega.{arith}
 use borrow.Author.Tests.{eq-eqb, ne_eqb, le-ltb, leb-true, leb-false, not-false}
+use Rattle.std.specs.Prelude.{Option, Some, None}
 use lib.Dec.{eqb, leb}
 use lib.ListN.{length, drop, get_or, length-drop}
 use lib.Seq.{length-sets}
@@ -27,8 +28,6 @@ use Rattle.comparing.specs.Text.{difference_text, differ_text, laid}
 use Rattle.comparing.specs.Compared.{lines_text}
 use Rattle.comparing.specs.Calls.{behind_value, took_value, turn_of, Told, further, finished, pair_of, index_of, told_same, told_difference, told_by, told_both, may_go, is_full, step_told, step_said, step_left, step_answer, step_memory}
 use Rattle.comparing.specs.Printed.{step_printed, steps_printed}
-use Rattle.comparing.specs.declared.Entry.{Entry}
-use Rattle.comparing.specs.declared.Entry.TheVariants.{Value, Missing}
 use Rattle.comparing.specs.declared.Difference.{Difference}
 use Rattle.comparing.specs.declared.Half.{Half}
 use Rattle.comparing.specs.declared.Pair.{Pair}
@@ -38,9 +37,9 @@ use Rattle.comparing.proofs.Lines.{difference-most, differ-most}
 
 -- ---- lists by their front
 
-abbrev front_of : List ℕ → Entry
-front_of [] = Missing
-front_of (u ∷ us) = Value u
+abbrev front_of : List ℕ → Option ℕ
+front_of [] = None
+front_of (u ∷ us) = Some u
 
 abbrev rest_of : List ℕ → List ℕ
 rest_of [] = []
@@ -180,7 +179,7 @@ module _ (bytes : List ℕ) where
         next = behind_value h m.taken.after;
         takes =
             rw some
-            (ap (took_value h) m.answers ∙ ap (λ (v : ℕ). answered (record { entry = Value v; after = behind_value h m.taken.after })) m.value);
+            (ap (took_value h) m.answers ∙ ap (λ (v : ℕ). answered (record { entry = Some v; after = behind_value h m.taken.after })) m.value);
         gives = record { after = g.after; reads = ap (λ (k : ℕ). nexts bytes k m.taken.after) less ∙ m.later };
         most = omega (arith, on);
         ended = λ e. absurd (omega arith);
@@ -264,16 +263,16 @@ module _ (left right us vs : List ℕ) where
       (k : ℕ) (at : Pair) (line : List ℕ) → length line ≡ 80 → Stands at i → i + n ≡ max (length us) (length vs) → n < k → at.found + n ≤ most_values
       → steps_printed k left right at line ≡ lines_text (differences_from n i us vs) ++ differ_text (at.found + length (differences_from n i us vs))
 
-  abbrev told_as : Pair → Turn → Turn → Entry → Bool → Told
+  abbrev told_as : Pair → Turn → Turn → Option ℕ → Bool → Told
   told_as at a b x t = cond t (told_same at a b x) (told_difference at a b)
 
   -- one step, by what both have at the index
-  told-as : (at : Pair) (i : ℕ) (S : Steps at i) (x : Entry) (t : Bool) → entry_at us i ≡ x → same_entry (entry_at us i) (entry_at vs i) ≡ t
+  told-as : (at : Pair) (i : ℕ) (S : Steps at i) (x : Option ℕ) (t : Bool) → entry_at us i ≡ x → same_entry (entry_at us i) (entry_at vs i) ≡ t
       → step_told left right at ≡ answered (told_as at S.a S.b x t)
   unfolding told_by
   told-as at i S x t is same =
       S.tells
-      ∙ ap₂ (λ (y : Entry) (c : Bool). answered (told_as at S.a S.b y c)) (S.on_left ∙ is) (ap₂ same_entry S.on_left S.on_right ∙ same)
+      ∙ ap₂ (λ (y : Option ℕ) (c : Bool). answered (told_as at S.a S.b y c)) (S.on_left ∙ is) (ap₂ same_entry S.on_left S.on_right ∙ same)
 
   pub walks : (n i : ℕ) → Walks n i
   unfolding differences_from
@@ -281,9 +280,9 @@ module _ (left right us vs : List ℕ) where
   walks (suc n) i zero at line e s all few room = absurd (omega arith)
   walks zero i (suc k) at line e s all few room =
       let S = steps at i s (omega arith) in
-      let l : entry_at us i ≡ Missing = entry-missing us i (omega arith) in
-      let r : entry_at vs i ≡ Missing = entry-missing vs i (omega arith) in
-      ends at line (differ_text at.found) e (differ-most at.found) k (told-as at i S Missing true l (ap₂ same_entry l r))
+      let l : entry_at us i ≡ None = entry-missing us i (omega arith) in
+      let r : entry_at vs i ≡ None = entry-missing vs i (omega arith) in
+      ends at line (differ_text at.found) e (differ-most at.found) k (told-as at i S None true l (ap₂ same_entry l r))
       ∙ ap differ_text (sym (add-zero at.found))
   walks (suc n) i (suc k) at line e s all few room = go (same_entry (entry_at us i) (entry_at vs i)) refl (walks n (suc i))
     where
@@ -296,10 +295,10 @@ module _ (left right us vs : List ℕ) where
       found : ℕ
       found = at.found
 
-      value_there : same_entry (entry_at us i) (entry_at vs i) ≡ true → (u : ℕ) × (entry_at us i ≡ Value u)
+      value_there : same_entry (entry_at us i) (entry_at vs i) ≡ true → (u : ℕ) × (entry_at us i ≡ Some u)
       value_there same = there (leb (length us) i) refl
         where
-          there : (t : Bool) → leb (length us) i ≡ t → (u : ℕ) × (entry_at us i ≡ Value u)
+          there : (t : Bool) → leb (length us) i ≡ t → (u : ℕ) × (entry_at us i ≡ Some u)
           there true h = (get_or vs i 0, same-equal (entry_at us i) (entry_at vs i) same ∙ entry-there vs i (omega (arith, leb-true (length us) i h)))
           there false h = (get_or us i 0, entry-there us i (leb-false (length us) i h))
 
@@ -307,7 +306,7 @@ module _ (left right us vs : List ℕ) where
           → steps_printed (suc k) left right at line ≡ lines_text (cond t later (both_at us vs i ∷ later)) ++ differ_text (found + length (cond t later (both_at us vs i ∷ later)))
       go true same ih =
           let u = value_there same in
-          goes_on at line [] e (omega arith) k (pair_of S.a S.b found) (told-as at i S (Value u.0) true u.1 same)
+          goes_on at line [] e (omega arith) k (pair_of S.a S.b found) (told-as at i S (Some u.0) true u.1 same)
           ∙ ih k (pair_of S.a S.b found) line e (S.stands found) (omega arith) (omega arith) (omega arith)
       go false same ih =
           let d : Difference = both_at us vs i in
@@ -316,8 +315,8 @@ module _ (left right us vs : List ℕ) where
           let next : Pair = pair_of S.a S.b (found + 1) in
           let long : length (laid text line) ≡ 80 = length-sets line 0 text ∙ e in
           let is : told_difference at S.a S.b ≡ further text next =
-          ap₂ (λ (x : ℕ) (y : Entry × Entry). further (difference_text (record { index = x; left = y.0; right = y.1 })) next) (index_is at i s (omega arith))
-          (ap₂ {C = Entry × Entry} (λ (y z : Entry). (y, z)) S.on_left S.on_right) in
+          ap₂ (λ (x : ℕ) (y : Option ℕ × Option ℕ). further (difference_text (record { index = x; left = y.0; right = y.1 })) next) (index_is at i s (omega arith))
+          (ap₂ {C = Option ℕ × Option ℕ} (λ (y z : Option ℕ). (y, z)) S.on_left S.on_right) in
           let more : found + 1 + length later ≡ found + suc (length later) = omega arith in
           goes_on at line text e fits k next (told-as at i S (entry_at us i) false refl same ∙ ap answered is)
           ∙ ap (λ (x : List ℕ). text ++ x) (ih k next (laid text line) long (S.stands (found + 1)) (omega arith) (omega arith) (omega arith))

@@ -1,9 +1,8 @@
--- What the calls answer and what they leave in the lent line, each map of answers with the law that it tells its results apart. Assumes nothing.
-use Rattle.std.specs.Prelude.{◌≡◌, refl, Bool, cond, not, ◌&&◌, ◌||◌, List, [], ◌∷◌, ℕ, ◌+◌, ◌-◌, max, eqb, ltb, length}
-use Rattle.std.proofs.Common.{ap}
+-- What the calls answer and what they leave in the lent line, and the map of judging with the law that it tells its results apart. Assumes nothing.
+use Rattle.std.specs.Prelude.{◌≡◌, refl, Result, Ok, Err, Option, Some, None, Bool, cond, not, ◌&&◌, ◌||◌, List, [], ◌∷◌, ℕ, ◌+◌, ◌-◌, max, eqb, ltb, length}
 use Rattle.models.specs.Answers.{Said, answered, refused, SaidOn, answered_on, refused_on, Cause, ◌when◌, judge, Injective, told-apart}
 use Rattle.models.specs.Limits.{most_values}
-use Rattle.models.specs.Refusals.{refusal-told, refusal_of, unsaid, fault_of}
+use Rattle.models.specs.Refusals.{refusal-told, refusal_of, fault_of}
 use Rattle.macaque_v.specs.declared.Opening.{Opening}
 use Rattle.reader.specs.Calls.{opened_at, may_use, Taken, next_answer}
 use Rattle.reader.specs.declared.position.Position.{Position}
@@ -12,15 +11,13 @@ use Rattle.comparing.specs.Differences.{same_entry}
 use Rattle.comparing.specs.Text.{difference_text, differ_text, laid}
 use Rattle.comparing.specs.declared.Side.{Side}
 use Rattle.comparing.specs.declared.Side.TheVariants.{Left, Right}
-use Rattle.comparing.specs.declared.Entry.{Entry}
-use Rattle.comparing.specs.declared.Entry.TheVariants.{Value, Missing}
 use Rattle.comparing.specs.declared.Half.{Half}
 use Rattle.comparing.specs.declared.Pair.{Pair}
 use Rattle.comparing.specs.declared.Turn.{Turn}
-use Rattle.comparing.specs.declared.Judged.{Judged}
-use Rattle.comparing.specs.declared.Judged.TheVariants as OfJudged
-use Rattle.comparing.specs.declared.StepAnswer.{StepAnswer}
-use Rattle.comparing.specs.declared.StepAnswer.TheVariants as OfStep
+use Rattle.comparing.specs.declared.RefusedFile.{RefusedFile}
+-- the length of an index's line, and where comparing stands behind it; or the length of the last line
+pub use Rattle.comparing.specs.declared.StepLine.{StepLine}
+pub use Rattle.comparing.specs.declared.StepLine.TheVariants.{On, Last}
 
 -- ---- judge: where comparing begins, or the first file that is refused
 
@@ -47,19 +44,20 @@ begun_both (answered l) (answered r) = answered_on (begun_pair l r)
 unfoldable pub judge_answer : List ℕ → List ℕ → SaidOn Side Pair
 judge_answer left right = begun_both (open_answer left) (open_answer right)
 
-abbrev pub says_judged : Judged → SaidOn Side Pair
-says_judged (OfJudged.Begun p) = answered_on p
-says_judged (OfJudged.Refused side r) = refused_on (fault_of r) side
+-- of a file that is refused, the side too
+abbrev pub says_judged : {A : Type 0} → Result A RefusedFile → SaidOn Side A
+says_judged (Ok a) = answered_on a
+says_judged (Err e) = refused_on (fault_of e.cause) e.side
 
-abbrev judged-back : SaidOn Side Pair → Judged
-judged-back (answered_on p) = OfJudged.Begun p
-judged-back (refused_on f side) = OfJudged.Refused side (refusal_of f)
+abbrev judged-back : {A : Type 0} → SaidOn Side A → Result A RefusedFile
+judged-back (answered_on a) = Ok a
+judged-back (refused_on f side) = Err (record { side = side; cause = refusal_of f })
 
-judged-told : (r : Judged) → judged-back (says_judged r) ≡ r
-judged-told (OfJudged.Begun p) = refl
-judged-told (OfJudged.Refused side r) = ap (OfJudged.Refused side) (refusal-told r)
+judged-told : {A : Type 0} (r : Result A RefusedFile) → judged-back (says_judged r) ≡ r
+judged-told (Ok a) = refl
+judged-told (Err e) = rw (refusal-told e.cause)
 
-pub says_judged-injective : Injective says_judged
+pub says_judged-injective : {A : Type 0} → Injective {R = Result A RefusedFile} says_judged
 says_judged-injective = told-apart says_judged judged-back judged-told
 
 -- ---- what one stream has next
@@ -68,12 +66,12 @@ abbrev pub behind_value : Half → Position → Half
 behind_value h p = record { position = p; rest = h.rest - 1 }
 
 abbrev pub took_value : Half → SaidOn Position Taken → Said Turn
-took_value h (answered_on t) = answered (record { entry = Value t.value; after = behind_value h t.after })
+took_value h (answered_on t) = answered (record { entry = Some t.value; after = behind_value h t.after })
 took_value h (refused_on f p) = refused f
 
 -- its next value, as a reader answers it; nothing where no value is to come
 unfoldable pub turn_of : List ℕ → Half → Said Turn
-turn_of stream h = cond (eqb h.rest 0) (answered (record { entry = Missing; after = h })) (took_value h (next_answer stream h.position))
+turn_of stream h = cond (eqb h.rest 0) (answered (record { entry = None; after = h })) (took_value h (next_answer stream h.position))
 
 -- ---- step: one index of both
 
@@ -90,9 +88,9 @@ abbrev pub index_of : Pair → ℕ
 index_of at = max at.left.position.at.count at.right.position.at.count
 
 -- both sides have the same: no line, or the last one where both have ended
-abbrev pub told_same : Pair → Turn → Turn → Entry → Told
-told_same at a b Missing = finished (differ_text at.found)
-told_same at a b (Value v) = further [] (pair_of a b at.found)
+abbrev pub told_same : Pair → Turn → Turn → Option ℕ → Told
+told_same at a b None = finished (differ_text at.found)
+told_same at a b (Some v) = further [] (pair_of a b at.found)
 
 abbrev pub told_difference : Pair → Turn → Turn → Told
 told_difference at a b =
@@ -130,14 +128,9 @@ unfoldable pub step_told : List ℕ → List ℕ → Pair → Said Told
 step_told left right at =
     judge refused (step_causes (length (file_stream left)) (length (file_stream right)) at) (both_turns (file_stream left) (file_stream right) at)
 
--- the length of the line
-pub data StepLine : Type 0 where
-  on : ℕ → Pair → StepLine
-  last : ℕ → StepLine
-
 abbrev pub step_said : Said Told → Said StepLine
-step_said (answered (further text next)) = answered (on (length text) next)
-step_said (answered (finished text)) = answered (last (length text))
+step_said (answered (further text next)) = answered (On (length text) next)
+step_said (answered (finished text)) = answered (Last (length text))
 step_said (refused f) = refused f
 
 abbrev pub step_left : List ℕ → Said Told → List ℕ
@@ -150,20 +143,3 @@ step_answer left right at = step_said (step_told left right at)
 
 unfoldable pub step_memory : List ℕ → List ℕ → Pair → List ℕ → List ℕ
 step_memory left right at line = step_left line (step_told left right at)
-
-abbrev pub says_step : StepAnswer → Said StepLine
-says_step (OfStep.On length next) = answered (on length next)
-says_step (OfStep.Last length) = answered (last length)
-says_step (OfStep.Refused r) = refused (fault_of r)
-
-abbrev step_back : StepLine → StepAnswer
-step_back (on length next) = OfStep.On length next
-step_back (last length) = OfStep.Last length
-
-step-told : (r : StepAnswer) → unsaid step_back OfStep.Refused (says_step r) ≡ r
-step-told (OfStep.On length next) = refl
-step-told (OfStep.Last length) = refl
-step-told (OfStep.Refused r) = ap OfStep.Refused (refusal-told r)
-
-pub says_step-injective : Injective says_step
-says_step-injective = told-apart says_step (unsaid step_back OfStep.Refused) step-told

@@ -1,23 +1,21 @@
 -- The differences of two lists of values, and what is said of them. Assumes nothing.
-use Rattle.std.specs.Prelude.{◌≡◌, ◌⊎◌, Bool, true, false, cond, List, [], ◌∷◌, ℕ, zero, suc, ◌≤◌, ◌<◌, max, eqb, length, get_or}
-use Rattle.comparing.specs.declared.Entry.{Entry}
-use Rattle.comparing.specs.declared.Entry.TheVariants.{Value, Missing}
+use Rattle.std.specs.Prelude.{◌≡◌, ◌⊎◌, Option, Some, None, Bool, true, false, cond, List, [], ◌∷◌, ℕ, zero, suc, ◌≤◌, ◌<◌, max, eqb, length, get_or}
 use Rattle.comparing.specs.declared.Difference.{Difference}
 
 -- ---- "each index at which the value bits differ, in rising order, each once, with both values; indices present in one stream only follow"
 
 -- what a list has at an index
-unfoldable pub entry_at : List ℕ → ℕ → Entry
-entry_at [] i = Missing
-entry_at (v ∷ vs) zero = Value v
+unfoldable pub entry_at : List ℕ → ℕ → Option ℕ
+entry_at [] i = None
+entry_at (v ∷ vs) zero = Some v
 entry_at (v ∷ vs) (suc i) = entry_at vs i
 
 -- values of the same bits, or nothing on either side
-abbrev pub same_entry : Entry → Entry → Bool
-same_entry Missing Missing = true
-same_entry Missing (Value v) = false
-same_entry (Value u) Missing = false
-same_entry (Value u) (Value v) = eqb u v
+abbrev pub same_entry : Option ℕ → Option ℕ → Bool
+same_entry None None = true
+same_entry None (Some v) = false
+same_entry (Some u) None = false
+same_entry (Some u) (Some v) = eqb u v
 
 -- what two lists have at an index
 abbrev pub both_at : List ℕ → List ℕ → ℕ → Difference
@@ -46,9 +44,9 @@ Among d (e ∷ es) = (d ≡ e) ⊎ Among d es
 -- an index at which two lists part, and what each has there: below both counts with other values, or below one count only
 pub data PartsAt (us vs : List ℕ) : Difference → Type 0 where
   other_values : (i : ℕ) → i < length us → i < length vs → ¬ (get_or us i 0 ≡ get_or vs i 0)
-      → PartsAt us vs (record { index = i; left = Value (get_or us i 0); right = Value (get_or vs i 0) })
-  left_only : (i : ℕ) → i < length us → length vs ≤ i → PartsAt us vs (record { index = i; left = Value (get_or us i 0); right = Missing })
-  right_only : (i : ℕ) → length us ≤ i → i < length vs → PartsAt us vs (record { index = i; left = Missing; right = Value (get_or vs i 0) })
+      → PartsAt us vs (record { index = i; left = Some (get_or us i 0); right = Some (get_or vs i 0) })
+  left_only : (i : ℕ) → i < length us → length vs ≤ i → PartsAt us vs (record { index = i; left = Some (get_or us i 0); right = None })
+  right_only : (i : ℕ) → length us ≤ i → i < length vs → PartsAt us vs (record { index = i; left = None; right = Some (get_or vs i 0) })
 
 -- their indices are all above i
 abbrev pub Above : ℕ → List Difference → Type 0

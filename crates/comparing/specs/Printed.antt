@@ -5,13 +5,13 @@ use Rattle.models.specs.Answers.{Said, answered, refused, SaidOn, answered_on, r
 use Rattle.models.specs.Limits.{most_values}
 use Rattle.listing.specs.Printed.{line_printed}
 use Rattle.comparing.specs.Text.{side_text}
-use Rattle.comparing.specs.Calls.{judge_answer, StepLine, on, last, step_answer, step_memory}
+use Rattle.comparing.specs.Calls.{judge_answer, StepLine, On, Last, step_answer, step_memory}
 use Rattle.comparing.specs.declared.Side.{Side}
 use Rattle.comparing.specs.declared.Pair.{Pair}
 
 abbrev pub step_printed : Said StepLine → List ℕ → (Pair → List ℕ) → List ℕ
-step_printed (answered (on length next)) line rest = take length line ++ rest next
-step_printed (answered (last length)) line rest = take length line
+step_printed (answered (On length next)) line rest = take length line ++ rest next
+step_printed (answered (Last length)) line rest = take length line
 step_printed (refused f) line rest = []
 
 -- n steps at the most

@@ -1,18 +1,16 @@
 -- The text of a comparison's lines as ASCII codes. Assumes nothing.
-use Rattle.std.specs.Prelude.{List, [], ◌∷◌, ◌++◌, ℕ}
+use Rattle.std.specs.Prelude.{Option, Some, None, List, [], ◌∷◌, ◌++◌, ℕ}
 use Rattle.models.specs.declared.Fault.{Fault}
 pub use Rattle.listing.specs.Text.{laid}
 use Rattle.listing.specs.Text.{decimal, hexadecimal, field, last_field, refused_text}
 use Rattle.comparing.specs.declared.Side.{Side}
 use Rattle.comparing.specs.declared.Side.TheVariants.{Left, Right}
-use Rattle.comparing.specs.declared.Entry.{Entry}
-use Rattle.comparing.specs.declared.Entry.TheVariants.{Value, Missing}
 use Rattle.comparing.specs.declared.Difference.{Difference}
 
 -- "a dash for the missing side"
-abbrev pub entry_text : Entry → List ℕ
-entry_text (Value v) = hexadecimal v
-entry_text Missing = 45 ∷ []
+abbrev pub entry_text : Option ℕ → List ℕ
+entry_text (Some v) = hexadecimal v
+entry_text None = 45 ∷ []
 
 -- "A line reads as `3 3F800000 40000000`, or `4 - 40000000` where the left is shorter."
 unfoldable pub difference_text : Difference → List ℕ

@@ -4,7 +4,7 @@ ghost use Rattle.listing.specs.Text.{field};
 ghost use Rattle.listing.specs.Inner.Lines.{Put};
 ghost use Rattle.comparing.specs.Text.{side_word, entry_text, difference_text, differ_text, laid};
 
-use crate::{Difference, Entry, Side};
+use crate::{Difference, Side};
 use listing::line;
 
 // The line of a difference: 39 bytes at the most.
@@ -20,18 +20,18 @@ pub fn difference(d: Difference, line: &mut [u8; 80]) -> usize
 }
 
 // A value or a dash, and the byte behind it.
-fn entry(e: Entry, end: u8, line: &mut [u8; 80], at: usize) -> usize
+fn entry(e: Option<u32>, end: u8, line: &mut [u8; 80], at: usize) -> usize
     requires { at ≤ 71 }
     ensures put { Put line.old at (entry_text e ++ (end ∷ [])) line.new result }
     ensures most { result ≤ at + 9 }
 {
     match e {
-        Entry::Missing => {
+        None => {
             line[at] = b'-';
             line[at + 1] = end;
             at + 2
         }
-        Entry::Value(v) => line::value(v, end, line, at),
+        Some(v) => line::value(v, end, line, at),
     }
 }
 

@@ -4,8 +4,9 @@ use mathlib.Core.List.{List}
 use Prim.Native.Nat.{ℕ, ◌≤◌}
 use native.Mathlib.Omega.{arith}
 use borrow.Author.Tests.{le-ltb}
+use Rattle.std.proofs.lemmas.Result.{err_from_is_err_and}
 use Rattle.models.specs.Answers.{Said, answered, refused, judge}
-use Rattle.models.specs.Calls.{says_value}
+use Rattle.models.specs.Calls.{said_by}
 use Rattle.models.specs.Limits.{most_values}
 use Rattle.models.specs.declared.Fault.{Fault}
 use Rattle.models.proofs.Judged.{not-answered, not-refused, same-fault}
@@ -31,18 +32,20 @@ begun-at n o (answered vs) v e = refl
 begun-at n o (refused g) v e = absurd (not-refused e)
 
 -- the last value's call said this
-said : (c : After-last_value) → says_value c.last_value.result ≡ last_of 0 (values_in c.args.stream.now c.args.count c.args.opening)
+said : (c : After-last_value) → said_by c.last_value.result ≡ last_of 0 (values_in c.args.stream.now c.args.count c.args.opening)
 said c =
     let a = c.args in
     c.last_value.ensures ∙ last-is a.stream.now a.count a.opening (omega arith)
 
-pub returns-in-Refused : goal.returns-in-Refused
-returns-in-Refused c =
+pub returns-in_err-last_value : goal.returns-in_err-last_value
+returns-in_err-last_value c =
     let a = c.args in
-    sym (begun-refused a.count a.opening (values_in a.stream.now a.count a.opening) _ (ap says_value (sym c.in-Refused.is) ∙ said (goal.at.returns-in-Refused c).After-last_value))
+    let p = err_from_is_err_and c.from_residual.result c.from_residual.ensures.1 in
+    rw (p.1, p.2)
+    (sym (begun-refused a.count a.opening (values_in a.stream.now a.count a.opening) _ (ap said_by (sym c.in_err-last_value.was) ∙ said (goal.at.returns-in_err-last_value c).After-last_value)))
 
-pub returns-in-Answered : goal.returns-in-Answered
-returns-in-Answered c =
+pub returns : goal.returns
+returns c =
     let a = c.args in
     ap (λ (p : Position). answered (record { position = p; rest = a.count })) c.start-position.ensures
-    ∙ sym (begun-at a.count a.opening (values_in a.stream.now a.count a.opening) _ (ap says_value (sym c.in-Answered.is) ∙ said (goal.at.returns-in-Answered c).After-last_value))
+    ∙ sym (begun-at a.count a.opening (values_in a.stream.now a.count a.opening) _ (ap said_by (sym c.in_ok-last_value.was) ∙ said (goal.at.returns c).After-last_value))

@@ -6,8 +6,9 @@ use Prim.Native.Nat.{ℕ}
 use borrow.Author.Tests.{ltb-false}
 use lib.Dec.{ltb}
 use lib.ListN.{length}
+use Rattle.std.proofs.lemmas.Result.{err_from_is_err_and}
 use Rattle.models.specs.Answers.{Said, refused, Cause, verdict}
-use Rattle.models.specs.Calls.{says_verdict}
+use Rattle.models.specs.Calls.{said_by}
 use Rattle.models.specs.Limits.{most_values}
 use Rattle.models.proofs.Judged.{none-holds, when-passed, when-refused}
 use Rattle.models.proofs.Tests.{neither}
@@ -36,7 +37,7 @@ module _ (c : After-judge_step) where
   abbrev turns : Said Told
   turns = both_turns (file_stream left) (file_stream right) at
 
-  says : says_verdict c.judge_step.result ≡ verdict causes
+  says : said_by c.judge_step.result ≡ verdict causes
   says =
       c.judge_step.ensures
       ∙ ap₂ (λ (l r : List ℕ). verdict (step_causes (length l) (length r) at)) c.stream_in-l.ensures c.stream_in-r.ensures
@@ -47,21 +48,25 @@ module _ (c : After-judge_step) where
 
 pub take_both-requires : goal.take_both-requires
 take_both-requires c =
-    let j = c in
-    let fine = (none-holds (causes (goal.at.take_both-requires j).After-judge_step) j.judge_step.result (says (goal.at.take_both-requires j).After-judge_step) c.in-Passed.is).0 in
-    let l = not (may_go (length (file_stream (left (goal.at.take_both-requires j).After-judge_step))) (at (goal.at.take_both-requires j).After-judge_step).left) in
-    let r = not (may_go (length (file_stream (right (goal.at.take_both-requires j).After-judge_step))) (at (goal.at.take_both-requires j).After-judge_step).right) in
-    ltb-false most_values (at (goal.at.take_both-requires j).After-judge_step).found (neither (ltb most_values (at (goal.at.take_both-requires j).After-judge_step).found) l (neither (ltb most_values (at (goal.at.take_both-requires j).After-judge_step).found || l) r fine).0).0
+    let j = (goal.at.take_both-requires c).After-judge_step in
+    let fine = (none-holds (causes j) _ (says j) c.in_ok-judge_step.was).0 in
+    let l = not (may_go (length (file_stream c.args.left.now)) c.args.at.left) in
+    let r = not (may_go (length (file_stream c.args.right.now)) c.args.at.right) in
+    let found = c.args.at.found in
+    ltb-false most_values found (neither (ltb most_values found) l (neither (ltb most_values found || l) r fine).0).0
 
-pub returns-in-Refused : goal.returns-in-Refused
+pub returns-in_err-judge_step : goal.returns-in_err-judge_step
 unfolding step_told
-returns-in-Refused c =
-    let j = c in let both = answers (goal.at.returns-in-Refused j).After-judge_step _ (when-refused (causes (goal.at.returns-in-Refused j).After-judge_step) j.judge_step.result (says (goal.at.returns-in-Refused j).After-judge_step) refused (turns (goal.at.returns-in-Refused j).After-judge_step) c.in-Refused.cause c.in-Refused.is) in record { answer = both.0; text = both.1 }
+returns-in_err-judge_step c =
+    let j = (goal.at.returns-in_err-judge_step c).After-judge_step in
+    let both = answers j _ (when-refused (causes j) _ (says j) refused (turns j) c.in_err-judge_step.field-0.0 c.in_err-judge_step.was) in
+    let p = err_from_is_err_and c.from_residual.result c.from_residual.ensures.1 in
+    record { answer = rw (p.1, p.2) both.0; text = both.1 }
 
-pub returns-in-Passed : goal.returns-in-Passed
+pub returns : goal.returns
 unfolding step_told
-returns-in-Passed c =
-    let j = c in
-    let same : both_turns _ _ (at (goal.at.returns-in-Passed j).After-judge_step) ≡ turns (goal.at.returns-in-Passed j).After-judge_step = ap₂ (λ (l r : List ℕ). both_turns l r (at (goal.at.returns-in-Passed j).After-judge_step)) j.stream_in-l.ensures j.stream_in-r.ensures in
-    let s = answers (goal.at.returns-in-Passed j).After-judge_step (turns (goal.at.returns-in-Passed j).After-judge_step) (when-passed (causes (goal.at.returns-in-Passed j).After-judge_step) j.judge_step.result (says (goal.at.returns-in-Passed j).After-judge_step) refused (turns (goal.at.returns-in-Passed j).After-judge_step) c.in-Passed.is) in
-    record { answer = c.take_both.ensures.answer ∙ ap step_said same ∙ s.0; text = c.take_both.ensures.text ∙ ap (step_left (line (goal.at.returns-in-Passed j).After-judge_step)) same ∙ s.1 }
+returns c =
+    let j = (goal.at.returns c).After-judge_step in
+    let same : both_turns _ _ c.args.at ≡ turns j = ap₂ (λ (l r : List ℕ). both_turns l r c.args.at) c.stream_in-l.ensures c.stream_in-r.ensures in
+    let s = answers j (turns j) (when-passed (causes j) _ (says j) refused (turns j) c.in_ok-judge_step.was) in
+    record { answer = c.take_both.ensures.answer ∙ ap step_said same ∙ s.0; text = c.take_both.ensures.text ∙ ap (step_left c.args.line.now) same ∙ s.1 }
