@@ -1,12 +1,12 @@
 -- What the calls on a writer's row answer and leave, case by case. Assumes nothing.
 use mathlib.Core.Path.{◌≡◌, refl, sym, ap, ◌∙◌}
 use mathlib.Core.Bool.{Bool, true, false, not}
-use mathlib.Core.List.{List}
-use mathlib.Core.Logic.{inl}
+use mathlib.Core.List.{List, ◌++◌}
 use Prim.Native.Nat.{ℕ, ◌*◌, ◌≤◌}
+use borrow.Author.Tests.{le-leb}
 use lib.Dec.{leb}
-use lib.ListN.{length}
-use Rattle.models.specs.Answers.{Said, Done, answered, refused, SaidOn, answered_on, refused_on, stateless, Cause, judge, judged_memory, verdict, keeping, itself}
+use lib.ListN.{length, drop}
+use Rattle.models.specs.Answers.{no_fault, Said, Done, answered, refused, SaidOn, answered_on, stateless, Cause, judge, judged_memory, verdict, keeping, itself}
 use Rattle.models.specs.Bound.{bound_allowed}
 use Rattle.models.specs.Refusals.{fault_of}
 use Rattle.models.specs.Calls.{said_by}
@@ -20,10 +20,9 @@ use Rattle.stream.specs.Format.{macaque, keeps_rule, usable}
 use Rattle.macaque_v.specs.State.{state_of}
 use Rattle.macaque_v.specs.Calls.{new_answer, lent_bytes, write_answer}
 use Rattle.macaque_v.specs.declared.MacaqueV.{MacaqueV}
-use Rattle.exports.specs.Face.{bound_of, plain_fault, row_in, no_state}
+use Rattle.exports.specs.Face.{bound_of, fault_said, plain_fault, row_in, no_state}
 use Rattle.exports.specs.Words.{bound_front}
-use Rattle.exports.specs.Inner.Put.{worded, words_said, whole_row}
-use Rattle.exports.proofs.Rows.{Faced, put, step-said}
+use Rattle.exports.specs.Inner.Put.{front_after}
 use Rattle.exports.proofs.Rows as rows
 use Rattle.exports_stream.specs.Row.{writer_length, writer_row, stands_for_state, spoiled_writer, writer_in}
 use Rattle.exports_stream.proofs.Words.{no-state}
@@ -95,14 +94,12 @@ module _ (buf : List ℕ) (used limit mode opening kind bound : ℕ) (row : List
   rescue-passed said =
       opening-passed buf row (rescue_face_causes buf used limit mode kind bound row) v says said (rescue_said buf used limit mode opening kind bound) (rescue_left buf used limit mode opening kind bound)
 
--- ---- a state that is handed out, in a row that holds its words
+-- ---- words at the front of a row that holds them
 
-pub put-plain : (row : List ℕ) (said : Said MacaqueV) (v : Result Done Refusal) (ws : List ℕ) → writer_length ≤ length row → length ws ≡ writer_length → words_said v ws ≡ worded writer_row said
-    → {told : Fault} {after : List ℕ} → Faced whole_row (length ws) row (words_said v ws) told after → (told ≡ plain_fault said) × (after ≡ row_in writer_row row said)
-put-plain row (answered m) v ws room size e f =
-    step-said {S = Done} writer_length writer_row row (answered_on m) (inl room) (put writer_row writer_length row (answered m) v ws size e f)
-put-plain row (refused n) v ws room size e f =
-    step-said {S = Done} writer_length writer_row row (refused_on n tt) (inl room) (put writer_row writer_length row (refused n) v ws size e f)
+pub put-front : (words row : List ℕ) → length words ≤ length row
+    → (fault_said (length words) (length row) (answered words) ≡ no_fault) × (front_after words row ≡ words ++ drop (length words) row)
+unfolding fault_said front_after
+put-front words row h = rw (le-leb (length words) (length row) h) (refl, refl)
 
 -- ---- compress_values
 

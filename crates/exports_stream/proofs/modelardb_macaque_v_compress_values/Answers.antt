@@ -1,17 +1,16 @@
 -- `exports_stream::modelardb_macaque_v_compress_values` meets its contract, by what the call behind it said. Assumes nothing.
 use mathlib.Core.Path.{◌≡◌, sym, ap, ◌∙◌}
 use mathlib.Core.List.{List}
-use mathlib.Core.Logic.{inl}
 use Prim.Native.Nat.{ℕ, ◌≤◌}
+use native.Mathlib.Omega.{arith}
 use lib.ListN.{length}
-use Rattle.models.specs.Answers.{answered, answered_on, SaidOn, stateless}
-use Rattle.macaque_v.specs.Calls.{said_on, write_answer, write_memory}
+use Rattle.models.specs.Answers.{answered_on, SaidOn}
+use Rattle.models.specs.Calls.{said_on}
+use Rattle.macaque_v.specs.Calls.{write_answer, write_memory}
 use Rattle.macaque_v.specs.declared.MacaqueV.{MacaqueV}
 use Rattle.exports.specs.Face.{step_fault, step_row}
-use Rattle.exports.specs.Inner.Put.{worded}
-use Rattle.exports.proofs.Rows.{step-said, put}
 use Rattle.exports_stream.specs.Row.{writer_length, written_row, writer_in}
-use Rattle.exports_stream.proofs.Faces.{stands}
+use Rattle.exports_stream.proofs.Faces.{put-front, stands}
 use Rattle.exports_stream.proofs.Words.{has_words, written-long}
 use Rattle.exports_stream.proofs.modelardb_macaque_v_compress_values.Goals as goal
 use Rattle.exports_stream.proofs.modelardb_macaque_v_compress_values.Goals.{After-compress_values}
@@ -45,15 +44,13 @@ written_words-requires c = held (goal.at.written_words-requires c).After-compres
 
 pub returns-in-Err : goal.returns-in-Err
 returns-in-Err c =
-    let k = c in
-    let e = said (goal.at.returns-in-Err k).After-compress_values ∙ ap said_on c.in-Err.is in
-    record { fault = c.from.ensures ∙ sym (ap step_fault e); row = sym (ap (step_row (written_row (row (goal.at.returns-in-Err k).After-compress_values)) (row (goal.at.returns-in-Err k).After-compress_values)) e); bytes = left (goal.at.returns-in-Err k).After-compress_values }
+    let k = (goal.at.returns-in-Err c).After-compress_values in
+    let e = said k ∙ ap said_on c.in-Err.is in
+    record { fault = c.from.ensures ∙ sym (ap step_fault e); row = sym (ap (step_row (written_row (row k)) (row k)) e); bytes = left k }
 
 pub returns-in-Ok : goal.returns-in-Ok
 returns-in-Ok c =
-    let k = c in
-    let after = ap said_on c.in-Ok.is in
-    let words = c.written_words.ensures in
-    let e = ap answered words ∙ sym (ap (λ (q : SaidOn MacaqueV MacaqueV). worded (written_row (row (goal.at.returns-in-Ok k).After-compress_values)) (stateless q)) (said (goal.at.returns-in-Ok k).After-compress_values ∙ after)) in
-    let f = step-said writer_length (written_row (row (goal.at.returns-in-Ok k).After-compress_values)) (row (goal.at.returns-in-Ok k).After-compress_values) (answer (goal.at.returns-in-Ok k).After-compress_values) (inl (held (goal.at.returns-in-Ok k).After-compress_values _ after)) (put (written_row (row (goal.at.returns-in-Ok k).After-compress_values)) writer_length (row (goal.at.returns-in-Ok k).After-compress_values) (stateless (answer (goal.at.returns-in-Ok k).After-compress_values)) Passed _ (ap length words ∙ written-long (row (goal.at.returns-in-Ok k).After-compress_values) _) e (c.put_said.ensures.fault, c.put_said.ensures.row)) in
-    record { fault = f.0; row = f.1; bytes = left (goal.at.returns-in-Ok k).After-compress_values }
+    let k = (goal.at.returns-in-Ok c).After-compress_values in
+    let e = said k ∙ ap said_on c.in-Ok.is in
+    let front = put-front (written_row (row k) c.in-Ok.after) (row k) (omega (arith, written-long (row k) c.in-Ok.after, held k _ (ap said_on c.in-Ok.is))) in
+    record { fault = rw (c.put_words.ensures.fault, c.written_words.ensures, e) front.0; row = rw (c.put_words.ensures.row, c.written_words.ensures, e) front.1; bytes = left k }

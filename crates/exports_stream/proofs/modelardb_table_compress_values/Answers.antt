@@ -1,41 +1,37 @@
 -- `exports_stream::modelardb_table_compress_values` meets its contract, by what the call behind it said. Assumes nothing.
 use mathlib.Core.Path.{◌≡◌, sym, ap, ◌∙◌}
 use mathlib.Core.List.{List}
-use mathlib.Core.Logic.{inl}
 use Prim.Native.Nat.{ℕ, ◌≤◌}
+use native.Mathlib.Omega.{arith}
 use lib.ListN.{length}
-use Rattle.models.specs.Answers.{answered, answered_on, SaidOn, stateless}
+use Rattle.models.specs.Answers.{answered_on, SaidOn, stateless}
 use Rattle.places.specs.Calls.{Beside}
 use Rattle.macaque_v.specs.declared.MacaqueV.{MacaqueV}
 use Rattle.place_table.specs.Calls.{says_table_write, table_write_answer, table_write_memory, table_write_table}
 use Rattle.exports.specs.Face.{step_fault, step_row}
-use Rattle.exports.specs.Inner.Put.{worded}
-use Rattle.exports.proofs.Rows.{step-said, put}
-use Rattle.exports_stream.specs.Row.{writer_length, writer_in}
+use Rattle.exports_stream.specs.Row.{writer_length, written_row, writer_in}
 use Rattle.exports_stream.proofs.Words.{has_words, written-long}
 use Rattle.exports_stream.specs.Tabled.{beside_written, entries_after}
+use Rattle.exports_stream.proofs.Faces.{put-front}
 use Rattle.exports_stream.proofs.Tabled.{stands}
 use Rattle.exports_stream.proofs.modelardb_table_compress_values.Goals as goal
-use Rattle.exports_stream.proofs.modelardb_table_compress_values.Goals.{After-compress_values, Start}
+use Rattle.exports_stream.proofs.modelardb_table_compress_values.Goals.{After-compress_values}
 
 module _ (c : After-compress_values) where
-  abbrev start : Start
-  start = c.before.before.before.before.before.before.before.before.before.before
-
   abbrev row : List ℕ
-  row = start.args.state.now
+  row = c.args.state.now
 
   abbrev xs : List ℕ
-  xs = start.args.values.now
+  xs = c.args.values.now
 
   abbrev buf : List ℕ
-  buf = start.args.buffer.now
+  buf = c.args.buffer.now
 
   abbrev words : List ℕ
-  words = start.args.table.now
+  words = c.args.table.now
 
   abbrev entries : ℕ
-  entries = start.args.entries.now
+  entries = c.args.entries.now
 
   -- what the call behind says and leaves, of the writer that the row stands for
   abbrev answer : SaidOn MacaqueV (Beside MacaqueV)
@@ -59,27 +55,25 @@ written_words-requires c = held (goal.at.written_words-requires c).After-compres
 
 pub returns-in-Err : goal.returns-in-Err
 returns-in-Err c =
-    let k = c in
-    let e = said (goal.at.returns-in-Err k).After-compress_values ∙ ap says_table_write c.in-Err.is in
+    let k = (goal.at.returns-in-Err c).After-compress_values in
+    let e = said k ∙ ap says_table_write c.in-Err.is in
     record {
       fault = c.from.ensures ∙ sym (ap step_fault e);
-      row = sym (ap (step_row (beside_written (row (goal.at.returns-in-Err k).After-compress_values)) (row (goal.at.returns-in-Err k).After-compress_values)) e);
-      bytes = left (goal.at.returns-in-Err k).After-compress_values;
-      words = laid (goal.at.returns-in-Err k).After-compress_values;
-      number = sym (ap (λ (q : SaidOn MacaqueV (Beside MacaqueV)). entries_after (entries (goal.at.returns-in-Err k).After-compress_values) (stateless q)) e);
+      row = sym (ap (step_row (beside_written (row k)) (row k)) e);
+      bytes = left k;
+      words = laid k;
+      number = sym (ap (λ (q : SaidOn MacaqueV (Beside MacaqueV)). entries_after (entries k) (stateless q)) e);
     }
 
 pub returns-in-Ok : goal.returns-in-Ok
 returns-in-Ok c =
-    let k = c in
-    let after = ap says_table_write c.in-Ok.is in
-    let words = c.written_words.ensures in
-    let e = ap answered words ∙ sym (ap (λ (q : SaidOn MacaqueV (Beside MacaqueV)). worded (beside_written (row (goal.at.returns-in-Ok k).After-compress_values)) (stateless q)) (said (goal.at.returns-in-Ok k).After-compress_values ∙ after)) in
-    let f = step-said writer_length (beside_written (row (goal.at.returns-in-Ok k).After-compress_values)) (row (goal.at.returns-in-Ok k).After-compress_values) (answer (goal.at.returns-in-Ok k).After-compress_values) (inl (held (goal.at.returns-in-Ok k).After-compress_values _ after)) (put (beside_written (row (goal.at.returns-in-Ok k).After-compress_values)) writer_length (row (goal.at.returns-in-Ok k).After-compress_values) (stateless (answer (goal.at.returns-in-Ok k).After-compress_values)) Passed _ (ap length words ∙ written-long (row (goal.at.returns-in-Ok k).After-compress_values) _) e (c.put_said.ensures.fault, c.put_said.ensures.row)) in
+    let k = (goal.at.returns-in-Ok c).After-compress_values in
+    let e = said k ∙ ap says_table_write c.in-Ok.is in
+    let front = put-front (written_row (row k) c.in-Ok.after) (row k) (omega (arith, written-long (row k) c.in-Ok.after, held k _ (ap says_table_write c.in-Ok.is))) in
     record {
-      fault = f.0;
-      row = f.1;
-      bytes = left (goal.at.returns-in-Ok k).After-compress_values;
-      words = laid (goal.at.returns-in-Ok k).After-compress_values;
-      number = sym (ap (λ (q : SaidOn MacaqueV (Beside MacaqueV)). entries_after (entries (goal.at.returns-in-Ok k).After-compress_values) (stateless q)) (said (goal.at.returns-in-Ok k).After-compress_values ∙ after));
+      fault = rw (c.put_words.ensures.fault, c.written_words.ensures, e) front.0;
+      row = rw (c.put_words.ensures.row, c.written_words.ensures, e) front.1;
+      bytes = left k;
+      words = laid k;
+      number = sym (ap (λ (q : SaidOn MacaqueV (Beside MacaqueV)). entries_after (entries k) (stateless q)) e);
     }
