@@ -24,7 +24,7 @@ use Rattle.exports.specs.Face.{bound_of, fault_said, plain_fault, row_in, no_sta
 use Rattle.exports.specs.Words.{bound_front}
 use Rattle.exports.specs.Inner.Put.{front_after}
 use Rattle.exports.proofs.Rows as rows
-use Rattle.exports_stream.specs.Row.{writer_length, writer_row, stands_for_state, spoiled_writer, writer_in}
+use Rattle.exports_stream.specs.Row.{writer_row, stands_for_state, spoiled_writer, writer_in}
 use Rattle.exports_stream.proofs.Words.{no-state}
 use Rattle.exports_stream.specs.Calls.{opening_of, new_causes, new_fault, new_row}
 use Rattle.exports_stream.specs.Calls.{reopen_face_causes, reopen_said, reopen_left, reopen_fault, reopen_row, reopen_buffer}

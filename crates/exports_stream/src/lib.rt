@@ -145,6 +145,7 @@ pub fn modelardb_macaque_v_rescue(
 // ---- the reading calls
 
 // The values of a stream, `count` of them, into the first places of `out`.
+#[tactic(auto, unfolding(crate::specs::Calls::grid_fault, crate::specs::Calls::grid_out))]
 pub fn modelardb_macaque_v_grid(
     bytes: &[u8],
     count: usize,
@@ -160,6 +161,7 @@ pub fn modelardb_macaque_v_grid(
 }
 
 // The sum of the values of a stream, `count` of them, into out[0].
+#[tactic(auto, unfolding(crate::specs::Calls::sum_fault, crate::specs::Calls::sum_out))]
 pub fn modelardb_macaque_v_sum(
     bytes: &[u8],
     count: usize,
@@ -177,6 +179,7 @@ pub fn modelardb_macaque_v_sum(
 // ---- how large a stream can get
 
 // The most bits that `count` values take in a stream of this mode, by any bound; a refusal leaves the number.
+#[tactic(auto, unfolding(crate::specs::Size::most_bits_fault, crate::specs::Size::most_bits_number))]
 pub fn modelardb_macaque_v_most_bits(count: usize, mode: u32, bits: &mut usize) -> Fault
     ensures fault { result ≡ most_bits_fault count mode }
     ensures number { bits.new ≡ most_bits_number count mode bits.old }
@@ -186,6 +189,7 @@ pub fn modelardb_macaque_v_most_bits(count: usize, mode: u32, bits: &mut usize) 
 }
 
 // The bytes that hold them: a new writer that is lent so many refuses no such values for want of room.
+#[tactic(auto, unfolding(crate::specs::Size::most_bytes_fault, crate::specs::Size::most_bytes_number))]
 pub fn modelardb_macaque_v_most_bytes(count: usize, mode: u32, bytes: &mut usize) -> Fault
     ensures fault { result ≡ most_bytes_fault count mode }
     ensures number { bytes.new ≡ most_bytes_number count mode bytes.old }
@@ -257,6 +261,7 @@ fn judge_reopen(
 }
 
 // The state's words to the front of the row, where there is one.
+#[tactic(auto, unfolding(exports::specs::Face::fault_said, exports::specs::Inner::Put::front_after, crate::specs::Row::writer_row))]
 pub fn put_opened(writer: Result<MacaqueV, Refusal>, state: &mut [u64]) -> Fault
     requires { writer_length ≤ length state.old }
     ensures fault { result ≡ plain_fault (said_by writer) }

@@ -44,6 +44,7 @@ fn state_words(kind: u64, bits: u64, mode: u64, sum: u64, m: MacaqueV) -> [u64; 
 }
 
 // Of a state that is handed out.
+#[tactic(auto, using(exports::proofs::Truth::truth_word), unfolding(crate::specs::Row::writer_row))]
 pub fn writer_words(m: MacaqueV) -> [u64; WORDS]
     ensures { result ≡ writer_row m }
 {
@@ -54,6 +55,7 @@ pub fn writer_words(m: MacaqueV) -> [u64; WORDS]
 }
 
 // Of the state after a write: the bound and the mode stay as they stand in the row.
+#[tactic(auto, unfolding(crate::specs::Row::written_row))]
 pub fn written_words(row: &[u64], m: MacaqueV) -> [u64; WORDS]
     requires { writer_length ≤ length row.now }
     ensures { result ≡ written_row row.now m }
@@ -75,17 +77,18 @@ fn sum_after(row: &[u64], m: MacaqueV) -> u64
 // ---- from the row
 
 // A row that is too short stands for no state.
+#[tactic(auto, unfolding(crate::specs::Row::stands_for_state))]
 fn stands_for_state(row: &[u64]) -> bool
     ensures { result ≡ stands_for_state row.now }
 {
-    if row.len() < WORDS {
-        return false;
-    }
-    words::is_small(row[2])
-        & (words::is_small(row[3])
-            & (words::is_small(row[4])
-                & (words::is_small(row[5])
-                    & (words::is_small(row[6]) & ((row[7] <= 1) & words::is_small(row[10]))))))
+    (WORDS <= row.len())
+        && words::is_small(row[2])
+        && words::is_small(row[3])
+        && words::is_small(row[4])
+        && words::is_small(row[5])
+        && words::is_small(row[6])
+        && (row[7] <= 1)
+        && words::is_small(row[10])
 }
 
 // The state in a row that stands for one.

@@ -1,8 +1,0 @@
--- `exports_stream::modelardb_macaque_v_most_bytes` meets its contract, by what the call behind it said. Assumes nothing.
-use Rattle.exports_stream.specs.Size.{most_bytes_fault, most_bytes_number}
-use Rattle.exports_stream.proofs.modelardb_macaque_v_most_bytes.Goals as goal
-
-pub returns : goal.returns
-unfolding most_bytes_fault most_bytes_number
-returns c =
-    record { fault = rw (c.most_bytes-most.ensures, c.count_in.ensures, c.opening_of.ensures) at c.put_number.ensures.fault; number = rw (c.most_bytes-most.ensures, c.count_in.ensures, c.opening_of.ensures) at c.put_number.ensures.number }
