@@ -7,6 +7,7 @@ use native.Mathlib.Nat.{zero-add, le_of_suc-le-suc, not-suc-le-zero}
 use native.Mathlib.Numerals.{add-one}
 use native.Mathlib.Omega.{arith}
 use borrow.Author.Tests.{lt-ltb}
+use Rattle.std.proofs.Math.Bool.{and_assoc}
 use lib.IntN.{ℤ, pos, negsuc}
 use lib.Signed.{lt_z}
 use lib.ListN.{length, get_or, drop, set, length-map}
@@ -37,9 +38,9 @@ after-all [] = refl
 after-all (t ∷ ts) = start-by t ts (time_allowed t) refl
 
 pub after-here : (a : ℤ) (ts : List ℤ) (i : ℕ) → i < length ts →
-    after a (drop i ts) ≡ (time_allowed (get_or ts i (pos 0)) && (lt_z a (get_or ts i (pos 0)) && after (get_or ts i (pos 0)) (drop (i + 1) ts)))
+    after a (drop i ts) ≡ ((time_allowed (get_or ts i (pos 0)) && lt_z a (get_or ts i (pos 0))) && after (get_or ts i (pos 0)) (drop (i + 1) ts))
 unfolding after
-after-here a ts i h = rw (add-one i, drop-cons ts i (pos 0))
+after-here a ts i h = rw (add-one i, drop-cons ts i (pos 0)) (sym (and_assoc (time_allowed (get_or ts i (pos 0))) (lt_z a (get_or ts i (pos 0))) _))
 
 after-at : (a : ℤ) (ts : List ℤ) (i : ℕ) → after a ts ≡ true → i < length ts → time_allowed (get_or ts i (pos 0)) ≡ true
 unfolding after

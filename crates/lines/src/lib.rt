@@ -42,19 +42,20 @@ pub fn point_of(time: i64, bits: u32) -> Point
 }
 
 // A value as it is answered: rounded to f32, by its bits.
+#[tactic(auto, unfolding(crate::specs::Line::answered_as))]
 pub fn answered(value: f64) -> u32
     ensures { result ≡ answered_as value }
 {
     numbers::bits_of_f32(numbers::narrow(value))
 }
 
-// The point with its value raised, and lowered, by d.
+// The point with its value raised, and lowered, by d: two functions, since `raised` and `lowered` are words of the steps' contracts.
 pub fn raised(p: Point, d: f64) -> Point
     ensures { result ≡ raised p d }
 {
     Point {
-        time: p.time,
         value: p.value + d,
+        ..p
     }
 }
 
@@ -62,8 +63,8 @@ pub fn lowered(p: Point, d: f64) -> Point
     ensures { result ≡ lowered p d }
 {
     Point {
-        time: p.time,
         value: p.value - d,
+        ..p
     }
 }
 
@@ -77,6 +78,7 @@ pub fn span(start: i64, end: i64) -> f64
 }
 
 // The line through two points; level where their values are equal-or-NaN.
+#[tactic(auto, unfolding(crate::specs::Line::line_through))]
 pub fn line_through(a: Point, b: Point) -> Line
     requires a_allowed { time_allowed a.time ≡ true }
     requires b_allowed { time_allowed b.time ≡ true }
@@ -98,6 +100,7 @@ pub fn line_through(a: Point, b: Point) -> Line
 }
 
 // What the point b adds to the slope of a line from a on.
+#[tactic(auto, unfolding(crate::specs::Line::terms_of))]
 pub fn terms_of(a: Point, b: Point) -> Terms
     requires a_allowed { time_allowed a.time ≡ true }
     requires b_allowed { time_allowed b.time ≡ true }
@@ -127,6 +130,7 @@ pub fn added(a: Terms, b: Terms) -> Terms
 }
 
 // The line's value at a time.
+#[tactic(auto, unfolding(crate::specs::Line::value_at))]
 pub fn value_at(line: Line, t: i64) -> f64
     requires { time_allowed t ≡ true }
     ensures { result ≡ value_at line t }
@@ -137,6 +141,7 @@ pub fn value_at(line: Line, t: i64) -> f64
 // ---- a model's values
 
 // Whether b is after a, both within the limits.
+#[tactic(auto, unfolding(crate::specs::Values::in_time))]
 pub fn in_time(a: Point, b: Point) -> bool
     ensures { result ≡ in_time a b }
 {
@@ -150,6 +155,7 @@ pub fn both_finite(a: f64, b: f64) -> bool
 }
 
 // Whether no line can be drawn: the values differ, and not both are finite.
+#[tactic(auto, unfolding(crate::specs::Values::no_line))]
 pub fn no_line(a: Point, b: Point) -> bool
     ensures { result ≡ no_line a b }
 {
@@ -157,6 +163,7 @@ pub fn no_line(a: Point, b: Point) -> bool
 }
 
 // The bits of the sum of `count` values of the line, by the average of its ends.
+#[tactic(auto, unfolding(crate::specs::Values::average_sum))]
 pub fn average_sum(a: Point, b: Point, count: usize) -> u32
     requires times { in_time a b ≡ true }
     requires few { count ≤ most_values }
@@ -174,12 +181,9 @@ pub fn total(line: Line, ts: &[i64]) -> f64
     requires { in_order ts.now ≡ true }
     ensures { result ≡ sum_from zero_f line ts.now }
 {
-    let mut sum: f64 = 0.0;
-    let mut i: usize = 0;
-    while i < ts.len() {
-        let t = ts[i];
-        sum = sum + value_at(line, t);
-        i += 1;
+    let mut sum = 0.0;
+    for &t in ts {
+        sum += value_at(line, t);
     }
     sum
 }
@@ -190,10 +194,8 @@ pub fn draw(line: Line, ts: &[i64], out: &mut [u32])
     requires room { length ts.now ≤ length out.old }
     ensures { out.new ≡ line_drawn line ts.now out.old }
 {
-    let mut i: usize = 0;
-    while i < ts.len() {
-        let t = ts[i];
+    // By index: of what an `iter_mut` writes a proof knows the length alone.
+    for (i, &t) in ts.iter().enumerate() {
         out[i] = answered(value_at(line, t));
-        i += 1;
     }
 }

@@ -1,7 +1,6 @@
 // Timestamps: from -2^52 to 2^52, so that each of them, and the difference of two, is exact in f64.
 
 ghost use Rattle.std.specs.Prelude.{◌≡◌};
-ghost use Rattle.std.specs.Int.Signed.{lt_z};
 ghost use Rattle.lines.specs.Times.{time_allowed, in_order};
 
 const LEAST: i64 = -4503599627370496;
@@ -9,34 +8,23 @@ const LEAST: i64 = -4503599627370496;
 const MOST: i64 = 4503599627370496;
 
 // Whether the time keeps the limits.
+#[tactic(auto, unfolding(crate::specs::Times::time_allowed))]
 pub fn allowed(t: i64) -> bool
     ensures { result ≡ time_allowed t }
 {
     (LEAST <= t) & (t <= MOST)
 }
 
-fn earlier(a: i64, b: i64) -> bool
-    ensures { result ≡ lt_z a b }
-{
-    a < b
-}
-
 // Whether the times keep the limits and each is after the one before it.
 pub fn in_order(ts: &[i64]) -> bool
     ensures { result ≡ in_order ts.now }
 {
-    let mut last: i64 = -4503599627370497;
-    let mut i: usize = 0;
-    while i < ts.len() {
-        let t = ts[i];
-        if !allowed(t) {
-            return false;
-        }
-        if !earlier(last, t) {
+    let mut last = LEAST - 1;
+    for &t in ts {
+        if !(allowed(t) & (last < t)) {
             return false;
         }
         last = t;
-        i += 1;
     }
     true
 }

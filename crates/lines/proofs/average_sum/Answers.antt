@@ -1,9 +1,7 @@
 -- `lines::average_sum` meets its contract. Assumes nothing.
 use lib.Ieee as Ieee
-use native.Mathlib.Omega.{arith}
 use mir.Syntax.{w64}
 use mir.ValLaws.{to_z-of_z}
-use lib.Dec.{le→leb}
 use Rattle.lines.specs.Values.{average_sum}
 use Rattle.lines.proofs.Exact.{time-fits}
 use Rattle.lines.proofs.Ordered.{start-in-time, end-in-time}
@@ -23,10 +21,6 @@ value_at-last-requires c =
     let b = c.args.b in
     let ok = end-in-time _ b c.requires.times in
     rw (to_z-of_z w64 b.time (time-fits _ ok)) ok
-
-pub int_to_float-count : goal.int_to_float-count
-unfolding Ieee.in_float
-int_to_float-count c = le→leb c.args.count 9007199254740992 (omega arith)
 
 pub returns : goal.returns
 unfolding average_sum Ieee.of_bits

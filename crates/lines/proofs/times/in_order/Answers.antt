@@ -9,41 +9,30 @@ use Rattle.lines.specs.Times.{after}
 use Rattle.lines.proofs.Ordered.{after-all, after-here, drop-end}
 use Rattle.lines.proofs.times.in_order.Goals as goal
 
-pub loop-i-init : goal.loop-i-init
-loop-i-init c = (search rules, after-all _)
+pub loop-t-init : goal.loop-t-init
+loop-t-init c = after-all _
 
-pub returns-then-not-allowed : goal.returns-then-not-allowed
-returns-then-not-allowed c =
+pub returns-then-not-allowed-last : goal.returns-then-not-allowed-last
+returns-then-not-allowed-last c =
     let ts = c.args.ts.now in
-    let l = c.loop-i in
-    let h = c.loop-i-test.true in
-    let zt = to_z-of_z w64 (get_or ts l.i (pos 0)) (search rules) in
+    let l = c.loop-t in
+    let zt = to_z-of_z w64 (get_or ts l.t-index (pos 0)) (search rules) in
     let ok = rw zt at c.allowed.ensures in
-    rw (l.invariant.1, after-here (to_z w64 l.last-bits) ts l.i h, ← ok, c.if-not-allowed.true)
+    let no = rw (ok, zt) at c.if-not-allowed-last.true in
+    rw (l.invariant, after-here (to_z w64 l.last-bits) ts l.t-index c.loop-t-test.true, no)
 
-pub returns-then-not-earlier : goal.returns-then-not-earlier
-returns-then-not-earlier c =
+pub loop-t-preserved : goal.loop-t-preserved
+loop-t-preserved c =
     let ts = c.args.ts.now in
-    let l = c.loop-i in
-    let h = c.loop-i-test.true in
-    let zt = to_z-of_z w64 (get_or ts l.i (pos 0)) (search rules) in
+    let l = c.loop-t in
+    let zt = to_z-of_z w64 (get_or ts l.t-index (pos 0)) (search rules) in
     let ok = rw zt at c.allowed.ensures in
-    let up = rw zt at c.earlier.ensures in
-    rw (l.invariant.1, after-here (to_z w64 l.last-bits) ts l.i h, ← ok, c.if-not-allowed.false, ← up, c.if-not-earlier.true)
-
-pub loop-i-preserved : goal.loop-i-preserved
-loop-i-preserved c =
-    let ts = c.args.ts.now in
-    let l = c.loop-i in
-    let h = c.loop-i-test.true in
-    let zt = to_z-of_z w64 (get_or ts l.i (pos 0)) (search rules) in
-    let ok = rw zt at c.allowed.ensures in
-    let up = rw zt at c.earlier.ensures in
-    (search rules, rw (zt, l.invariant.1, after-here (to_z w64 l.last-bits) ts l.i h, ← ok, c.if-not-allowed.false, ← up, c.if-not-earlier.false))
+    let yes = rw (ok, zt) at c.if-not-allowed-last.false in
+    rw (zt, l.invariant, after-here (to_z w64 l.last-bits) ts l.t-index c.loop-t-test.true, yes)
 
 pub returns : goal.returns
 unfolding after
 returns c =
     let ts = c.args.ts.now in
-    let l = c.loop-i in
-    rw (l.invariant.1, drop-end ts l.i (omega arith))
+    let l = c.loop-t in
+    rw (l.invariant, drop-end ts l.t-index (omega arith))
