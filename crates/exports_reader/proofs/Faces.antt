@@ -5,6 +5,7 @@ use mathlib.Core.List.{List, ◌∷◌, ◌++◌}
 use Prim.Native.Nat.{ℕ, ◌*◌, ◌%◌, ◌^◌, ◌≤◌, ◌<◌}
 use native.Mathlib.Omega.{arith}
 use borrow.Author.Tests.{le-leb, lt-leb, leb-true, leb-false, lt-ltb, le-ltb}
+use Rattle.std.specs.Prelude.{Ok}
 use lib.Dec.{eqb, leb, ltb}
 use lib.ListN.{length, drop, get_or}
 use Rattle.models.specs.Answers.{fault, no_fault, answered, refused, SaidOn, answered_on, refused_on, stateless, judge}
@@ -17,7 +18,8 @@ use Rattle.exports.specs.Face.{refusal_fault, fault_said, row_after, ask_fault, 
 use Rattle.exports.specs.Words.{small}
 use Rattle.exports.proofs.Back.{flag_small, flag-back}
 use Rattle.exports.proofs.Small.{low-is}
-use Rattle.exports.proofs.Rows.{Faced, same, refused-row, short_row, full-row}
+use Rattle.exports.specs.Inner.Put.{front_after}
+use Rattle.exports.proofs.Rows.{Faced, put, same, refused-row, short_row, full-row}
 use Rattle.exports_stream.specs.Calls.{opening_of}
 use Rattle.reader.specs.Calls.{opened_at, may_use, Taken, next_answer, end_answer}
 use Rattle.reader.specs.declared.position.Position.{Position}
@@ -41,6 +43,12 @@ open_said mode opening row one f =
     held : (b : Bool) → leb reader_length (length row) ≡ b → ltb (length row) reader_length ≡ not b
     held true h = le-ltb (length row) reader_length (leb-true reader_length (length row) h)
     held false h = lt-ltb (length row) reader_length (leb-false reader_length (length row) h)
+
+-- ---- the words of a reader that were put into a row
+pub put-reader : (row : List ℕ) (p : Position) (ws : List ℕ) → ws ≡ reader_row p → {told : Fault} {after : List ℕ} → told ≡ fault_said (length ws) (length row) (answered ws) → after ≡ front_after ws row
+    → Faced reader_row reader_length row (answered p) told after
+unfolding row_after front_after reader_row
+put-reader row p ws is f r = put reader_row reader_length row (answered p) (Ok tt) ws (ap length is) (ap answered is) (f, r)
 
 -- ---- next
 

@@ -11,7 +11,7 @@ ghost use Rattle.reader.specs.Run.{last_answer};
 ghost use Rattle.exports_reader.specs.Row.{position_in};
 ghost use Rattle.exports_reader.specs.Calls.{open_fault, open_row, one_value, next_row, end_fault};
 
-use models::{Fault, ValueAnswer, Verdict};
+use models::Fault;
 use reader::position;
 
 mod row;
@@ -26,7 +26,7 @@ pub fn modelardb_reader_open(mode: u32, opening: u32, reader: &mut [u64]) -> Fau
         return exports::OVER_LIMIT;
     }
     let start = position::start(exports_stream::opening_of(mode, opening));
-    exports::put_said(Verdict::Passed, &row::position_words(start), reader)
+    exports::put_words(&row::position_words(start), reader)
 }
 
 // The next value into out[0]; the row becomes the reader behind it. A row that is too short stands for no
@@ -37,15 +37,14 @@ pub fn modelardb_reader_next(bytes: &[u8], reader: &mut [u64], out: &mut [u32]) 
     ensures value { out.new ≡ ask_row 1 one_value out.old (next_answer bytes.now (position_in reader.old)) }
 {
     let step = position::step_from(bytes, row::position_in(reader));
-    let answer = step.answer;
-    match answer {
-        ValueAnswer::Refused(r) => exports::fault_with(r, 1, out.len()),
-        ValueAnswer::Answered(value) => {
+    match step.answer {
+        Err(r) => exports::fault_with(r, 1, out.len()),
+        Ok(value) => {
             if out.len() < 1 {
                 return exports::TOO_SHORT;
             }
             out[0] = value;
-            exports::put_said(Verdict::Passed, &row::position_words(step.after), reader)
+            exports::put_words(&row::position_words(step.after), reader)
         }
     }
 }
@@ -55,8 +54,8 @@ pub fn modelardb_reader_end(bytes: &[u8], reader: &[u64]) -> Fault
     ensures { result ≡ end_fault bytes.now reader.now }
 {
     match position::end_from(bytes, row::position_in(reader)) {
-        Verdict::Refused(r) => models::fault_of(r),
-        Verdict::Passed => exports::ACCEPTED,
+        Err(r) => Fault::from(r),
+        Ok(()) => exports::ACCEPTED,
     }
 }
 

@@ -10,6 +10,7 @@ use reader::position::Position;
 
 pub const WORDS: usize = 6;
 
+#[tactic(auto, unfolding(crate::specs::Row::reader_row))]
 pub fn position_words(p: Position) -> [u64; WORDS]
     ensures { result ≡ reader_row p }
 {
@@ -18,13 +19,14 @@ pub fn position_words(p: Position) -> [u64; WORDS]
         at.last as u64,
         at.lead as u64,
         at.trail as u64,
-        exports::word_of(p.with_first) as u64,
+        u64::from(p.with_first),
         at.place as u64,
         at.count as u64,
     ]
 }
 
 // A row that is too short stands for no reader.
+#[tactic(auto, unfolding(crate::specs::Row::stands_for_reader))]
 fn stands_for_reader(row: &[u64]) -> bool
     ensures { result ≡ stands_for_reader row.now }
 {
@@ -54,6 +56,7 @@ fn read_position(row: &[u64]) -> Position
 }
 
 // Where the reader stands that a row stands for.
+#[tactic(auto, unfolding(crate::specs::Row::position_in, crate::specs::Row::stands_for_reader))]
 pub fn position_in(row: &[u64]) -> Position
     ensures { result ≡ position_in row.now }
 {

@@ -2,15 +2,11 @@
 use mathlib.Core.Path.{sym, ap, ◌∙◌}
 use native.Mathlib.Omega.{arith}
 use borrow.Author.Tests.{lt-ltb}
-use lib.ListN.{length}
-use Rattle.models.specs.Answers.{answered, judge}
-use Rattle.models.specs.declared.Verdict.TheVariants.{Passed}
+use Rattle.models.specs.Answers.{judge}
 use Rattle.reader.specs.Calls.{opened_at}
-use Rattle.reader.specs.declared.position.Position.{Position}
-use Rattle.exports.proofs.Rows.{put}
-use Rattle.exports_reader.specs.Row.{reader_length, reader_row}
+use Rattle.exports_reader.specs.Row.{reader_row}
 use Rattle.exports_reader.specs.Calls.{open_fault, open_row}
-use Rattle.exports_reader.proofs.Faces.{open_said, reader-long}
+use Rattle.exports_reader.proofs.Faces.{open_said, put-reader}
 use Rattle.exports_reader.proofs.modelardb_reader_open.Goals as goal
 
 pub returns-then-mode-gt1 : goal.returns-then-mode-gt1
@@ -20,10 +16,7 @@ returns-then-mode-gt1 c = let e = lt-ltb 1 c.args.mode (omega arith) in record {
 pub returns : goal.returns
 returns c =
     let a = c.args in
-    let words = c.position_words.ensures in
     let start = c.start-start.ensures ∙ ap opened_at c.opening_of.ensures in
-    let e = ap answered words ∙ ap (λ (p : Position). answered (reader_row p)) start in
-    let both =
-    open_said a.mode a.opening a.reader.now (omega arith)
-    (put reader_row reader_length a.reader.now _ Passed _ (ap length words ∙ reader-long c.start-start.result) e (c.put_said.ensures.fault, c.put_said.ensures.row)) in
+    let words = c.position_words.ensures ∙ ap reader_row start in
+    let both = open_said a.mode a.opening a.reader.now (omega arith) (put-reader a.reader.now _ _ words c.put_words.ensures.fault c.put_words.ensures.row) in
     record { fault = both.0; row = both.1 }

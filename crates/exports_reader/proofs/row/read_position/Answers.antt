@@ -3,6 +3,4 @@ use Rattle.exports_reader.proofs.Faces.{low-words}
 use Rattle.exports_reader.proofs.row.read_position.Goals as goal
 
 pub returns : goal.returns
-returns c =
-    let s = c in
-    rw (c.low.ensures, c.low-2.ensures, c.low-3.ensures) (low-words s.args.row.now s.requires.stands)
+returns c = rw (c.low.ensures, c.low-2.ensures, c.low-3.ensures) (low-words c.args.row.now c.requires.stands)
