@@ -5,10 +5,6 @@ use Rattle.models.specs.Bound.{bound_allowed}
 use Rattle.models.proofs.Laws.{finite-as}
 use Rattle.models.proofs.bound_allowed.Goals as goal
 
-pub returns-in-Lossless : goal.returns-in-Lossless
-unfolding bound_allowed
-returns-in-Lossless c = rw c.in-Lossless.is
-
 pub returns-in-Absolute : goal.returns-in-Absolute
 unfolding bound_allowed Ieee.of_bits
 returns-in-Absolute c = rw (c.in-Absolute.is, c.is_finite.ensures.value, finite-as)

@@ -5,10 +5,6 @@ use Rattle.models.specs.Bound.{near_in}
 use Rattle.models.proofs.Laws.{size-at-most, percent-at-most}
 use Rattle.models.proofs.is_near.Goals as goal
 
-pub returns-in-Lossless : goal.returns-in-Lossless
-unfolding near_in
-returns-in-Lossless c = rw c.in-Lossless.is
-
 pub returns-in-Absolute : goal.returns-in-Absolute
 unfolding near_in
 returns-in-Absolute c = rw (c.in-Absolute.is, c.wider.ensures, c.size_f64.ensures) (size-at-most _ _)

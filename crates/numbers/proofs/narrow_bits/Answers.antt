@@ -8,9 +8,6 @@ use Rattle.numbers.proofs.Read.{digits_lt}
 use Rattle.numbers.proofs.Convert.{narrow, narrow-is}
 use Rattle.numbers.proofs.narrow_bits.Goals as goal
 
-pub narrow_size-requires : goal.narrow_size-requires
-narrow_size-requires c = (omega (arith, digits_lt 52 (bit_and c.args.b 9223372036854775807)), omega (arith, and_le_r c.args.b 9223372036854775807))
-
 pub returns : goal.returns
 returns c =
     let b = c.args.b in

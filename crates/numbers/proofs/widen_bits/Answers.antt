@@ -15,9 +15,6 @@ use Rattle.numbers.proofs.widen_bits.Goals.{Else-mag-eq2139095040}
 under : (c : Else-mag-eq2139095040) → bit_and c.args.b 2147483647 < 0x7f80_0000
 under c = lt_of_le-ne (subst (λ (k : ℕ). k ≤ 0x7f80_0000) (sym (and_mask c.args.b 31)) (no_nan binary32 c.args.b c.requires)) c.if-mag-eq2139095040.false
 
-pub overflow_cast-mag : goal.overflow_cast-mag
-overflow_cast-mag c = omega (arith, and_le_r c.args.b 2147483647)
-
 pub widen_size-requires : goal.widen_size-requires
 widen_size-requires c = (omega (arith, digits_lt 23 (bit_and c.args.b 2147483647)), omega (arith, under (goal.at.widen_size-requires c).Else-mag-eq2139095040))
 
