@@ -38,31 +38,25 @@ pub fn write(
     ensures values { values_out.new ≡ values_after model first_value last_value error_bound residuals.now values_out.old residuals_out.old }
     ensures bytes { residuals_out.new ≡ residuals_after model first_value last_value error_bound residuals.now values_out.old residuals_out.old }
 {
-    let last = last_of(model, first_value, last_value);
-    let writer = MacaqueV::new(error_bound, Opening::On(last))?;
+    let m = Model {
+        id: model,
+        first: first_value,
+        last: last_value,
+    };
+    let writer = MacaqueV::new(error_bound, Opening::On(m.last_value()))?;
     if (1 < model) | (MacaqueV::MOST_RESIDUALS < residuals.len()) {
         return Err(Refusal::OverLimit);
     }
     let mut stream = [0u8; 1403];
     match writer.compress_values(residuals, &mut stream) {
         Err(e) => Err(e.cause),
-        Ok(after) => hand_out(
-            model,
-            first_value,
-            last_value,
-            after,
-            &stream,
-            values_out,
-            residuals_out,
-        ),
+        Ok(after) => hand_out(m, after, &stream, values_out, residuals_out),
     }
 }
 
 // The parameter bytes, and the bytes in use of a stream with their count, to the front of the outputs.
 fn hand_out(
-    model: u32,
-    first_value: u32,
-    last_value: u32,
+    m: Model,
     after: MacaqueV,
     stream: &[u8],
     values_out: &mut [u8],
@@ -71,17 +65,11 @@ fn hand_out(
     requires in_stream { after.place ≤ 8 * length stream.now }
     requires few { after.length ≤ most_residuals }
     requires short { length stream.now ≤ 1403 }
-    ensures answer { said_by result ≡ handed_answer (stored_by model first_value last_value after stream.now) values_out.old residuals_out.old }
-    ensures values { values_out.new ≡ handed_values (stored_by model first_value last_value after stream.now) values_out.old residuals_out.old }
-    ensures bytes { residuals_out.new ≡ handed_residuals (stored_by model first_value last_value after stream.now) values_out.old residuals_out.old }
+    ensures answer { said_by result ≡ handed_answer (stored_by m.id m.first m.last after stream.now) values_out.old residuals_out.old }
+    ensures values { values_out.new ≡ handed_values (stored_by m.id m.first m.last after stream.now) values_out.old residuals_out.old }
+    ensures bytes { residuals_out.new ≡ handed_residuals (stored_by m.id m.first m.last after stream.now) values_out.old residuals_out.old }
 {
-    let form = form_of(
-        model,
-        first_value,
-        last_value,
-        after.min_value,
-        after.max_value,
-    );
+    let form = m.form(after.min_value, after.max_value);
     let count = after.length;
     let used = (after.place + 7) / 8;
     let values_length = parameters::length_of(form);
@@ -92,8 +80,8 @@ fn hand_out(
     parameters::put(form, values_out);
     put_counted(stream, used, count, residuals_out);
     Ok(Segment {
-        min_value: models::lesser(min_of(model, first_value, last_value), after.min_value),
-        max_value: models::greater(max_of(model, first_value, last_value), after.max_value),
+        min_value: models::lesser(m.min_value(), after.min_value),
+        max_value: models::greater(m.max_value(), after.max_value),
         values_length,
         residuals_length,
     })
@@ -101,49 +89,60 @@ fn hand_out(
 
 // ---- the model's own
 
-#[tactic(auto, unfolding(crate::specs::Segment::last_of))]
-fn last_of(model: u32, first_value: u32, last_value: u32) -> u32
-    ensures { result ≡ last_of model first_value last_value }
-{
-    if model == 0 {
-        models::plain(first_value)
-    } else {
-        models::plain(last_value)
-    }
+// A model as it is handed in, 0 for PMC-Mean and 1 for Swing: any other number is refused behind it.
+#[derive(Clone, Copy)]
+struct Model {
+    id: u32,
+    first: u32,
+    last: u32,
 }
 
-#[tactic(auto, unfolding(models::specs::Floats::min_bits))]
-fn min_of(model: u32, first_value: u32, last_value: u32) -> u32
-    ensures { result ≡ model_min model first_value last_value }
-{
-    let first = models::plain(first_value);
-    if model == 0 {
-        first
-    } else {
-        models::lesser(first, models::plain(last_value))
+impl Model {
+    #[tactic(auto, unfolding(crate::specs::Segment::last_of))]
+    fn last_value(self) -> u32
+        ensures { result ≡ last_of self.id self.first self.last }
+    {
+        if self.id == 0 {
+            models::plain(self.first)
+        } else {
+            models::plain(self.last)
+        }
     }
-}
 
-#[tactic(auto, unfolding(models::specs::Floats::max_bits))]
-fn max_of(model: u32, first_value: u32, last_value: u32) -> u32
-    ensures { result ≡ model_max model first_value last_value }
-{
-    let first = models::plain(first_value);
-    if model == 0 {
-        first
-    } else {
-        models::greater(first, models::plain(last_value))
+    #[tactic(auto, unfolding(models::specs::Floats::min_bits))]
+    fn min_value(self) -> u32
+        ensures { result ≡ model_min self.id self.first self.last }
+    {
+        let first = models::plain(self.first);
+        if self.id == 0 {
+            first
+        } else {
+            models::lesser(first, models::plain(self.last))
+        }
     }
-}
 
-#[tactic(auto, unfolding(crate::specs::Segment::form_of))]
-fn form_of(model: u32, first_value: u32, last_value: u32, low: u32, high: u32) -> Form
-    ensures { result ≡ form_of model first_value last_value low high }
-{
-    if model == 0 {
-        parameters::form_for_pmc_mean(first_value, low, high)
-    } else {
-        parameters::form_for_swing(first_value, last_value, low, high)
+    #[tactic(auto, unfolding(models::specs::Floats::max_bits))]
+    fn max_value(self) -> u32
+        ensures { result ≡ model_max self.id self.first self.last }
+    {
+        let first = models::plain(self.first);
+        if self.id == 0 {
+            first
+        } else {
+            models::greater(first, models::plain(self.last))
+        }
+    }
+
+    // What it stores, where the residuals' least and greatest value are `low` and `high`.
+    #[tactic(auto, unfolding(crate::specs::Segment::form_of))]
+    fn form(self, low: u32, high: u32) -> Form
+        ensures { result ≡ form_of self.id self.first self.last low high }
+    {
+        if self.id == 0 {
+            parameters::form_for_pmc_mean(self.first, low, high)
+        } else {
+            parameters::form_for_swing(self.first, self.last, low, high)
+        }
     }
 }
 

@@ -19,8 +19,8 @@ use Rattle.segments.proofs.hand_out.Goals.{After-counted_length-residuals_length
 
 -- the lengths that the outputs are held against
 module _ (c : After-counted_length-residuals_length) where
-  values-long : c.length_of-values_length.result ≡ length (form_bytes (form_of c.args.model c.args.first_value c.args.last_value c.args.after.min_value c.args.after.max_value))
-  values-long = c.length_of-values_length.ensures ∙ rw c.form_of-form.ensures
+  values-long : c.length_of-values_length.result ≡ length (form_bytes (form_of c.args.m.id c.args.m.first c.args.m.last c.args.after.min_value c.args.after.max_value))
+  values-long = c.length_of-values_length.ensures ∙ rw c.form-form.ensures
 
   residuals-long : c.counted_length-residuals_length.result ≡ length (counted_bytes (take (whole_bytes c.args.after.place) c.args.stream.now) c.args.after.length)
   residuals-long =
@@ -53,4 +53,4 @@ pub returns : goal.returns
 unfolding stored_by handed_answer handed_values handed_residuals min_bits max_bits
 returns c =
     let room = rw (values-long (goal.at.returns c).After-counted_length-residuals_length, residuals-long (goal.at.returns c).After-counted_length-residuals_length) at c.if-values_out-values_length.false in
-    record { answer = ap answered (rw (c.greater.ensures, c.max_of.ensures, c.lesser.ensures, c.min_of.ensures, values-long (goal.at.returns c).After-counted_length-residuals_length, residuals-long (goal.at.returns c).After-counted_length-residuals_length)) ∙ accepted _ _ _ (room, tt); values = c.put.ensures ∙ rw c.form_of-form.ensures (accepted _ _ _ (room, tt)); bytes = c.put_counted.ensures ∙ accepted _ _ _ (room, tt) }
+    record { answer = ap answered (rw (c.greater.ensures, c.max_value.ensures, c.lesser.ensures, c.min_value.ensures, values-long (goal.at.returns c).After-counted_length-residuals_length, residuals-long (goal.at.returns c).After-counted_length-residuals_length)) ∙ accepted _ _ _ (room, tt); values = c.put.ensures ∙ rw c.form-form.ensures (accepted _ _ _ (room, tt)); bytes = c.put_counted.ensures ∙ accepted _ _ _ (room, tt) }

@@ -63,10 +63,10 @@ module _ (b : ErrorBound) (m : MacaqueV) (model first last_value : ℕ) (xs : Li
 
 -- what the fresh writer's answer says
 says : (c : After-new) → said_by c.new.result ≡ new_answer c.args.error_bound (On (last_of c.args.model c.args.first_value c.args.last_value))
-says c = c.new.ensures ∙ rw c.last_of-last.ensures
+says c = c.new.ensures ∙ rw c.last_value.ensures
 
 opens : (c : In_ok-writer) → new_answer c.args.error_bound (On (last_of c.args.model c.args.first_value c.args.last_value)) ≡ answered c.in_ok-writer.writer
-opens c = sym (c.new.ensures ∙ rw c.last_of-last.ensures) ∙ ap said_by c.in_ok-writer.was
+opens c = sym (c.new.ensures ∙ rw c.last_value.ensures) ∙ ap said_by c.in_ok-writer.was
 
 pub returns-in_err-writer : goal.returns-in_err-writer
 unfolding write_answer values_after residuals_after
