@@ -1,4 +1,3 @@
--- What the proofs of the C face of parameter bytes and segments share, and what it says of a residual stream that breaks off.
-pub mod Faces
+-- What the C face of parameter bytes and segments says of a residual stream that breaks off, and the order of its causes.
 pub mod Broken
 pub mod Causes

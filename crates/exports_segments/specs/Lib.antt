@@ -1,3 +1,2 @@
 -- How parameter bytes and segments cross the C face.
 pub mod Calls
-pub mod Inner

@@ -4,7 +4,7 @@
 
 ghost use Rattle.std.specs.Prelude.{◌≡◌, length};
 ghost use Rattle.models.specs.Answers.{verdict};
-ghost use Rattle.models.specs.Calls.{says_verdict};
+ghost use Rattle.models.specs.Calls.{said_by};
 ghost use Rattle.parameters.specs.Forms.{pmc_mean_form, swing_form, swing_from, pmc_mean_from};
 ghost use Rattle.segment_grid.specs.Segment.{by_average, over_times};
 ghost use Rattle.exports.specs.Face.{bound_of, fault_said, row_after, one_word};
@@ -13,7 +13,7 @@ ghost use Rattle.exports_segments.specs.Calls.{segment_causes, segment_fault, se
 ghost use Rattle.exports_segments.specs.Calls.{grid_fault, grid_out, sum_fault, sum_out};
 
 use macaque_v::MacaqueV;
-use models::{ErrorBound, Fault, GridAnswer, Refusal, Verdict};
+use models::{ErrorBound, Fault, Refusal};
 
 mod rows;
 
@@ -21,6 +21,7 @@ mod rows;
 
 // PMC-Mean's parameter bytes to the front of `out`, and how many they are into row[0]. The residuals'
 // least and greatest value are 7FC00000 where there are none.
+#[tactic(auto, unfolding(crate::specs::Calls::encode_fault, crate::specs::Calls::encode_out, crate::specs::Calls::encode_row, models::specs::Answers::judge))]
 pub fn modelardb_encode_values_for_pmc_mean(
     value: u32,
     residuals_min_value: u32,
@@ -45,6 +46,7 @@ pub fn modelardb_encode_values_for_pmc_mean(
 }
 
 // The same of Swing.
+#[tactic(auto, unfolding(crate::specs::Calls::encode_fault, crate::specs::Calls::encode_out, crate::specs::Calls::encode_row, models::specs::Answers::judge))]
 pub fn modelardb_encode_values_for_swing(
     first_value: u32,
     last_value: u32,
@@ -96,7 +98,7 @@ pub fn modelardb_decode_values_for_swing(
     ensures row { out.new ≡ row_after 2 ends_words out.old (swing_from min_value max_value values.now) }
 {
     let answer = parameters::decode_values_for_swing(min_value, max_value, values);
-    exports::put_ends(rows::ends_in(answer), out)
+    exports::put_ends(answer, out)
 }
 
 // ---- writing a segment
@@ -104,6 +106,7 @@ pub fn modelardb_decode_values_for_swing(
 // A segment's parameter bytes and residual bytes to the front of the two outputs; into the row its least
 // and its greatest value, and how many bytes each output took. Model 0 is PMC-Mean, whose last value is
 // not looked at, and 1 is Swing.
+#[tactic(auto, unfolding(crate::specs::Calls::segment_fault, crate::specs::Calls::segment_values_out, crate::specs::Calls::segment_residuals_out, crate::specs::Calls::segment_row, models::specs::Answers::judge))]
 pub fn modelardb_segment_write(
     model: u32,
     first_value: u32,
@@ -122,8 +125,8 @@ pub fn modelardb_segment_write(
 {
     let b = exports::bound_of(kind, bound);
     match judge_write(model, b, residuals, segment.len()) {
-        Verdict::Refused(r) => models::fault_of(r),
-        Verdict::Passed => {
+        Err(r) => Fault::from(r),
+        Ok(()) => {
             let answer = segments::write(
                 model,
                 first_value,
@@ -138,28 +141,33 @@ pub fn modelardb_segment_write(
     }
 }
 
-// What is judged before any of the three outputs is touched, the last cause first.
-fn judge_write(model: u32, error_bound: ErrorBound, residuals: &[u32], room: usize) -> Verdict
-    ensures { says_verdict result ≡ verdict (segment_causes model error_bound residuals.now room) }
+// What is judged before any of the three outputs is touched.
+#[tactic(auto, unfolding(models::specs::Answers::judge))]
+fn judge_write(
+    model: u32,
+    error_bound: ErrorBound,
+    residuals: &[u32],
+    room: usize,
+) -> Result<(), Refusal>
+    ensures { said_by result ≡ verdict (segment_causes model error_bound residuals.now room) }
 {
-    let over = (1 < model) | (MacaqueV::MOST_RESIDUALS < residuals.len());
-    let short = models::when(
-        Refusal::OutputTooShort,
-        room < rows::SEGMENT_WORDS,
-        Verdict::Passed,
-    );
-    let limit = models::when(Refusal::OverLimit, over, short);
-    models::when(
-        Refusal::BoundNotAllowed,
-        !models::bound_allowed(error_bound),
-        limit,
-    )
+    if !models::bound_allowed(error_bound) {
+        return Err(Refusal::BoundNotAllowed);
+    }
+    if 1 < model || MacaqueV::MOST_RESIDUALS < residuals.len() {
+        return Err(Refusal::OverLimit);
+    }
+    if room < rows::SEGMENT_WORDS {
+        return Err(Refusal::OutputTooShort);
+    }
+    Ok(())
 }
 
 // ---- reading a segment: its model, all its timestamps, its least and its greatest value, its parameter
 // bytes, and its residual bytes
 
 // All its values to the front of `out`.
+#[tactic(auto, unfolding(crate::specs::Calls::grid_fault, crate::specs::Calls::grid_out))]
 pub fn modelardb_segment_grid(
     model: u32,
     timestamps: &[i64],
@@ -175,12 +183,13 @@ pub fn modelardb_segment_grid(
     match segment_grid::grid(
         model, timestamps, min_value, max_value, values, residuals, out,
     ) {
-        GridAnswer::Refused(r) => models::fault_of(r),
-        GridAnswer::Drawn => exports::ACCEPTED,
+        Err(r) => Fault::from(r),
+        Ok(()) => exports::ACCEPTED,
     }
 }
 
 // The sum of all its values into out[0], the model's by the average of its ends.
+#[tactic(auto, unfolding(crate::specs::Calls::sum_fault, crate::specs::Calls::sum_out))]
 pub fn modelardb_segment_sum_by_average(
     model: u32,
     timestamps: &[i64],
@@ -200,6 +209,7 @@ pub fn modelardb_segment_sum_by_average(
 }
 
 // The sum of all its values into out[0], the model's over its timestamps.
+#[tactic(auto, unfolding(crate::specs::Calls::sum_fault, crate::specs::Calls::sum_out))]
 pub fn modelardb_segment_sum_over(
     model: u32,
     timestamps: &[i64],

@@ -1,2 +1,0 @@
--- What only inner functions and proofs speak of.
-pub mod Answers
