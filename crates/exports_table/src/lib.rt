@@ -95,6 +95,7 @@ pub fn modelardb_table_rescue(
 // ---- the reading calls
 
 // Whether the entries in use are those of the stream, `count` values in these bytes.
+#[tactic(auto, unfolding(crate::specs::Calls::table_check_fault))]
 pub fn modelardb_table_check(
     bytes: &[u8],
     count: usize,
@@ -111,6 +112,7 @@ pub fn modelardb_table_check(
 }
 
 // The values p to q - 1 of a stream of `count`, into the first places of `out`: read from the entry at or before p.
+#[tactic(auto, unfolding(crate::specs::Calls::table_range_fault, crate::specs::Calls::table_range_out))]
 pub fn modelardb_table_range(
     bytes: &[u8],
     count: usize,

@@ -77,10 +77,10 @@ returns-in-Err-reopen c =
     (sym (ap says_table_open c.in-Err-reopen.is) ∙ said (goal.at.returns-in-Err-reopen r).After-reopen) r.in-Ok.is in
     record { fault = c.from-in-Err-reopen.ensures ∙ t.0; row = t.1; bytes = left (goal.at.returns-in-Err-reopen r).After-reopen ∙ t.2; number = t.3 }
 
-pub returns-in-Ok : goal.returns-in-Ok
-returns-in-Ok c =
+pub returns-in-Ok-reopen : goal.returns-in-Ok-reopen
+returns-in-Ok-reopen c =
     let r = c in
     let a = r.args in
-    let t = reopen-passed a.buffer.now a.used a.count a.k a.mode a.opening a.kind a.bound a.state.now a.table.now a.entries.now _ (judged (goal.at.returns-in-Ok r).After-judge_reopen) _
-    (sym (ap says_table_open c.in-Ok.is) ∙ said (goal.at.returns-in-Ok r).After-reopen) r.in-Ok.is in
-    record { fault = c.put_opened.ensures.fault ∙ t.0; row = c.put_opened.ensures.row ∙ t.1; bytes = left (goal.at.returns-in-Ok r).After-reopen ∙ t.2; number = t.3 }
+    let t = reopen-passed a.buffer.now a.used a.count a.k a.mode a.opening a.kind a.bound a.state.now a.table.now a.entries.now _ (judged (goal.at.returns-in-Ok-reopen r).After-judge_reopen) _
+    (sym (ap says_table_open c.in-Ok-reopen.is) ∙ said (goal.at.returns-in-Ok-reopen r).After-reopen) r.in-Ok.is in
+    record { fault = c.put_opened.ensures.fault ∙ t.0; row = c.put_opened.ensures.row ∙ t.1; bytes = left (goal.at.returns-in-Ok-reopen r).After-reopen ∙ t.2; number = t.3 }

@@ -85,10 +85,10 @@ returns-in-Err-rescue c =
     (sym (ap says_table_open c.in-Err-rescue.is) ∙ said (goal.at.returns-in-Err-rescue r).After-rescue) c.in-Ok.is in
     record { fault = c.from-in-Err-rescue.ensures ∙ t.0; row = t.1; bytes = left (goal.at.returns-in-Err-rescue r).After-rescue ∙ t.2; words = noted (goal.at.returns-in-Err-rescue r).After-rescue ∙ t.3; number = t.4 }
 
-pub returns-in-Ok : goal.returns-in-Ok
-returns-in-Ok c =
+pub returns-in-Ok-rescue : goal.returns-in-Ok-rescue
+returns-in-Ok-rescue c =
     let r = c in
     let a = r.args in
-    let t = rescue-passed a.buffer.now a.used a.limit a.mode a.opening a.kind a.bound a.state.now a.table.now a.entries.now _ (judged (goal.at.returns-in-Ok r).After-judge_rescue) _
-    (sym (ap says_table_open c.in-Ok.is) ∙ said (goal.at.returns-in-Ok r).After-rescue) c.in-Ok.is in
-    record { fault = c.put_opened.ensures.fault ∙ t.0; row = c.put_opened.ensures.row ∙ t.1; bytes = left (goal.at.returns-in-Ok r).After-rescue ∙ t.2; words = noted (goal.at.returns-in-Ok r).After-rescue ∙ t.3; number = t.4 }
+    let t = rescue-passed a.buffer.now a.used a.limit a.mode a.opening a.kind a.bound a.state.now a.table.now a.entries.now _ (judged (goal.at.returns-in-Ok-rescue r).After-judge_rescue) _
+    (sym (ap says_table_open c.in-Ok-rescue.is) ∙ said (goal.at.returns-in-Ok-rescue r).After-rescue) c.in-Ok.is in
+    record { fault = c.put_opened.ensures.fault ∙ t.0; row = c.put_opened.ensures.row ∙ t.1; bytes = left (goal.at.returns-in-Ok-rescue r).After-rescue ∙ t.2; words = noted (goal.at.returns-in-Ok-rescue r).After-rescue ∙ t.3; number = t.4 }
