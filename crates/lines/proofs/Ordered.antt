@@ -59,6 +59,9 @@ pub end-in-time : (a b : Point) → in_time a b ≡ true → time_allowed b.time
 unfolding in_time
 end-in-time a b h = and_left (time_allowed b.time) _ (and_right (time_allowed a.time) _ h)
 
+-- what the check takes where a call asks for times within the limits
+pub ruleset ends_in_time = (start-in-time, end-in-time, and_left, and_right)
+
 -- ---- a run of stores
 
 pub drop-end : {A : Type 0} (l : List A) (i : ℕ) → i ≡ length l → drop i l ≡ []

@@ -95,3 +95,6 @@ pub two-times : (n : ℕ) (a t : ℤ) → 1 < n → lt_z a t ≡ true → time_a
 unfolding times_allowed
 two-times n a t some later first last =
     or_right (eqb n 0) _ (or_right (eqb n 1 && (same_time a t && time_allowed a)) _ (and_both _ _ (lt-ltb 1 n some) (and_both _ _ later (and_both _ _ first last))))
+
+-- ---- what the check takes where a call asks for times within the limits, or for room
+pub ruleset held = (length-limit, start-allowed, end-allowed, length-below, follows-allowed)

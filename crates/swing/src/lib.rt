@@ -40,22 +40,22 @@ impl Swing {
     // ---- the public calls
 
     // The state before any point.
+    #[tactic(auto, using(numbers::proofs::Nans::nan64, models::proofs::Laws::zero_read), unfolding(crate::specs::Calls::new_answer, crate::specs::State::fresh, models::specs::Answers::judge))]
     pub fn new(error_bound: ErrorBound) -> Result<Swing, Refusal>
         ensures { said_by result ≡ new_answer error_bound }
     {
         if !models::bound_allowed(error_bound) {
             return Err(Refusal::BoundNotAllowed);
         }
-        let nan = 0.0f64 / 0.0;
         Ok(Swing {
             error_bound,
             start_time: 0,
             end_time: 0,
-            first_value: nan,
-            upper_bound_slope: nan,
-            upper_bound_intercept: nan,
-            lower_bound_slope: nan,
-            lower_bound_intercept: nan,
+            first_value: f64::NAN,
+            upper_bound_slope: f64::NAN,
+            upper_bound_intercept: f64::NAN,
+            lower_bound_slope: f64::NAN,
+            lower_bound_intercept: f64::NAN,
             slope_with_minimum_mse_numerator: 0.0,
             slope_with_minimum_mse_denominator: 0.0,
             length: 0,
@@ -63,6 +63,7 @@ impl Swing {
     }
 
     // Tries to have the model stand for one more point.
+    #[tactic(auto, using(crate::proofs::Allowed::held), unfolding(crate::specs::Calls::fit_answer, models::specs::Answers::judge))]
     pub fn fit_data_point(
         self,
         timestamp: i64,
@@ -85,6 +86,7 @@ impl Swing {
     }
 
     // The bytes for each value: a segment's metadata is of m bytes, and the model needs one more.
+    #[tactic(auto, using(crate::proofs::Allowed::held), unfolding(crate::specs::Calls::cost_answer, models::specs::Answers::judge))]
     pub fn bytes_per_value(self, m: usize) -> Result<f32, Refused<Swing>>
         ensures { said_on result ≡ cost_answer self m }
     {
@@ -95,6 +97,7 @@ impl Swing {
     }
 
     // The model: the bits of the line's first and last value.
+    #[tactic(auto, using(crate::proofs::Allowed::held), unfolding(crate::specs::Calls::model_answer, models::specs::Answers::judge))]
     pub fn model(self) -> Result<(u32, u32), Refused<Swing>>
         ensures { says_model result ≡ model_answer self }
     {
@@ -123,6 +126,7 @@ impl Swing {
 // ---- a model's values: the line goes through (start_time, first_value) and (end_time, last_value)
 
 // The sum of `count` values, by the average of the line's ends.
+#[tactic(auto, using(lines::proofs::Ordered::ends_in_time), unfolding(crate::specs::Grid::average_answer, models::specs::Answers::judge))]
 pub fn sum_by_average(
     start_time: i64,
     end_time: i64,
@@ -139,6 +143,7 @@ pub fn sum_by_average(
 }
 
 // The sum of the line's values at the timestamps.
+#[tactic(auto, using(lines::proofs::Ordered::ends_in_time), unfolding(crate::specs::Grid::sum_answer, models::specs::Answers::judge))]
 pub fn sum_over(
     start_time: i64,
     end_time: i64,
@@ -156,6 +161,7 @@ pub fn sum_over(
 }
 
 // Writes the line's values at the timestamps to the front of `out`.
+#[tactic(auto, using(lines::proofs::Ordered::ends_in_time), unfolding(crate::specs::Grid::grid_memory, models::specs::Answers::judge))]
 pub fn grid(
     start_time: i64,
     end_time: i64,

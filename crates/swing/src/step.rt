@@ -17,6 +17,7 @@ impl Swing {
     // ---- what a state holds
 
     // Whether a call may use the state.
+    #[tactic(auto, unfolding(crate::specs::State::usable, crate::specs::State::times_allowed))]
     pub fn usable(self) -> bool
         ensures { result ≡ usable self }
     {
@@ -30,6 +31,7 @@ impl Swing {
     }
 
     // Whether the point's time keeps the limits and is after the state's last one.
+    #[tactic(auto, unfolding(crate::specs::State::time_follows))]
     pub fn follows(self, p: Point) -> bool
         ensures { result ≡ time_follows self p.time }
     {
@@ -75,6 +77,7 @@ impl Swing {
     // ---- the step
 
     // The step, once nothing refuses it.
+    #[tactic(auto, using(crate::proofs::Allowed::held), unfolding(crate::specs::Step::tried))]
     pub fn tried(self, p: Point) -> Stepped<Swing>
         requires room { self.length < most_values }
         requires sound { usable self ≡ true }
@@ -130,6 +133,7 @@ impl Swing {
     }
 
     // One point more where the first value or this one is not finite: it fits if they are the same.
+    #[tactic(auto, unfolding(crate::specs::Step::flat))]
     fn flat(self, p: Point) -> Stepped<Swing>
         requires { self.length < most_values }
         ensures { result ≡ flat self p }
@@ -149,6 +153,7 @@ impl Swing {
     }
 
     // The second point, which sets both lines, d being the deviation that the bound allows.
+    #[tactic(auto, unfolding(crate::specs::Step::second))]
     fn second(self, p: Point, d: f64) -> Swing
         requires room { self.length < most_values }
         requires start { time_allowed self.start_time ≡ true }
@@ -162,6 +167,7 @@ impl Swing {
     }
 
     // A third or later point.
+    #[tactic(auto, unfolding(crate::specs::Step::later, crate::specs::Step::later_at))]
     fn later(self, p: Point, d: f64) -> Stepped<Swing>
         requires room { self.length < most_values }
         requires start { time_allowed self.start_time ≡ true }
@@ -181,6 +187,7 @@ impl Swing {
     }
 
     // A later point that fits: the lines are at `high` and `low` there.
+    #[tactic(auto, unfolding(crate::specs::Step::swung, crate::specs::Step::upper_swung, crate::specs::Step::lower_swung))]
     fn swung(self, p: Point, d: f64, high: f64, low: f64) -> Swing
         requires room { self.length < most_values }
         requires start { time_allowed self.start_time ≡ true }
@@ -209,6 +216,7 @@ impl Swing {
     // ---- the model
 
     // The line's value at the last time.
+    #[tactic(auto, unfolding(crate::specs::Model::last_value))]
     pub fn last_value(self) -> f64
         requires start { time_allowed self.start_time ≡ true }
         requires end { time_allowed self.end_time ≡ true }
