@@ -87,6 +87,7 @@ pub fn judge(left: &[u8], right: &[u8]) -> Result<Pair, RefusedFile>
 }
 
 // The next index of both: its line, or the last one.
+#[tactic(auto, unfolding(crate::specs::Calls::step_answer, crate::specs::Calls::step_memory, crate::specs::Calls::step_told, models::specs::Answers::judge))]
 pub fn step(left: &[u8], right: &[u8], at: Pair, line: &mut [u8; 80]) -> Result<StepLine, Refusal>
     ensures answer { said_by result ≡ step_answer left.now right.now at }
     ensures text { line.new ≡ step_memory left.now right.now at line.old }
@@ -98,6 +99,7 @@ pub fn step(left: &[u8], right: &[u8], at: Pair, line: &mut [u8; 80]) -> Result<
 }
 
 // The only line where a file is refused.
+#[tactic(auto, unfolding(crate::specs::Text::side_text))]
 pub fn refusal(side: Side, cause: Refusal, line: &mut [u8; 80]) -> usize
     ensures length { result ≡ length (side_text side (fault_of cause)) }
     ensures text { line.new ≡ laid (side_text side (fault_of cause)) line.old }
@@ -116,6 +118,7 @@ fn open_side(side: Side, file: &[u8]) -> Result<Half, RefusedFile>
 }
 
 // A file's stream before its first value.
+#[tactic(auto, unfolding(crate::specs::Calls::open_answer, crate::specs::File::file_values, models::specs::Answers::judge))]
 fn open_file(file: &[u8]) -> Result<Half, Refusal>
     ensures { said_by result ≡ open_answer file.now }
 {
@@ -151,6 +154,7 @@ fn opening_of(mode: u8, value: u32) -> Opening
 }
 
 // The stream is read whole, and nothing of it is kept.
+#[tactic(auto, unfolding(reader::specs::Run::last_answer, models::specs::Answers::judge))]
 fn open_stream(stream: &[u8], count: usize, opening: Opening) -> Result<Half, Refusal>
     requires { count ≤ most_values }
     ensures { said_by result ≡ begun_by count opening (values_in stream.now count opening) }
@@ -222,6 +226,7 @@ pub struct Turn {
     pub after: Half,
 }
 
+#[tactic(auto, unfolding(crate::specs::Calls::turn_of))]
 fn take_turn(stream: &[u8], half: Half) -> Result<Turn, Refusal>
     ensures { said_by result ≡ turn_of stream.now half }
 {
@@ -243,6 +248,7 @@ fn take_turn(stream: &[u8], half: Half) -> Result<Turn, Refusal>
 }
 
 // The line of what both have at the index.
+#[tactic(auto, unfolding(crate::specs::Calls::told_by))]
 fn told(at: Pair, a: Turn, b: Turn, line: &mut [u8; 80]) -> StepLine
     requires { at.found ≤ most_values }
     ensures answer { answered result ≡ step_said (answered (told_by at a b)) }

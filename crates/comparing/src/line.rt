@@ -36,6 +36,7 @@ fn entry(e: Option<u32>, end: u8, line: &mut [u8; 80], at: usize) -> usize
 }
 
 // The last line, by how many differences there are.
+#[tactic(auto, unfolding(crate::specs::Text::differ_text))]
 pub fn differ(found: usize, line: &mut [u8; 80]) -> usize
     ensures length { result ≡ length (differ_text found) }
     ensures text { line.new ≡ laid (differ_text found) line.old }

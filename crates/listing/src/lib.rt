@@ -52,6 +52,7 @@ pub struct RowLine {
 // ---- the public calls
 
 // Judges a whole input, four bytes of count, then the stream: how many rows there are.
+#[tactic(auto, unfolding(crate::specs::Calls::judge_answer, models::specs::Answers::judge))]
 pub fn judge(input: &[u8]) -> Result<usize, Refusal>
     ensures { said_by result ≡ judge_answer input.now }
 {
@@ -99,6 +100,7 @@ pub fn row(stream: &[u8], at: Cursor, line: &mut [u8; 80]) -> Result<RowLine, Re
 }
 
 // The last line, by the bits of all rows.
+#[tactic(auto, unfolding(crate::specs::Text::total_text))]
 pub fn total(bits: usize, line: &mut [u8; 80]) -> usize
     ensures length { result ≡ length (total_text bits) }
     ensures text { line.new ≡ laid (total_text bits) line.old }
@@ -136,6 +138,7 @@ fn judge_stream(stream: &[u8], count: usize) -> Result<usize, Refusal>
 // ---- one row
 
 // Whether reading may stand there, in a stream of so many bytes.
+#[tactic(auto, unfolding(crate::specs::Calls::may_stand))]
 fn may_stand(room: usize, at: Cursor) -> bool
     ensures { result ≡ may_stand room at }
 {

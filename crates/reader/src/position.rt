@@ -52,6 +52,7 @@ pub fn step_from(stream: &[u8], from: Position) -> Moved
 }
 
 // Where reading stands behind the next value.
+#[tactic(auto, using(crate::proofs::Allowed::readable), unfolding(crate::specs::Calls::next_answer, crate::specs::Calls::next_read, models::specs::Answers::judge))]
 fn behind_next(stream: &[u8], from: Position) -> Result<Cursor, Refusal>
     ensures { handed from (said_by result) ≡ next_answer stream.now from }
 {
@@ -60,6 +61,7 @@ fn behind_next(stream: &[u8], from: Position) -> Result<Cursor, Refusal>
 }
 
 // Whether the stream ends there.
+#[tactic(auto, using(crate::proofs::Allowed::readable), unfolding(crate::specs::Calls::end_answer, models::specs::Answers::judge))]
 pub fn end_from(stream: &[u8], from: Position) -> Result<(), Refusal>
     ensures { said_by result ≡ end_answer stream.now from }
 {
