@@ -10,11 +10,10 @@ use borrow.Author.Tests.{not-false}
 use lib.ListN.{length, take}
 use Rattle.bits.specs.Bits.{whole_bytes}
 use Rattle.bits.proofs.InBytes.{length-laid_in}
-use Rattle.models.specs.Answers.{answered, refused, answered_on, verdict, NoneHolds}
-use Rattle.models.specs.declared.Fault.{Fault}
+use Rattle.models.specs.Answers.{answered, answered_on, NoneHolds}
 use Rattle.models.specs.Bound.{bound_allowed}
 use Rattle.models.specs.declared.ErrorBound.{ErrorBound}
-use Rattle.models.proofs.Judged.{told, turned, same-answer-on}
+use Rattle.models.proofs.Judged.{told, same-answer-on}
 use Rattle.stream.specs.Write.{kept}
 use Rattle.stream.proofs.Calls.{wrote_on}
 use Rattle.stream.proofs.Writing.{count-after, length-kept}
@@ -42,10 +41,6 @@ module _ (b : ErrorBound) (last : ℕ) where
 
   pub opened-allowed : (m : MacaqueV) → new_answer b (On last) ≡ answered m → bound_allowed b ≡ true
   opened-allowed m h = not-false (bound_allowed b) (new_told m h).0.0
-
-  pub unopened : (f : Fault) → new_answer b (On last) ≡ refused f → verdict (bound_causes b) ≡ refused f
-  unfolding new_answer
-  unopened f h = turned (bound_causes b) (writer_of b false (opened (On last))) f (sym h)
 
 -- an accepted write leaves a buffer as long as it was
 length-written : (m : MacaqueV) (xs buf : List ℕ) (n : MacaqueV) → write_answer m xs buf ≡ answered_on n → length (write_memory m xs buf) ≡ length buf

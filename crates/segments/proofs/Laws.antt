@@ -10,9 +10,9 @@ use Rattle.segments.specs.Segment.{counted_bytes}
 use Rattle.segments.specs.Inner.Aside.{counted_length}
 
 -- the bytes in use, with their count
-pub length-counted : (bytes : List ℕ) (used count : ℕ) → used ≤ length bytes → length (counted_bytes (take used bytes) count) ≡ counted_length used count
+pub length_counted : (bytes : List ℕ) (used count : ℕ) → used ≤ length bytes → length (counted_bytes (take used bytes) count) ≡ counted_length used count
 unfolding counted_bytes
-length-counted bytes used count h = go (eqb count 0) refl
+length_counted bytes used count h = go (eqb count 0) refl
   where
     go : (t : Bool) → eqb count 0 ≡ t → length (counted_bytes (take used bytes) count) ≡ counted_length used count
     go true e = rw e

@@ -25,6 +25,7 @@ pub struct Segment {
 // Writes a segment's parameter bytes and residual bytes. Model 0 is PMC-Mean, whose last value is not
 // looked at, and 1 is Swing. The residuals' stream is made aside, so that both outputs are judged
 // before either is touched.
+#[tactic(auto, unfolding(crate::specs::Calls::write_answer, crate::specs::Calls::values_after, crate::specs::Calls::residuals_after, macaque_v::specs::Calls::new_answer, models::specs::Answers::judge))]
 pub fn write(
     model: u32,
     first_value: u32,
@@ -44,7 +45,7 @@ pub fn write(
         last: last_value,
     };
     let writer = MacaqueV::new(error_bound, Opening::On(m.last_value()))?;
-    if (1 < model) | (MacaqueV::MOST_RESIDUALS < residuals.len()) {
+    if 1 < model || MacaqueV::MOST_RESIDUALS < residuals.len() {
         return Err(Refusal::OverLimit);
     }
     let mut stream = [0u8; 1403];
@@ -55,6 +56,7 @@ pub fn write(
 }
 
 // The parameter bytes, and the bytes in use of a stream with their count, to the front of the outputs.
+#[tactic(auto, using(crate::proofs::Laws::length_counted), unfolding(crate::specs::Inner::Aside::stored_by, crate::specs::Calls::handed_answer, crate::specs::Calls::handed_values, crate::specs::Calls::handed_residuals, models::specs::Answers::judge, models::specs::Floats::min_bits, models::specs::Floats::max_bits))]
 fn hand_out(
     m: Model,
     after: MacaqueV,
@@ -74,7 +76,7 @@ fn hand_out(
     let used = (after.place + 7) / 8;
     let values_length = parameters::length_of(form);
     let residuals_length = counted_length(used, count);
-    if (values_out.len() < values_length) | (residuals_out.len() < residuals_length) {
+    if values_out.len() < values_length || residuals_out.len() < residuals_length {
         return Err(Refusal::OutputTooShort);
     }
     parameters::put(form, values_out);

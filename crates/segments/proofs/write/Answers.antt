@@ -4,17 +4,14 @@ use mathlib.Core.Bool.{false, ◌||◌}
 use mathlib.Core.List.{List}
 use Prim.Native.Nat.{ℕ, ◌*◌, ◌^◌, ◌≤◌, ◌<◌}
 use native.Mathlib.Omega.{arith}
-use borrow.Author.Tests.{ltb-false}
+use borrow.Author.Tests.{ltb-false, le-ltb}
 use lib.Dec.{ltb}
 use lib.ListN.{length, replicate, length-replicate}
-use Rattle.std.proofs.lemmas.Result.{err_from_is_err_and}
-use Rattle.models.specs.Answers.{refused, verdict, judge, answered, answered_on, NoneHolds}
+use Rattle.models.specs.Answers.{answered, answered_on, NoneHolds}
 use Rattle.models.specs.Calls.{said_by, said_on}
-use Rattle.models.specs.Refusals.{fault_of}
-use Rattle.models.specs.Causes.{bound_causes}
 use Rattle.models.specs.declared.ErrorBound.{ErrorBound}
 use Rattle.models.proofs.Tests.{neither, not-of}
-use Rattle.models.proofs.Judged.{accepted as allowed, not-answered-on, refused-first, turned-back}
+use Rattle.models.proofs.Judged.{accepted as allowed, not-answered-on}
 use Rattle.parameters.proofs.ReadBack.{plain-small}
 use Rattle.macaque_v.specs.State.{writer_of}
 use Rattle.macaque_v.specs.Calls as stream
@@ -24,7 +21,7 @@ use Rattle.macaque_v.specs.declared.Opening.TheVariants.{On}
 use Rattle.segments.specs.Segment.{most_residuals, last_of, last_given, residuals_on}
 use Rattle.segments.specs.Calls.{Stored, stored_of, handed_answer, handed_values, handed_residuals, write_causes, write_answer, values_after, residuals_after}
 use Rattle.segments.specs.Inner.Aside.{stored_by}
-use Rattle.segments.proofs.Aside.{opened-allowed, unopened, written-aside, aside-count, aside-long, aside-place, aside-stored}
+use Rattle.segments.proofs.Aside.{opened-allowed, written-aside, aside-count, aside-long, aside-place, aside-stored}
 use Rattle.segments.proofs.write.Goals as goal
 use Rattle.segments.proofs.write.Goals.{After-new, In_ok-writer}
 
@@ -62,47 +59,34 @@ module _ (b : ErrorBound) (m : MacaqueV) (model first last_value : ℕ) (xs : Li
     same-stored = aside-stored b last small xs few m opened aside room n wrote model first last_value refl
 
 -- what the fresh writer's answer says
-says : (c : After-new) → said_by c.new.result ≡ new_answer c.args.error_bound (On (last_of c.args.model c.args.first_value c.args.last_value))
-says c = c.new.ensures ∙ rw c.last_value.ensures
-
 opens : (c : In_ok-writer) → new_answer c.args.error_bound (On (last_of c.args.model c.args.first_value c.args.last_value)) ≡ answered c.in_ok-writer.writer
 opens c = sym (c.new.ensures ∙ rw c.last_value.ensures) ∙ ap said_by c.in_ok-writer.was
 
-pub returns-in_err-writer : goal.returns-in_err-writer
-unfolding write_answer values_after residuals_after
-returns-in_err-writer c =
-    let a = c.args in
-    let first : verdict (write_causes a.model a.error_bound a.residuals.now) ≡ refused (fault_of c.in_err-writer.field-0.0) =
-    refused-first (bound_causes a.error_bound) _ _ (unopened _ _ _ (sym (says (goal.at.returns-in_err-writer c).After-new) ∙ ap said_by c.in_err-writer.was)) in
-    let p = err_from_is_err_and c.from_residual.result c.from_residual.ensures.1 in
-    record { answer = rw (p.1, p.2) (turned-back _ _ _ _ first); values = turned-back _ _ _ _ first; bytes = turned-back _ _ _ _ first }
-
-pub returns-then-model-residuals : goal.returns-then-model-residuals
-unfolding write_answer values_after residuals_after judge
-returns-then-model-residuals c =
-    rw (opened-allowed _ _ _ (opens (goal.at.returns-then-model-residuals c).In_ok-writer), c.if-model-residuals.true) record { answer = refl; values = refl; bytes = refl }
+-- no cause of limits holds
+within : (model : ℕ) (xs : List ℕ) → model ≤ 1 → length xs ≤ most_residuals → (ltb 1 model || ltb most_residuals (length xs)) ≡ false
+within model xs h few = rw (le-ltb 1 model h, le-ltb most_residuals (length xs) few)
 
 pub hand_out-requires : goal.hand_out-requires
 hand_out-requires c =
     let a = c.args in
     let opened = opens (goal.at.hand_out-requires c).In_ok-writer in
     let m = c.in_ok-writer.writer in
-    let within = c.if-model-residuals.false in
+    let free = within a.model a.residuals.now (omega arith) (omega arith) in
     let room : 1403 ≤ length aside = rw length-replicate (omega arith) in
     let n = c.in-Ok.after in
     let wrote : stream.write_answer m a.residuals.now aside ≡ answered_on n = sym c.compress_values.ensures.answer ∙ ap said_on c.in-Ok.is in
     rw c.compress_values.ensures.bytes
     record {
-      in_stream = placed a.error_bound m a.model a.first_value a.last_value a.residuals.now opened within room n wrote;
-      few = omega (arith, counted a.error_bound m a.model a.first_value a.last_value a.residuals.now opened within room n wrote, few a.error_bound m a.model a.first_value a.last_value a.residuals.now opened within room);
-      short = omega (arith, long a.error_bound m a.model a.first_value a.last_value a.residuals.now opened within room n wrote);
+      in_stream = placed a.error_bound m a.model a.first_value a.last_value a.residuals.now opened free room n wrote;
+      few = omega (arith, counted a.error_bound m a.model a.first_value a.last_value a.residuals.now opened free room n wrote, few a.error_bound m a.model a.first_value a.last_value a.residuals.now opened free room);
+      short = omega (arith, long a.error_bound m a.model a.first_value a.last_value a.residuals.now opened free room n wrote);
     }
 
 pub returns-in-Err : goal.returns-in-Err
 returns-in-Err c =
     let a = c.args in
     let room : 1403 ≤ length aside = rw length-replicate (omega arith) in
-    absurd (not-answered-on (sym (ap said_on c.in-Err.is) ∙ c.compress_values.ensures.answer ∙ accepted a.error_bound c.in_ok-writer.writer a.model a.first_value a.last_value a.residuals.now (opens (goal.at.returns-in-Err c).In_ok-writer) c.if-model-residuals.false room))
+    absurd (not-answered-on (sym (ap said_on c.in-Err.is) ∙ c.compress_values.ensures.answer ∙ accepted a.error_bound c.in_ok-writer.writer a.model a.first_value a.last_value a.residuals.now (opens (goal.at.returns-in-Err c).In_ok-writer) (within a.model a.residuals.now (omega arith) (omega arith)) room))
 
 pub returns-in-Ok : goal.returns-in-Ok
 unfolding write_answer values_after residuals_after
@@ -112,14 +96,14 @@ returns-in-Ok c =
     let r = a.residuals_out.now in
     let opened = opens (goal.at.returns-in-Ok c).In_ok-writer in
     let m = c.in_ok-writer.writer in
-    let within = c.if-model-residuals.false in
+    let free = within a.model a.residuals.now (omega arith) (omega arith) in
     let room : 1403 ≤ length aside = rw length-replicate (omega arith) in
     let n = c.in-Ok.after in
     let wrote : stream.write_answer m a.residuals.now aside ≡ answered_on n = sym c.compress_values.ensures.answer ∙ ap said_on c.in-Ok.is in
-    let free : NoneHolds (write_causes a.model a.error_bound a.residuals.now) = (not-of (opened-allowed _ _ _ opened), (within, tt)) in
-    let same = ap (stored_by a.model a.first_value a.last_value n) c.compress_values.ensures.bytes ∙ same-stored a.error_bound m a.model a.first_value a.last_value a.residuals.now opened within room n wrote in
+    let none : NoneHolds (write_causes a.model a.error_bound a.residuals.now) = (not-of (opened-allowed _ _ _ opened), (free, tt)) in
+    let same = ap (stored_by a.model a.first_value a.last_value n) c.compress_values.ensures.bytes ∙ same-stored a.error_bound m a.model a.first_value a.last_value a.residuals.now opened free room n wrote in
     record {
-      answer = c.hand_out.ensures.answer ∙ ap (λ (w : Stored). handed_answer w v r) same ∙ allowed _ _ _ free;
-      values = c.hand_out.ensures.values ∙ ap (λ (w : Stored). handed_values w v r) same ∙ allowed _ _ _ free;
-      bytes = c.hand_out.ensures.bytes ∙ ap (λ (w : Stored). handed_residuals w v r) same ∙ allowed _ _ _ free;
+      answer = c.hand_out.ensures.answer ∙ ap (λ (w : Stored). handed_answer w v r) same ∙ allowed _ _ _ none;
+      values = c.hand_out.ensures.values ∙ ap (λ (w : Stored). handed_values w v r) same ∙ allowed _ _ _ none;
+      bytes = c.hand_out.ensures.bytes ∙ ap (λ (w : Stored). handed_residuals w v r) same ∙ allowed _ _ _ none;
     }
