@@ -1,12 +1,12 @@
 -- What the calls on a reader's row answer and leave, case by case; and a row is read back as the reader that it was made of. Assumes nothing.
 use mathlib.Core.Path.{◌≡◌, refl, sym, ap, ap₂, ◌∙◌}
-use mathlib.Core.Bool.{Bool, true, false, cond, not}
+use mathlib.Core.Bool.{Bool, true, false, cond}
 use mathlib.Core.List.{List, ◌∷◌, ◌++◌}
 use Prim.Native.Nat.{ℕ, ◌*◌, ◌%◌, ◌^◌, ◌≤◌, ◌<◌}
 use native.Mathlib.Omega.{arith}
-use borrow.Author.Tests.{le-leb, lt-leb, leb-true, leb-false, lt-ltb, le-ltb}
+use borrow.Author.Tests.{le-leb, lt-leb, leb-true, lt-ltb}
 use Rattle.std.specs.Prelude.{Ok}
-use lib.Dec.{eqb, leb, ltb}
+use lib.Dec.{eqb, leb}
 use lib.ListN.{length, drop, get_or}
 use Rattle.models.specs.Answers.{fault, no_fault, answered, refused, SaidOn, answered_on, refused_on, stateless, judge}
 use Rattle.models.specs.declared.Fault.{Fault}
@@ -19,30 +19,11 @@ use Rattle.exports.specs.Words.{small}
 use Rattle.exports.proofs.Back.{flag_small, flag-back}
 use Rattle.exports.proofs.Small.{low-is}
 use Rattle.exports.specs.Inner.Put.{front_after}
-use Rattle.exports.proofs.Rows.{Faced, put, same, refused-row, short_row, full-row}
-use Rattle.exports_stream.specs.Calls.{opening_of}
-use Rattle.reader.specs.Calls.{opened_at, may_use, Taken, next_answer, end_answer}
+use Rattle.exports.proofs.Rows.{Faced, put, same, refused-row, full-row}
+use Rattle.reader.specs.Calls.{may_use, Taken, next_answer, end_answer}
 use Rattle.reader.specs.declared.position.Position.{Position}
 use Rattle.exports_reader.specs.Row.{reader_length, reader_row, stands_for_reader, spoiled_position, read_position, position_in}
-use Rattle.exports_reader.specs.Calls.{open_fault, open_row, one_value, moved_row, next_row}
-
--- ---- open
-pub open_said : (mode opening : ℕ) (row : List ℕ) → mode ≤ 1 → {told : Fault} {after : List ℕ} → Faced reader_row reader_length row (answered (opened_at (opening_of mode opening))) told after
-    → (told ≡ open_fault mode row) × (after ≡ open_row mode opening row)
-unfolding open_fault open_row judge fault_said row_after
-open_said mode opening row one f =
-    let e : ltb 1 mode ≡ false = le-ltb 1 mode one in
-    let g = held (leb reader_length (length row)) refl in
-    (f.0 ∙ turned no_fault (fault 4) (leb reader_length (length row)) ∙ sym (rw (e, g)), f.1 ∙ turned (row_in reader_row row (answered (opened_at (opening_of mode opening)))) row (leb reader_length (length row)) ∙ sym (rw (e, g)))
-  where
-    turned : {A : Type 0} (x y : A) (b : Bool) → cond b x y ≡ cond (not b) y x
-    turned x y true = refl
-    turned x y false = refl
-
-    -- a row is too short exactly if it does not hold the words
-    held : (b : Bool) → leb reader_length (length row) ≡ b → ltb (length row) reader_length ≡ not b
-    held true h = le-ltb (length row) reader_length (leb-true reader_length (length row) h)
-    held false h = lt-ltb (length row) reader_length (leb-false reader_length (length row) h)
+use Rattle.exports_reader.specs.Calls.{one_value, moved_row, next_row}
 
 -- ---- the words of a reader that were put into a row
 pub put-reader : (row : List ℕ) (p : Position) (ws : List ℕ) → ws ≡ reader_row p → {told : Fault} {after : List ℕ} → told ≡ fault_said (length ws) (length row) (answered ws) → after ≡ front_after ws row
@@ -62,12 +43,6 @@ module _ (row out : List ℕ) (said : SaidOn Position Taken) where
   next-refused f p e =
       let a = refused-row one_value 1 out (stateless said) f (ap stateless e) refl in
       (a.0, sym (ap (λ (q : SaidOn Position Taken). cond (leb 1 (length out)) (step_row moved_row row q) row) e ∙ same (leb 1 (length out)) row), a.1)
-
-  pub next-no-room : (t : Taken) → said ≡ answered_on t → length out < 1 → Nexted (fault 4) row out
-  unfolding next_row
-  next-no-room t e g =
-      let a = short_row one_value 1 out (stateless said) t (ap stateless e) g in
-      (a.0, sym (rw (lt-leb 1 (length out) g)), a.1)
 
   pub next-answered : (t : Taken) → said ≡ answered_on t → 1 ≤ length out → Nexted no_fault (row_in reader_row row (answered t.after)) (t.value ∷ drop 1 out)
   unfolding next_row
@@ -113,10 +88,6 @@ module _ (row : List ℕ) where
     pub a-reader : read_position row ≡ position_in row
     unfolding position_in
     a-reader = sym (rw e)
-
-pub reader-long : (p : Position) → length (reader_row p) ≡ reader_length
-unfolding reader_row
-reader-long p = refl
 
 -- ---- a row that stands for no reader is refused with 2
 

@@ -18,6 +18,7 @@ mod row;
 
 // A reader before the first value of a stream into the row: mode 0 for a stream that stores its first
 // value in full, mode 1 for one that opens on the value `opening`.
+#[tactic(auto, unfolding(crate::specs::Calls::open_fault, crate::specs::Calls::open_row, models::specs::Answers::judge, exports::specs::Face::fault_said, exports::specs::Inner::Put::front_after, crate::specs::Row::reader_row))]
 pub fn modelardb_reader_open(mode: u32, opening: u32, reader: &mut [u64]) -> Fault
     ensures fault { result ≡ open_fault mode reader.old }
     ensures row { reader.new ≡ open_row mode opening reader.old }
@@ -31,6 +32,7 @@ pub fn modelardb_reader_open(mode: u32, opening: u32, reader: &mut [u64]) -> Fau
 
 // The next value into out[0]; the row becomes the reader behind it. A row that is too short stands for no
 // reader, as one with wrong words does: it is refused with 2.
+#[tactic(auto, unfolding(crate::specs::Calls::next_row, exports::specs::Face::fault_said, exports::specs::Face::row_after, exports::specs::Inner::Put::front_after, crate::specs::Row::reader_row))]
 pub fn modelardb_reader_next(bytes: &[u8], reader: &mut [u64], out: &mut [u32]) -> Fault
     ensures fault { result ≡ ask_fault 1 (length out.old) (next_answer bytes.now (position_in reader.old)) }
     ensures row { reader.new ≡ next_row reader.old out.old (next_answer bytes.now (position_in reader.old)) }
