@@ -21,10 +21,6 @@ use Rattle.exports.proofs.Small.{low-is}
 use Rattle.exports.proofs.Back.{is-small, bound-back, bound-front, flag_small, flag-back}
 use Rattle.exports_stream.specs.Row.{writer_length, writer_row, sum_word, sum_after, written_row, stands_for_state, spoiled_writer, read_writer, writer_in}
 
-pub writer-long : (m : MacaqueV) → length (writer_row m) ≡ writer_length
-unfolding writer_row
-writer-long m = refl
-
 pub written-long : (row : List ℕ) (m : MacaqueV) → length (written_row row m) ≡ writer_length
 unfolding written_row
 written-long row m = refl

@@ -5,7 +5,7 @@
 #![tactic(auto)]
 
 ghost use Rattle.std.specs.Prelude.{◌≡◌, ◌≤◌, length};
-ghost use Rattle.models.specs.Answers.{verdict};
+ghost use Rattle.models.specs.Answers.{answered, no_fault, verdict};
 ghost use Rattle.models.specs.Calls.{said_by};
 ghost use Rattle.macaque_v.specs.Calls.{write_answer, write_memory};
 ghost use Rattle.exports.specs.Face.{plain_fault, row_in, step_fault, step_row};
@@ -27,6 +27,7 @@ pub mod row;
 
 // A writer before any value into the row: mode 0 stores the first value in full, mode 1 opens on the
 // value `opening`.
+#[tactic(auto, unfolding(models::specs::Answers::judge, crate::specs::Calls::new_fault, crate::specs::Calls::new_row))]
 pub fn modelardb_macaque_v_new(
     kind: u32,
     bound: u32,
@@ -58,7 +59,7 @@ pub fn modelardb_macaque_v_compress_values(
 {
     match row::writer_of(state).compress_values(values, buffer) {
         Err(Refused { cause, .. }) => Fault::from(cause),
-        Ok(after) => exports::put_words(&row::written_words(state, after), state),
+        Ok(after) => put_written(after, state),
     }
 }
 
@@ -82,13 +83,14 @@ pub fn modelardb_table_compress_values(
         Err(Refused { cause, .. }) => Fault::from(cause),
         Ok((after, n)) => {
             *entries = n;
-            exports::put_words(&row::written_words(state, after), state)
+            put_written(after, state)
         }
     }
 }
 
 // The writer behind the first k of the `count` values in the buffer's first `used` bytes into the row; the
 // bits behind them in the byte that they end in are zeroed.
+#[tactic(auto, unfolding(models::specs::Answers::judge, crate::specs::Calls::reopen_fault, crate::specs::Calls::reopen_row, crate::specs::Calls::reopen_buffer))]
 pub fn modelardb_macaque_v_reopen(
     buffer: &mut [u8],
     used: usize,
@@ -117,6 +119,7 @@ pub fn modelardb_macaque_v_reopen(
 
 // The writer behind the values that arrived whole in the buffer's first `used` bytes, `limit` at most, into the row, whose length says
 // how many they are; the bits behind them in the byte that they end in are zeroed.
+#[tactic(auto, unfolding(models::specs::Answers::judge, crate::specs::Rescue::rescue_fault, crate::specs::Rescue::rescue_row, crate::specs::Rescue::rescue_buffer))]
 pub fn modelardb_macaque_v_rescue(
     buffer: &mut [u8],
     used: usize,
@@ -140,6 +143,16 @@ pub fn modelardb_macaque_v_rescue(
             put_opened(writer, state)
         }
     }
+}
+
+// The words of the state after a write to the front of the row that holds it.
+#[tactic(auto, unfolding(exports::specs::Face::fault_said, exports::specs::Inner::Put::front_after, crate::specs::Row::written_row))]
+fn put_written(after: MacaqueV, state: &mut [u64]) -> Fault
+    requires { writer_length ≤ length state.old }
+    ensures fault { result ≡ no_fault }
+    ensures row { state.new ≡ row_in (written_row state.old) state.old (answered after) }
+{
+    exports::put_words(&row::written_words(state, after), state)
 }
 
 // ---- the reading calls

@@ -112,6 +112,7 @@ fn read_writer(error_bound: ErrorBound, row: &[u64]) -> MacaqueV
 }
 
 // The state that a row stands for.
+#[tactic(auto, using(crate::proofs::Words::has_words), unfolding(crate::specs::Row::writer_in))]
 pub fn writer_of(row: &[u64]) -> MacaqueV
     ensures { result ≡ writer_in row.now }
 {

@@ -1,5 +1,4 @@
 -- What the proofs of the place table's C face share, and what its rows promise.
-pub mod Faces
 pub mod Told
 pub mod Promises
 pub mod Sums

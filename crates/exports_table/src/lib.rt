@@ -19,6 +19,7 @@ use models::{ErrorBound, Fault, Refusal};
 
 // The writer behind the first k of the `count` values in the buffer's first `used` bytes into the row, and how many
 // entries of their table are of these into `entries`. The table's words are neither read nor changed.
+#[tactic(auto, unfolding(models::specs::Answers::judge, crate::specs::Calls::table_reopen_fault, crate::specs::Calls::table_reopen_row, crate::specs::Calls::table_reopen_buffer, crate::specs::Calls::table_reopen_entries))]
 pub fn modelardb_table_reopen(
     buffer: &mut [u8],
     used: usize,
@@ -57,6 +58,7 @@ pub fn modelardb_table_reopen(
 
 // The writer behind the values that arrived whole in the buffer's first `used` bytes, `limit` at most, into the row, and the table of them, made anew, into
 // the words; how many entries it has into `entries`. Neither the words nor the number that were there are looked at.
+#[tactic(auto, unfolding(models::specs::Answers::judge, crate::specs::Rescue::table_rescue_fault, crate::specs::Rescue::table_rescue_row, crate::specs::Rescue::table_rescue_buffer, crate::specs::Rescue::table_rescue_words, crate::specs::Rescue::table_rescue_entries))]
 pub fn modelardb_table_rescue(
     buffer: &mut [u8],
     used: usize,
