@@ -2,20 +2,20 @@
 use mathlib.Core.Path.{◌≡◌, refl, sym, ap, ap₂, ◌∙◌, subst}
 use mathlib.Core.Bool.{Bool, true, false, cond, true≢false}
 use mathlib.Core.List.{List, [], ◌∷◌, ◌++◌, append-nil}
-use Prim.Native.Nat.{ℕ, zero, suc, ◌+◌, ◌-◌, ◌*◌, ◌/◌, ◌%◌, ◌≤◌, ◌<◌}
+use Prim.Native.Nat.{ℕ, zero, suc, ◌+◌, ◌-◌, ◌/◌, ◌%◌, ◌≤◌, ◌<◌}
 use native.Mathlib.Numerals.{add-one}
 use native.Mathlib.Omega.{arith}
 use borrow.Author.Tests.{eqb-true, eqb-false}
 use lib.Dec.{eqb}
-use lib.ListN.{length, take, get_or, set}
+use lib.ListN.{length, take, get_or}
 use lib.Seq.{take-suc, take_all, length-take-le}
 use Rattle.stream.specs.Format.{State, raw_next}
 use Rattle.stream.specs.Write.{kept_from}
 use Rattle.places.specs.Table.{spacing, Entry, entry_of, noted, entries_for, entries}
-use Rattle.places.specs.Calls.{words_each, entries_lent, words_of, laid_entries}
+use Rattle.places.specs.Calls.{entries_lent, laid_entries}
 use Rattle.places.proofs.Entries.{noted_one, noted-none}
 use Rattle.places.proofs.Steps.{noted_more, added-count}
-use Rattle.places.proofs.Words.{laid_none, laid_more, laid-length, laid-stores}
+use Rattle.places.proofs.Words.{laid_none, laid_more, laid-length}
 use Rattle.macaque_v.specs.State.{Known, mode_of, state_of}
 use Rattle.macaque_v.specs.Write.{stream_by, rule_by}
 use Rattle.macaque_v.specs.Inner.Write.{entries_by, noted_where}
@@ -158,18 +158,3 @@ note-ahead i n to to' h l e = go (eqb i to) refl e
     go : (b : Bool) → eqb i to ≡ b → to' ≡ cond b ((i + spacing) - ((i + spacing) - n)) to → i < to'
     go true t e = omega (arith, e, h)
     go false t e = let apart : ¬ (i ≡ to) = eqb-false i to t in omega (arith, e, l, apart)
-
--- ---- an entry's four words, one after another
-
-pub stored : (words : List ℕ) (n : ℕ) (e : Entry) → words_each * n + words_each ≤ length words
-    → set (set (set (set words (words_each * n) e.place) (words_each * n + 1) e.last) (words_each * n + 2) e.win.lead) (words_each * n + 3) e.win.trail
-    ≡ laid_entries words n (e ∷ [])
-unfolding words_of
-stored words n e h =
-    let at : ℕ = words_each * n in
-    let one : at + 1 ≡ suc at = omega arith in
-    let two : at + 2 ≡ suc (suc at) = omega arith in
-    let three : at + 3 ≡ suc (suc (suc at)) = omega arith in
-    ap₂ (λ (i j : ℕ). set (set (set (set words at e.place) i e.last) j e.win.lead) (at + 3) e.win.trail) one two
-    ∙ ap (λ (i : ℕ). set (set (set (set words at e.place) (suc at) e.last) (suc (suc at)) e.win.lead) i e.win.trail) three
-    ∙ laid-stores words n (e ∷ []) (omega arith)

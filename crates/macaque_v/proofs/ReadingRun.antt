@@ -2,13 +2,13 @@
 use mathlib.Core.Path.{◌≡◌, refl, sym, ap, ap₂, ◌∙◌, subst}
 use mathlib.Core.Logic.{◌⊎◌, inl, inr}
 use mathlib.Core.Bool.{Bool}
-use mathlib.Core.List.{List, [], ◌∷◌, ◌++◌, append_assoc}
-use Prim.Native.Nat.{ℕ, suc, ◌+◌, ◌-◌, ◌*◌, ◌≤◌, ◌<◌}
+use mathlib.Core.List.{List, [], ◌∷◌, ◌++◌}
+use Prim.Native.Nat.{ℕ, ◌+◌, ◌-◌, ◌*◌, ◌≤◌, ◌<◌}
 use native.Mathlib.Nat.{min-le_left, min-le_right}
 use native.Mathlib.Numerals.{add-one}
 use native.Mathlib.Omega.{arith}
-use lib.ListN.{length, take, drop, get_or, set, length-append, length-take, length-drop, length-set}
-use lib.Seq.{take-suc, take-suc-set, drop-cons, drop-drop, set_at, append_snoc, length-take-le}
+use lib.ListN.{length, take, drop, set, length-append, length-take, length-drop, length-set}
+use lib.Seq.{take-suc-set, drop-drop}
 use Rattle.bits.specs.Bits.{bits_of}
 use Rattle.bits.proofs.Bytes.{length-bits_of}
 use Rattle.models.specs.Answers.{answered, refused}
@@ -163,21 +163,3 @@ module _ (first : Bool) (bytes : List ℕ) where
           fits = omega (arith, Q.fits);
           long = Q.long ∙ F.long;
         }
-
--- one value more is copied to the places from i on
-pub copied_more : (values old : List ℕ) (i j : ℕ) → j < length values → i + j < length old
-    → set (take i old ++ (take j values ++ drop (i + j) old)) (i + j) (get_or values j 0) ≡ take i old ++ (take (j + 1) values ++ drop (i + (j + 1)) old)
-copied_more values old i j h g =
-    let v : ℕ = get_or values j 0 in
-    let p : List ℕ = take i old ++ take j values in
-    let long : length p ≡ i + j = length-append (take i old) (take j values) ∙ ap₂ (λ (a b : ℕ). a + b) (length-take-le i old (omega arith)) (length-take-le j values (omega arith)) in
-    let next : suc (i + j) ≡ i + (j + 1) = omega arith in
-    let rest : List ℕ = drop (i + (j + 1)) old in
-    ap (λ (z : List ℕ). set z (i + j) v) (sym (append_assoc (take i old) (take j values) (drop (i + j) old)))
-    ∙ ap (λ (z : List ℕ). set (p ++ z) (i + j) v) (drop-cons old (i + j) 0 g)
-    ∙ set_at p (get_or old (i + j) 0) (drop (suc (i + j)) old) v (i + j) long
-    ∙ ap (λ (n : ℕ). p ++ (v ∷ drop n old)) next
-    ∙ append_assoc (take i old) (take j values) (v ∷ rest)
-    ∙ ap (λ (z : List ℕ). take i old ++ z)
-    (sym (append_snoc (take j values) v rest)
-    ∙ ap (λ (z : List ℕ). z ++ rest) (sym (take-suc values j 0 h) ∙ ap (λ (n : ℕ). take n values) (sym (add-one j))))

@@ -5,8 +5,8 @@ use mathlib.Core.List.{List, [], ◌∷◌, ◌++◌, append_assoc, append-nil}
 use Prim.Native.Nat.{ℕ, zero, suc, ◌+◌, ◌-◌, ◌*◌, ◌^◌, ◌≤◌, ◌<◌}
 use native.Mathlib.Omega.{arith}
 use lib.Bits.{bit_xor}
-use lib.ListN.{length, take, drop, get_or, set, replicate, length-append, length-drop, length-replicate, length-set, replicate-append-replicate, take-append-drop}
-use lib.Seq.{take_at, take-suc-set, drop-drop, drop-cons, set_at, length-take-le, take-append-add}
+use lib.ListN.{length, take, drop, set, replicate, length-append, length-drop, length-replicate, length-set, replicate-append-replicate, take-append-drop}
+use lib.Seq.{take_at, take-suc-set, drop-drop, length-take-le, take-append-add}
 use Rattle.bits.specs.Bits.{field, field_at, starts, bits_of}
 use Rattle.stream.specs.Format.{macaque, Window, Mode, with_first, without_first, raw_next, State, advance, window_in, unset, bare}
 use Rattle.stream.specs.Read.{Step, got, done, push, follow, read_word, read_body, read_one, read_n}
@@ -63,22 +63,6 @@ reads-repeats first bytes at s h k R =
     }
 
 -- ---- places
-
--- one place more
-pub spread-more : (old : List ℕ) (i j v : ℕ) → i + j < length old
-    → set (take i old ++ (replicate j v ++ drop (i + j) old)) (i + j) v ≡ take i old ++ (replicate (j + 1) v ++ drop (i + (j + 1)) old)
-spread-more old i j v h =
-    let p : List ℕ = take i old ++ replicate j v in
-    let long : length p ≡ i + j = length-append (take i old) (replicate j v) ∙ ap₂ (λ (a b : ℕ). a + b) (length-take-le i old (omega arith)) (length-replicate j v) in
-    let next : suc (i + j) ≡ i + (j + 1) = omega arith in
-    let rest : List ℕ = drop (i + (j + 1)) old in
-    ap (λ (z : List ℕ). set z (i + j) v) (sym (append_assoc (take i old) (replicate j v) (drop (i + j) old)))
-    ∙ ap (λ (z : List ℕ). set (p ++ z) (i + j) v) (drop-cons old (i + j) 0 h)
-    ∙ set_at p (get_or old (i + j) 0) (drop (suc (i + j)) old) v (i + j) long
-    ∙ ap (λ (n : ℕ). p ++ (v ∷ drop n old)) next
-    ∙ append_assoc (take i old) (replicate j v) (v ∷ rest)
-    ∙ ap (λ (z : List ℕ). take i old ++ z)
-    (sym (append_assoc (replicate j v) (v ∷ []) rest) ∙ ap (λ (z : List ℕ). z ++ rest) (replicate-append-replicate j 1 v))
 
 module _ (old : List ℕ) (i v : ℕ) (h : i + 28 ≤ length old) where
   abbrev spread_out : List ℕ

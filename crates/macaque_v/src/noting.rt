@@ -53,10 +53,7 @@ pub fn put_entry(table: &mut [u64], k: usize, place: usize, last: u64, lead: u32
     ensures { table.new ≡ laid_entries table.old k (entry_in place last lead trail ∷ []) }
 {
     let at = WORDS * k;
-    table[at] = place as u64;
-    table[at + 1] = last;
-    table[at + 2] = lead as u64;
-    table[at + 3] = trail as u64;
+    table[at..at + WORDS].copy_from_slice(&[place as u64, last, lead as u64, trail as u64]);
 }
 
 // The last value kept before the next one; before a raw one there is none, and 0 stands for it.

@@ -13,18 +13,13 @@ ghost use Rattle.macaque_v.specs.Read.{reopen_causes, reopen_answer, reopen_memo
 ghost use Rattle.macaque_v.specs.Inner.Read.{reopening, resumed, OpensAs, EndsIn, opened_behind, cut_behind};
 
 use crate::read_run::{Aim, Cursor, Tally};
-use crate::{MacaqueV, Opening, read_run};
+use crate::{MacaqueV, Opening, read_run, write};
 use models::{ErrorBound, Refusal};
 
 // ---- the public calls
 
 // Draws the values of a stream, `count` of them, into the first places of `out`.
-pub fn grid(
-    bytes: &[u8],
-    count: usize,
-    opening: Opening,
-    out: &mut [u32],
-) -> Result<(), Refusal>
+pub fn grid(bytes: &[u8], count: usize, opening: Opening, out: &mut [u32]) -> Result<(), Refusal>
     ensures answer { said_by result ≡ grid_answer bytes.now count opening (length out.old) }
     ensures values { out.new ≡ grid_memory bytes.now count opening out.old }
 {
@@ -47,8 +42,13 @@ pub fn sum(bytes: &[u8], count: usize, opening: Opening) -> Result<u32, Refusal>
     if MacaqueV::MOST_VALUES < count {
         return Err(Refusal::OverLimit);
     }
-    let (_, tally) =
-        read_run::go_to_end(bytes, is_first(opening), start(opening), count, Aim::Sum)?;
+    let (_, tally) = read_run::go_to_end(
+        bytes,
+        is_first(opening),
+        start(opening),
+        count,
+        Aim::Sum,
+    )?;
     Ok(numbers::bits_of_f32(tally.sum))
 }
 
@@ -122,12 +122,8 @@ pub fn is_first(opening: Opening) -> bool
 pub fn start(opening: Opening) -> Cursor
     ensures { (result ≡ start_of opening) × (result.last < 2 ^ 32) }
 {
-    let last = match opening {
-        Opening::First => 0,
-        Opening::On(value) => value,
-    };
     Cursor {
-        last,
+        last: write::first_last(opening),
         lead: MacaqueV::OPENING_LEADING,
         trail: MacaqueV::OPENING_TRAILING,
         place: 0,

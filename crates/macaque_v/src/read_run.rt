@@ -34,10 +34,7 @@ pub fn next(bytes: &[u8], first: bool, at: Cursor) -> Result<Cursor, Refusal>
     requires { ReadableAt bytes.now at × (at.count < most_values) }
     ensures { NextSays first bytes.now at result }
 {
-    match one_more(bytes, first, at) {
-        Err(s) => Err(refusal_of(s, at)),
-        Ok(to) => Ok(to),
-    }
+    one_more(bytes, first, at).map_err(|s| refusal_of(s, at))
 }
 
 // One value more, by its code: the step of every reading call. (`read_on` and `repeats` take what follows in the same window at once.)
@@ -86,6 +83,7 @@ pub fn fill(
 {
     let mut at = from;
     let mut i: usize = 0;
+    // A turn takes a value and what follows it in the same window, so no range counts the turns.
     while i < n {
         match one_more(bytes, first, at) {
             Err(s) => {
@@ -135,6 +133,7 @@ fn read_on(bytes: &[u8], first: bool, from: Cursor, i: usize, n: usize, out: &mu
     let mut last = from.last;
     let mut place = from.place;
     let mut j = i;
+    // A turn takes a value or some repeats.
     while j < n {
         let word = decode::word_ahead(bytes, place);
         if (word >> 63) == 0 {
@@ -162,10 +161,9 @@ fn further(from: Cursor, last: u32, place: usize, more: usize) -> Cursor
 {
     Cursor {
         last,
-        lead: from.lead,
-        trail: from.trail,
         place,
         count: from.count + more,
+        ..from
     }
 }
 
@@ -243,7 +241,8 @@ pub fn copy(values: &[u32], n: usize, i: usize, out: &mut [u32])
 
 // ---- through a small array
 
-// What is taken in of the values: nothing, their sum, or all that a writer's state knows of them.
+// What is taken in of the values: nothing, their sum, or all that a writer's state knows of them. (A function in its place would be no plainer: what
+// `tallied` says in three cases, each of its callers would have to say of it.)
 #[derive(Clone, Copy)]
 pub enum Aim {
     Nothing,
@@ -277,6 +276,7 @@ pub fn go_through(
         max: models::FRESH_BITS,
     };
     let mut read: usize = 0;
+    // The last part is shorter than the others: a range in steps of 1024 would end behind it.
     while read < n {
         let k = (n - read).min(1024);
         let to = fill(bytes, first, at, k, &mut values)?;
@@ -320,7 +320,7 @@ fn left_behind(bytes: &[u8], place: usize) -> Option<usize>
     requires { (place ≤ 8 * length bytes.now) × (place + 7 < 2 ^ 64) }
     ensures { says_behind result ≡ leftover place (drop place (bits_of bytes.now)) }
 {
-    let whole = (place + 7) / 8;
+    let whole = place.div_ceil(8);
     let padding = bits::get(bytes, place, 8 * whole - place);
     if padding != 0 {
         return Some(8 * whole - ((64 - u64::leading_zeros(padding)) as usize));

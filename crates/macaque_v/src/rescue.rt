@@ -43,11 +43,7 @@ pub fn judge_rescue(
 
 // The state after the values that arrived whole. Where the bytes end inside a value, the refusal says how many stand before it: these are
 // gone through once more.
-pub fn arrived(
-    bytes: &[u8],
-    limit: usize,
-    opening: Opening,
-) -> Result<(Cursor, Tally), Refusal>
+pub fn arrived(bytes: &[u8], limit: usize, opening: Opening) -> Result<(Cursor, Tally), Refusal>
     requires { limit ≤ most_values }
     ensures { OpensAs (rescuing bytes.now limit opening) bytes.now result }
 {

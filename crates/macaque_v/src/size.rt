@@ -25,7 +25,7 @@ impl MacaqueV {
         ensures { said_by result ≡ most_bytes_answer count opening }
     {
         let bits = MacaqueV::most_bits(count, opening)?;
-        Ok((bits + 7) / 8)
+        Ok(bits.div_ceil(8))
     }
 }
 

@@ -1,7 +1,7 @@
 -- `macaque_v::MacaqueV::has_room` meets its contract: the values take no more than the most that they can. Assumes nothing.
 use mathlib.Core.Path.{◌≡◌, sym, ap, ◌∙◌}
 use mathlib.Core.Bool.{Bool}
-use Prim.Native.Nat.{◌*◌}
+use Prim.Native.Nat.{◌+◌, ◌*◌}
 use native.Mathlib.Omega.{arith}
 use borrow.Author.Tests.{le-leb}
 use lib.ListN.{length}
@@ -20,7 +20,7 @@ returns-then-self-most_of c =
     let xs = a.values.now in
     let most : c.most_of.result ≡ most_bits macaque (raw_next (mode_of m.with_first) m.length) (length xs) =
     c.most_of.ensures.0 ∙ ap (λ (raw : Bool). most_bits macaque raw (length xs)) (raw-is m.with_first m.length) in
-    sym (le-leb (wrote_by m xs).place (8 * a.bytes) (omega (arith, most, a-write-is-no-larger m xs)))
+    le-leb (m.place + c.most_of.result) (8 * a.bytes) (omega arith) ∙ sym (le-leb (wrote_by m xs).place (8 * a.bytes) (omega (arith, most, a-write-is-no-larger m xs)))
 
-pub returns : goal.returns
-returns c = rw c.place_after.ensures
+pub returns-else-self-most_of : goal.returns-else-self-most_of
+returns-else-self-most_of c = rw c.place_after.ensures

@@ -1,19 +1,15 @@
 -- `macaque_v::MacaqueV::most_bytes` meets its contract: it rounds up what `most_bits` answers. Assumes nothing.
 use mathlib.Core.Path.{◌≡◌, sym, ap, ◌∙◌}
-use Prim.Native.Nat.{ℕ, ◌≤◌}
+use Prim.Native.Nat.{ℕ}
 use native.Mathlib.Omega.{arith}
-use borrow.Author.Tests.{ltb-false}
 use Rattle.bits.specs.Bits.{whole_bytes}
 use Rattle.models.specs.Answers.{answered, refused, NoneHolds}
 use Rattle.models.specs.Causes.{count_causes}
-use Rattle.models.specs.Limits.{most_values}
 use Rattle.models.specs.Refusals.{fault_of}
 use Rattle.models.proofs.Judged.{accepted, turned, turned-back, told}
-use Rattle.macaque_v.specs.State.{is_first}
 use Rattle.models.specs.Calls.{said_by}
 use Rattle.macaque_v.specs.Size.{most_of, most_bits_answer, most_bytes_answer}
 use Rattle.macaque_v.proofs.Passing.{passed-on}
-use Rattle.macaque_v.proofs.Sizes.{most-small}
 use Rattle.macaque_v.proofs.MacaqueV.most_bytes.Goals as goal
 use Rattle.macaque_v.proofs.MacaqueV.most_bytes.Goals.{In_ok-bits}
 
@@ -29,11 +25,6 @@ module _ (c : In_ok-bits) where
   unfolding most_bits_answer
   answers = told (count_causes count) (most_of count c.args.opening) bits (sym (ap said_by c.in_ok-bits.was) ∙ c.most_bits.ensures)
 
-pub overflow_add-result : goal.overflow_add-result
-overflow_add-result c =
-    let few : count (goal.at.overflow_add-result c).In_ok-bits ≤ most_values = ltb-false most_values (count (goal.at.overflow_add-result c).In_ok-bits) (answers (goal.at.overflow_add-result c).In_ok-bits).0.0 in
-    omega (arith, (answers (goal.at.overflow_add-result c).In_ok-bits).1, most-small (is_first c.args.opening) (count (goal.at.overflow_add-result c).In_ok-bits))
-
 pub returns-in_err-bits : goal.returns-in_err-bits
 unfolding most_bits_answer most_bytes_answer
 returns-in_err-bits c =
@@ -44,4 +35,7 @@ returns-in_err-bits c =
 
 pub returns : goal.returns
 unfolding most_bytes_answer
-returns c = ap (λ (n : ℕ). answered (whole_bytes n)) (answers (goal.at.returns c).In_ok-bits).1 ∙ accepted refused _ (count_causes (count (goal.at.returns c).In_ok-bits)) (answers (goal.at.returns c).In_ok-bits).0
+returns c =
+    let A = answers (goal.at.returns c).In_ok-bits in
+    let whole : c.div_ceil.result ≡ whole_bytes (most_of c.args.count c.args.opening) = omega (arith, A.1) in
+    ap answered whole ∙ accepted refused _ (count_causes c.args.count) A.0

@@ -1,31 +1,19 @@
 -- `macaque_v::noting::put_entry` meets its contract: the four words of the entry. Assumes nothing.
-use mathlib.Core.Path.{refl}
-use Prim.Native.Nat.{◌+◌, ◌*◌, ◌≤◌}
+use mathlib.Core.Path.{◌≡◌, ap, ◌∙◌}
+use mathlib.Core.List.{List, [], ◌∷◌, ◌++◌}
+use Prim.Native.Nat.{ℕ, ◌+◌, ◌-◌, ◌*◌}
 use native.Mathlib.Omega.{arith}
-use lib.ListN.{length, length-set}
-use Rattle.macaque_v.specs.Inner.Noting.{entry_in}
-use Rattle.macaque_v.proofs.Entering.{stored}
+use lib.ListN.{take, drop}
+use Rattle.std.proofs.lemmas.List.{drop-drop}
+use Rattle.places.specs.Calls.{words_of}
 use Rattle.macaque_v.proofs.noting.put_entry.Goals as goal
-use Rattle.macaque_v.proofs.noting.put_entry.Goals.{Start}
-
--- its words are in the table
-fits : (c : Start) → 4 * c.args.k + 4 ≤ length c.args.table.now
-fits c = omega (arith, c.requires)
-
-pub bounds-table-at : goal.bounds-table-at
-bounds-table-at c = omega (arith, fits (goal.at.bounds-table-at c).Start)
-
-pub bounds-table-at-2 : goal.bounds-table-at-2
-bounds-table-at-2 c = simp length-set (omega (arith, fits (goal.at.bounds-table-at-2 c).Start))
-
-pub bounds-table-at-3 : goal.bounds-table-at-3
-bounds-table-at-3 c = simp length-set (omega (arith, fits (goal.at.bounds-table-at-3 c).Start))
-
-pub bounds-table-at-4 : goal.bounds-table-at-4
-bounds-table-at-4 c = simp length-set (omega (arith, fits (goal.at.bounds-table-at-4 c).Start))
-
-pub shape_of-table : goal.shape_of-table
-shape_of-table c = simp length-set refl
 
 pub returns : goal.returns
-returns c = stored c.args.table.now c.args.k (entry_in c.args.place c.args.last c.args.lead c.args.trail) (fits (goal.at.returns c).Start)
+unfolding words_of
+returns c =
+    let a = c.args in
+    let at : ℕ = 4 * a.k in
+    let n : ℕ = at + 4 - at in
+    let end : at + n ≡ 4 * (a.k + 1) = omega arith in
+    ap (λ (new : List ℕ). take at a.table.now ++ (new ++ drop n (drop at a.table.now))) c.copy_from_slice.ensures.after
+    ∙ ap (λ (rest : List ℕ). take at a.table.now ++ ((a.place ∷ a.last ∷ a.lead ∷ a.trail ∷ []) ++ rest)) (drop-drop n at a.table.now ∙ ap (λ (m : ℕ). drop m a.table.now) end)

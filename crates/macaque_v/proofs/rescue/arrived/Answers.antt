@@ -45,7 +45,6 @@ go_through-requires c =
     let s = starts c.args.bytes.now c.args.opening c.start-at.result c.start-at.ensures in
     (s.0, omega (arith, s.1))
 
-
 pub go_through-requires-in-EndsEarly : goal.go_through-requires-in-EndsEarly
 go_through-requires-in-EndsEarly c =
     let a = c.args in
