@@ -40,11 +40,11 @@ after-take (suc n) a (t ∷ ts) h =
     and_both (time_allowed t) (lt_z a t && after t (take n ts)) (and_left (time_allowed t) (lt_z a t && after t ts) h)
     (and_both (lt_z a t) (after t (take n ts)) (and_left (lt_z a t) (after t ts) later) (after-take n t ts (and_right (lt_z a t) (after t ts) later)))
 
-pub in-order-take : (n : ℕ) (ts : List ℤ) → in_order ts ≡ true → in_order (take n ts) ≡ true
+pub in_order_take : (n : ℕ) (ts : List ℤ) → in_order ts ≡ true → in_order (take n ts) ≡ true
 unfolding in_order
-in-order-take zero ts h = refl
-in-order-take (suc n) [] h = refl
-in-order-take (suc n) (t ∷ ts) h =
+in_order_take zero ts h = refl
+in_order_take (suc n) [] h = refl
+in_order_take (suc n) (t ∷ ts) h =
     and_both (time_allowed t) (after t (take n ts)) (and_left (time_allowed t) (after t ts) h) (after-take n t ts (and_right (time_allowed t) (after t ts) h))
 
 -- and each later one is after the first
@@ -61,6 +61,10 @@ unfolding in_order
 in-order-later [] i h some l = absurd (not-suc-le-zero l)
 in-order-later (t ∷ ts) zero h some l = absurd (not-suc-le-zero some)
 in-order-later (t ∷ ts) (suc i) h some l = after-later t ts i (and_right (time_allowed t) (after t ts) h) (le_of_suc-le-suc l)
+
+-- each of them is allowed
+pub in_order_at : (ts : List ℤ) (i : ℕ) → in_order ts ≡ true → i < length ts → time_allowed (get_or ts i (pos 0)) ≡ true
+in_order_at = in-order-at
 
 -- one of them, as a call hands it on
 pub passed_on : (ts : List ℤ) (i : ℕ) → in_order ts ≡ true → i < length ts → to_z w64 (of_z w64 (get_or ts i (pos 0))) ≡ get_or ts i (pos 0)

@@ -45,7 +45,7 @@ use Rattle.swing.specs.Grid as swing
 use Rattle.parameters.specs.Forms.{Ends}
 use Rattle.segment_grid.specs.Segment.{count_in, stream_bytes, residuals_in, given, owned, owned_times, is_swing, start_of, end_of, model_values, model_sum, HoldsResiduals}
 use Rattle.segment_grid.specs.Calls.{form_wrong, grid_causes, sum_causes, behind, segment_values, grid_answer, grid_memory, plus, with_residuals, residual_sum, segment_sum, sum_answer}
-use Rattle.segment_grid.proofs.Owned.{length-owned, length-model, Clear, clear, no-room-asked, in-order-later, in-order-take}
+use Rattle.segment_grid.proofs.Owned.{length-owned, length-model, Clear, clear, no-room-asked, in-order-later, in_order_take}
 use Rattle.segment_grid.proofs.Counted.{as-many-values}
 
 -- ---- what is drawn
@@ -205,7 +205,7 @@ module _ (model : ℕ) (ts : List ℤ) (ends : Said Ends) (residuals : List ℕ)
   asked = clear model ts ends residuals (length ts) (no-room-asked model ts ends residuals refused (answered tt) ∙ h)
 
   ordered : in_order times ≡ true
-  ordered = in-order-take (owned ts residuals) ts asked.ordered
+  ordered = in_order_take (owned ts residuals) ts asked.ordered
 
   few : ltb most_values (length times) ≡ false
   few = le-ltb most_values (length times) (omega (arith, length-owned ts residuals, asked.few))

@@ -32,6 +32,7 @@ pub fn draw(
 }
 
 // The residuals, to the front of `out`: their stream opens on the model's last value.
+#[tactic(auto, unfolding(macaque_v::specs::Read::grid_answer, macaque_v::specs::Read::grid_memory, models::specs::Answers::judge))]
 fn draw_residuals(residuals: &[u8], last: u32, out: &mut [u32]) -> Result<(), Refusal>
     requires { (count_in residuals.now ≤ most_values) × (count_in residuals.now ≤ length out.old) }
     ensures answer { said_by result ≡ drawn (residuals_in residuals.now last) }
@@ -43,6 +44,7 @@ fn draw_residuals(residuals: &[u8], last: u32, out: &mut [u32]) -> Result<(), Re
 }
 
 // The model's values at the times that it owns, to the front of `out`.
+#[tactic(auto, using(crate::proofs::Owned::passed_on, crate::proofs::Owned::in_order_at), unfolding(crate::specs::Segment::model_values, lines::specs::Values::line_drawn, pmc_mean::specs::Grid::filled))]
 fn draw_model(model: u32, times: &[i64], first: u32, last: u32, out: &mut [u32])
     requires { (in_order times.now ≡ true) × (0 < length times.now) × (length times.now ≤ length out.old) }
     ensures { out.new ≡ model_values model times.now (first, last) ++ drop (length times.now) out.old }

@@ -20,6 +20,7 @@ use models::Refusal;
 // ---- the public calls
 
 // All values of the segment, to the front of `out`.
+#[tactic(auto, unfolding(crate::specs::Calls::grid_answer, crate::specs::Calls::grid_memory, models::specs::Answers::judge))]
 pub fn grid(
     model: u32,
     timestamps: &[i64],
@@ -69,6 +70,7 @@ pub fn sum_over(
 
 // Both: `by_average` says which. A closure for the model's own sum is no plainer: its contract would
 // have to name what `sum_answer` takes as this truth.
+#[tactic(auto, unfolding(crate::specs::Calls::sum_answer, models::specs::Answers::judge))]
 fn sum(
     by_average: bool,
     model: u32,

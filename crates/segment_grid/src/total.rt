@@ -10,6 +10,7 @@ use crate::parts;
 use macaque_v::Opening;
 use models::Refusal;
 
+#[tactic(auto, using(crate::proofs::Owned::in_order_take))]
 pub fn total(
     by_average: bool,
     model: u32,
@@ -27,6 +28,7 @@ pub fn total(
 }
 
 // The model's sum, of the times that it owns.
+#[tactic(auto, using(crate::proofs::Owned::passed_on), unfolding(crate::specs::Segment::model_sum))]
 fn of_model(
     by_average: bool,
     model: u32,

@@ -14,7 +14,7 @@ use Rattle.macaque_v.specs.Read.{drawn, drawn_in}
 use Rattle.parameters.specs.Forms.{Ends}
 use Rattle.segment_grid.specs.Segment.{residuals_in, model_values, owned_times}
 use Rattle.segment_grid.specs.Calls.{behind}
-use Rattle.segment_grid.proofs.Owned.{in-order-take, length-model}
+use Rattle.segment_grid.proofs.Owned.{in_order_take, length-model}
 use Rattle.segment_grid.proofs.Placed.{still-long, when-drawn, when-stopped}
 use Rattle.segment_grid.proofs.draw.draw.Goals as goal
 
@@ -28,7 +28,7 @@ draw_model-requires c =
     let is = c.owned-owned.ensures in
     let le : n ≤ length out = omega (arith, p.2, is) in
     let len : length (take n ts) ≡ n = length-take-le n ts (omega (arith, is)) in
-    (in-order-take n ts p.3, omega (arith, len, is, p.1), omega (arith, len, still-long n out le c.draw_residuals.new.out))
+    (in_order_take n ts p.3, omega (arith, len, is, p.1), omega (arith, len, still-long n out le c.draw_residuals.new.out))
 
 pub returns-in_err-draw_residuals : goal.returns-in_err-draw_residuals
 returns-in_err-draw_residuals c =
