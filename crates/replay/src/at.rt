@@ -110,7 +110,7 @@ impl At {
 
     // The list has ended, at the end of a line.
     pub fn finished(self) {
-        if !(self.is_end & self.line.is_fresh()) {
+        if !(self.is_end && self.line.is_fresh()) {
             tell(self.number, b" is cut off]");
         }
         self.print_titled();

@@ -6,7 +6,7 @@ use models::Fault;
 use replaying::lists::Told;
 
 // How many calls there are; they are numbered from 0 in the order of include/modelardb.h, but for those that came later
-// and have the last numbers.
+// and have the last numbers. Numbers and no enum: the list names a call by its number, and each is named once below.
 pub const CALLS: u64 = 46;
 
 // The numbers that a call is handed, in the order of its parameters: those of 32 bits, and the others.

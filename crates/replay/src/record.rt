@@ -87,11 +87,11 @@ fn is_left(
     marks: &Marks,
 ) -> bool {
     lists::is_answer(told, all, marks)
-        & lists::is_left(p, all, marks, List::P)
-        & lists::is_left(q, all, marks, List::Q)
-        & lists::is_left(v, all, marks, List::V)
-        & lists::is_left(r, all, marks, List::R)
-        & lists::is_left(u, all, marks, List::U)
+        && lists::is_left(p, all, marks, List::P)
+        && lists::is_left(q, all, marks, List::Q)
+        && lists::is_left(v, all, marks, List::V)
+        && lists::is_left(r, all, marks, List::R)
+        && lists::is_left(u, all, marks, List::U)
 }
 
 fn numbers(all: &[u64], marks: &Marks) -> Numbers {

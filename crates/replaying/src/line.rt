@@ -130,7 +130,7 @@ impl TextLine {
 
     // The word so far is a count.
     fn counted(mut self) -> TextLine {
-        if self.count.is_some() | (self.word == 0) {
+        if self.count.is_some() || self.word == 0 {
             return self.unsound();
         }
         self.count = Some(self.word as usize);
@@ -142,7 +142,7 @@ impl TextLine {
     // A list is named: one that comes behind the last.
     fn opened(mut self, name: u8, marks: &mut Marks) -> TextLine {
         match list_of(name, List::Answer.is_behind(self.list)) {
-            Some(list) if list.is_behind(self.list) & (self.used != 0) & !self.is_in_word() => {
+            Some(list) if list.is_behind(self.list) && self.used != 0 && !self.is_in_word() => {
                 self.list = list;
                 self.from = self.used;
                 marks[list as usize] = Some(Span {
@@ -178,7 +178,7 @@ impl TextLine {
 
     // Whether nothing was read yet.
     pub fn is_fresh(self) -> bool {
-        matches!(self.kind, Kind::Record) & (self.used == 0) & !self.is_in_word()
+        matches!(self.kind, Kind::Record) && self.used == 0 && !self.is_in_word()
     }
 
     // Whether it is no record.
@@ -187,7 +187,7 @@ impl TextLine {
     }
 
     fn is_in_word(self) -> bool {
-        (self.digits != 0) | self.count.is_some()
+        self.digits != 0 || self.count.is_some()
     }
 
     // A line of text, where nothing was read yet.

@@ -39,18 +39,18 @@ fn left<'a>(all: &'a [u64], marks: &Marks, name: List) -> &'a [u64] {
 // Whether every list has room and no word of it is too large.
 pub fn may_be_loaded(all: &[u64], marks: &Marks) -> bool {
     fits(list(all, marks, List::X), 5, u32::MAX as u64)
-        & fits(list(all, marks, List::W), 3, u64::MAX)
-        & fits(list(all, marks, List::T), VALUES, u64::MAX)
-        & fits(list(all, marks, List::P), BYTES, u8::MAX as u64)
-        & fits(list(all, marks, List::Q), BYTES, u8::MAX as u64)
-        & fits(list(all, marks, List::V), VALUES, u32::MAX as u64)
-        & fits(list(all, marks, List::R), ROW, u64::MAX)
-        & fits(list(all, marks, List::U), TABLE, u64::MAX)
-        & fits(list(all, marks, List::S), ROW, u64::MAX)
+        && fits(list(all, marks, List::W), 3, u64::MAX)
+        && fits(list(all, marks, List::T), VALUES, u64::MAX)
+        && fits(list(all, marks, List::P), BYTES, u8::MAX as u64)
+        && fits(list(all, marks, List::Q), BYTES, u8::MAX as u64)
+        && fits(list(all, marks, List::V), VALUES, u32::MAX as u64)
+        && fits(list(all, marks, List::R), ROW, u64::MAX)
+        && fits(list(all, marks, List::U), TABLE, u64::MAX)
+        && fits(list(all, marks, List::S), ROW, u64::MAX)
 }
 
 fn fits(words: &[u64], most: usize, greatest: u64) -> bool {
-    (words.len() <= most) & words.iter().all(|word| *word <= greatest)
+    words.len() <= most && words.iter().all(|word| *word <= greatest)
 }
 
 // The word of that place, 0 where the list ends before it.
@@ -80,7 +80,7 @@ pub fn low_byte(word: u64) -> u8 {
 // Whether memory holds just what must be left of a list.
 pub fn is_left<T: Copy + Into<u64>>(held: &[T], all: &[u64], marks: &Marks, name: List) -> bool {
     let words = left(all, marks, name);
-    (held.len() == words.len()) & held.iter().zip(words).all(|(h, word)| (*h).into() == *word)
+    held.len() == words.len() && held.iter().zip(words).all(|(h, word)| (*h).into() == *word)
 }
 
 // What a call answers: its number with the value and the place, or what it gives where it is never refused.
