@@ -22,6 +22,7 @@ pub mod walk;
 
 // Writes the values behind the place, and behind the entries in use that of each value whose number is a multiple of 64: the state after the
 // values and the entries in use. A refusal leaves the buffer and the table, and hands back the state passed in.
+#[tactic(auto, unfolding(models::specs::Answers::judge, crate::specs::Calls::table_write_answer, crate::specs::Calls::table_write_memory, crate::specs::Calls::table_write_table))]
 pub fn compress_values(
     writer: MacaqueV,
     values: &[u32],
@@ -47,6 +48,7 @@ pub fn compress_values(
 }
 
 // The writer behind the first k of the `count` values in the buffer's first `used` bytes, and how many entries of their table are of these.
+#[tactic(auto, unfolding(models::specs::Answers::judge, crate::specs::Calls::table_reopen_answer, crate::specs::Calls::table_reopen_memory))]
 pub fn reopen(
     buffer: &mut [u8],
     used: usize,
@@ -75,6 +77,7 @@ pub fn reopen(
 
 // The writer behind the values that arrived whole, as `MacaqueV::rescue` opens it, and their table: it is made anew in the lent words, whatever these held.
 // There has to be room for the entries of as many values as the limit.
+#[tactic(auto, unfolding(models::specs::Answers::judge, crate::specs::Calls::table_rescue_answer, crate::specs::Calls::table_rescue_memory, crate::specs::Calls::table_rescue_table))]
 pub fn rescue(
     buffer: &mut [u8],
     used: usize,
@@ -95,6 +98,7 @@ pub fn rescue(
 }
 
 // Whether the entries in use are those of the stream, `count` values in these bytes: it is gone through once.
+#[tactic(auto, unfolding(models::specs::Answers::judge, crate::specs::Calls::check_answer))]
 pub fn check(
     bytes: &[u8],
     count: usize,

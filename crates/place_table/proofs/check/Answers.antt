@@ -7,7 +7,7 @@ use lib.ListN.{length}
 use Rattle.bits.specs.Bits.{bits_of}
 use Rattle.models.specs.Answers.{refused, NoneHolds}
 use Rattle.models.specs.Limits.{most_values}
-use Rattle.models.proofs.Judged.{none-holds, when-passed, when-refused}
+use Rattle.models.proofs.Judged.{none-holds, when-passed}
 use Rattle.places.specs.Table.{same_entries, entries_in, matched}
 use Rattle.stream.specs.Read.{read_all}
 use Rattle.places.specs.Calls.{table_in}
@@ -15,7 +15,6 @@ use Rattle.places.proofs.Calls.{number-says}
 use Rattle.places.proofs.Check.{numbered}
 use Rattle.places.proofs.Words.{table-length}
 use Rattle.macaque_v.specs.State.{stream_in, is_first, opened}
-use Rattle.macaque_v.proofs.Passing.{passed-on}
 use Rattle.place_table.specs.Calls.{check_causes, check_answer}
 use Rattle.place_table.proofs.check.Goals as goal
 use Rattle.place_table.proofs.check.Goals.{In_ok-judge_check}
@@ -31,13 +30,6 @@ compare-requires c =
     let free = clear (goal.at.compare-requires c).In_ok-judge_check in
     let n = number-says (length a.table.now) a.entries a.count free.1 in
     (ltb-false most_values a.count free.0, omega (arith, n.0, n.1))
-
-pub returns-in_err-judge_check : goal.returns-in_err-judge_check
-unfolding check_answer
-returns-in_err-judge_check c =
-    let a = c.args in
-    let causes = check_causes a.count (length a.table.now) a.entries in
-    rw (passed-on c.from_residual.result c.from_residual.ensures.1) (when-refused causes _ c.judge_check.ensures refused _ _ c.in_err-judge_check.was)
 
 pub returns : goal.returns
 unfolding check_answer

@@ -28,15 +28,6 @@ plainly buf used count k o b words entries free =
     let none : NoneHolds (reopen_causes b (length buf) used count k) = (free.0, (free.1.0, (free.1.1.0, tt))) in
     (sym (judging.accepted refused _ (reopen_causes b (length buf) used count k) none), sym (judging.accepted (keeping buf) (buffer_after (reopening (take used buf) count k o) buf) (reopen_causes b (length buf) used count k) none))
 
-pub returns-in_err-judge_reopen : goal.returns-in_err-judge_reopen
-unfolding table_reopen_answer table_reopen_memory
-returns-in_err-judge_reopen c =
-    let a = c.args in
-    let causes = table_reopen_causes a.error_bound (length a.buffer.now) a.used a.count a.k (length a.table.now) a.entries in
-    let says = c.judge_reopen.ensures in
-    let no = c.in_err-judge_reopen.was in
-    record { answer = rw (passed-on c.from_residual.result c.from_residual.ensures.1) (when-refused causes _ says refused _ _ no); bytes = when-refused causes _ says (keeping a.buffer.now) _ _ no }
-
 -- what the plain call says is what is said of it here, with the entries
 module _ (c : In_ok-judge_reopen) where
   abbrev causes : List Cause

@@ -9,7 +9,7 @@ use Rattle.std.specs.Prelude.{Ok}
 use Rattle.models.specs.Answers.{Said, refused, keeping, Cause}
 use Rattle.models.specs.Causes.{bound_causes}
 use Rattle.models.specs.Limits.{most_values}
-use Rattle.models.proofs.Judged.{none-holds, when-passed, when-refused}
+use Rattle.models.proofs.Judged.{none-holds, when-passed}
 use Rattle.stream.proofs.RescueCalls.{rescue-says}
 use Rattle.places.specs.Table.{entries_for}
 use Rattle.places.specs.Calls.{entries_lent}
@@ -47,15 +47,6 @@ pub open_behind-requires : goal.open_behind-requires
 open_behind-requires c =
     let a = c.args in
     ends-in (rescuing (take a.used a.buffer.now) a.limit a.opening) a.buffer.now a.used c.arrived-found.result (allows (goal.at.open_behind-requires c).In_ok-judge_rescue).1 c.arrived-found.ensures
-
-pub returns-in_err-judge_rescue : goal.returns-in_err-judge_rescue
-unfolding table_rescue_answer table_rescue_memory table_rescue_table
-returns-in_err-judge_rescue c =
-    let a = c.args in
-    let causes = table_rescue_causes a.error_bound (length a.buffer.now) a.used a.limit (length a.table.now) in
-    let says = c.judge_rescue.ensures in
-    let no = c.in_err-judge_rescue.was in
-    record { answer = rw (passed-on c.from_residual.result c.from_residual.ensures.1) (when-refused causes _ says refused _ _ no); bytes = when-refused causes _ says (keeping a.buffer.now) _ _ no; words = when-refused causes _ says (keeping a.table.now) _ _ no }
 
 -- what going through the bytes found, as the call answers it and leaves it
 module _ (c : After-arrived-found) where
