@@ -33,7 +33,7 @@ pub fn modelardb_encode_values_for_pmc_mean(
     ensures bytes { out.new ≡ encode_out (pmc_mean_form value residuals_min_value residuals_max_value) out.old row.old }
     ensures row { row.new ≡ encode_row (pmc_mean_form value residuals_min_value residuals_max_value) out.old row.old }
 {
-    if row.len() < 1 {
+    if row.is_empty() {
         return exports::TOO_SHORT;
     }
     let answer = parameters::encode_values_for_pmc_mean(
@@ -59,7 +59,7 @@ pub fn modelardb_encode_values_for_swing(
     ensures bytes { out.new ≡ encode_out (swing_form first_value last_value residuals_min_value residuals_max_value) out.old row.old }
     ensures row { row.new ≡ encode_row (swing_form first_value last_value residuals_min_value residuals_max_value) out.old row.old }
 {
-    if row.len() < 1 {
+    if row.is_empty() {
         return exports::TOO_SHORT;
     }
     let answer = parameters::encode_values_for_swing(
