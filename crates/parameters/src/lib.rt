@@ -2,9 +2,10 @@
 // "Forms as in `types.rs`; values are little-endian."
 #![tactic(auto)]
 
-ghost use Rattle.std.specs.Prelude.{◌≡◌, ◌++◌, ◌+◌, ◌≤◌, length, take, drop};
+ghost use Rattle.std.specs.Prelude.{◌≡◌, ◌≢◌, ◌++◌, ◌+◌, ◌≤◌, length, take, drop, Err, IfOk, OnErr};
 ghost use Rattle.models.specs.Calls.{said_by};
-ghost use Rattle.parameters.specs.Bytes.{number_in};
+ghost use Rattle.models.specs.declared.Refusal.TheVariants.{FormNotAllowed};
+ghost use Rattle.parameters.specs.Bytes.{little_endian};
 ghost use Rattle.parameters.specs.Forms.{form_bytes, answered_ends, by_flag, lower, rusts_for_pmc_mean, rusts_for_swing, pmc_mean_form, swing_form, swing_from, pmc_mean_from};
 ghost use Rattle.parameters.specs.Calls.{length_answer, bytes_after};
 
@@ -231,12 +232,7 @@ pub fn decode_values_for_pmc_mean(
 ) -> Result<u32, Refusal>
     ensures { said_by result ≡ pmc_mean_from min_value max_value values.now }
 {
-    match values.len() {
-        0 => Ok(models::plain(min_value)),
-        1 => Ok(models::plain(max_value)),
-        4 => Ok(models::plain(value_at(values, 0))),
-        _ => Err(Refusal::FormNotAllowed),
-    }
+    pmc_mean_in(form_in(values)?, min_value, max_value)
 }
 
 #[tactic(auto, unfolding(crate::specs::Forms::swing_from))]
@@ -247,11 +243,21 @@ pub fn decode_values_for_swing(
 ) -> Result<(u32, u32), Refusal>
     ensures { said_by result ≡ swing_from min_value max_value values.now }
 {
+    swing_in(form_in(values)?, min_value, max_value)
+}
+
+// The form that has these bytes; no other number of bytes is a form's.
+fn form_in(values: &[u8]) -> Result<Form, Refusal>
+    ensures ok { IfOk result (λ form. form_bytes form ≡ values.now) }
+    ensures err { OnErr result (result ≡ Err FormNotAllowed) }
+    ensures no_form { OnErr result ((length values.now ≢ 0) × (length values.now ≢ 1) × (length values.now ≢ 4) × (length values.now ≢ 5) × (length values.now ≢ 8)) }
+{
     match values.len() {
-        0 => ends(min_value, max_value),
-        1 => ends(max_value, min_value),
-        5 => by_flag(values[0], value_at(values, 1), min_value, max_value),
-        8 => ends(value_at(values, 0), value_at(values, 4)),
+        0 => Ok(Form::Nothing),
+        1 => Ok(Form::One(values[0])),
+        4 => Ok(Form::Value(value_at(values, 0))),
+        5 => Ok(Form::Flagged(values[0], value_at(values, 1))),
+        8 => Ok(Form::Both(value_at(values, 0), value_at(values, 4))),
         _ => Err(Refusal::FormNotAllowed),
     }
 }
@@ -276,11 +282,10 @@ fn by_flag(flag: u8, v: u32, min: u32, max: u32) -> Result<(u32, u32), Refusal>
     }
 }
 
-// The value in four bytes, the lowest first.
-#[tactic(auto, using(crate::proofs::Bytes::four_bytes))]
+// The value that has these four bytes.
 fn value_at(values: &[u8], at: usize) -> u32
     requires { at + 4 ≤ length values.now }
-    ensures { result ≡ number_in (take 4 (drop at values.now)) }
+    ensures { little_endian 4 result ≡ take 4 (drop at values.now) }
 {
     u32::from_le_bytes([values[at], values[at + 1], values[at + 2], values[at + 3]])
 }
