@@ -16,7 +16,6 @@ use Rattle.bits.proofs.Bytes.{length-bits_of}
 use Rattle.bits.proofs.Counts.{xor-undo}
 use Rattle.bits.proofs.Fields.{length-field, field-split}
 use Rattle.coding.specs.Inner.Ahead.{repeated, AtTop, RepeatsAt, IsAhead, IsWord}
-use Rattle.coding.specs.declared.decode.Ahead.{Ahead}
 use Rattle.coding.proofs.Words.{bits-in-long, moved, ahead-of-more}
 
 -- the first k of more
@@ -78,7 +77,7 @@ pub word-ahead : (bytes : List ℕ) (place n : ℕ) → place + n ≤ 8 * length
     → (word : ℕ) → word ≡ field_at place n (bits_of bytes) * 2 ^ (64 - n) → IsWord bytes place word
 word-ahead bytes place n h most w word e =
     record {
-      kept = λ _. (ahead-of-more bytes place n h most word e (omega arith)).bits;
+      kept = λ _. ahead-of-more bytes place n h most word e (omega arith);
       same = λ k t.
           let less : 2 * k ≤ n = omega (arith, t.most) in
           record {
@@ -94,16 +93,17 @@ word-ahead bytes place n h most w word e =
     }
 
 -- the repeats that the bits ahead begin with stand at the place
-pub repeats-ahead : (bytes : List ℕ) (place : ℕ) (r : Ahead) → place ≤ 8 * length bytes → IsAhead bytes place r → (k : ℕ) → AtTop r.word k → 2 * k ≤ r.left → RepeatsAt bytes place k
-repeats-ahead bytes place r h A k t less =
+pub repeats-ahead : (bytes : List ℕ) (place word left : ℕ) → left ≤ 45 → place ≤ 8 * length bytes → IsAhead bytes place word left → (k : ℕ) → AtTop word k → 2 * k ≤ left
+    → RepeatsAt bytes place k
+repeats-ahead bytes place word left few h A k t less =
     let rest : List Bool = drop place (bits_of bytes) in
-    let long : r.left ≤ length rest =
-    le_trans (le_of_eq (sym (bits-in-long r.word r.left A.most) ∙ ap length A.bits ∙ length-take 45 rest)) (min-le_right 45 (length rest)) in
+    let long : left ≤ length rest =
+    le_trans (le_of_eq (sym (bits-in-long word left few) ∙ ap length A ∙ length-take 45 rest)) (min-le_right 45 (length rest)) in
     record {
       bits =
-          sym (take-take (2 * k) 45 rest (omega (arith, A.most)))
-          ∙ ap (take (2 * k)) (sym A.bits)
-          ∙ take-take (2 * k) r.left (field 64 r.word) less
+          sym (take-take (2 * k) 45 rest (omega (arith, few)))
+          ∙ ap (take (2 * k)) (sym A)
+          ∙ take-take (2 * k) left (field 64 word) less
           ∙ t.bits;
       there = omega (arith, long, length-drop place (bits_of bytes), length-bits_of bytes);
       most = t.most;

@@ -63,27 +63,19 @@ module _ (bytes : List ℕ) (place n : ℕ) (h : place + n ≤ 8 * length bytes)
       ∙ field-value (take n (drop place (bits_of bytes)))
 
   -- of 45 bits or more, the first 45
-  pub ahead-of-more : (word : ℕ) → word ≡ field_at place n (bits_of bytes) * 2 ^ (64 - n) → 45 ≤ n → IsAhead bytes place (record { word = word; left = 45 })
+  pub ahead-of-more : (word : ℕ) → word ≡ field_at place n (bits_of bytes) * 2 ^ (64 - n) → 45 ≤ n → IsAhead bytes place word 45
   ahead-of-more word e w =
-      record {
-        bits =
-            ap (λ (x : ℕ). take 45 (field 64 x)) e
-            ∙ sym (take-take 45 n (field 64 (field_at place n (bits_of bytes) * 2 ^ (64 - n))) w)
-            ∙ ap (take 45) moved ∙ take-take 45 n (drop place (bits_of bytes)) w;
-        most = omega arith;
-      }
+      ap (λ (x : ℕ). take 45 (field 64 x)) e
+      ∙ sym (take-take 45 n (field 64 (field_at place n (bits_of bytes) * 2 ^ (64 - n))) w)
+      ∙ ap (take 45) moved ∙ take-take 45 n (drop place (bits_of bytes)) w
 
   -- fewer than 45: all that there are
   pub ahead-of-all : (word : ℕ) → word ≡ field_at place n (bits_of bytes) * 2 ^ (64 - n) → n ≤ 45 → place + n ≡ 8 * length bytes
-      → IsAhead bytes place (record { word = word; left = n })
+      → IsAhead bytes place word n
   ahead-of-all word e w f =
       let rest : List Bool = drop place (bits_of bytes) in
-      record {
-        bits =
-            ap (λ (x : ℕ). take n (field 64 x)) e ∙ moved
-            ∙ take_all n rest (omega (arith, rest-long)) ∙ sym (take_all 45 rest (omega (arith, rest-long)));
-        most = w;
-      }
+      ap (λ (x : ℕ). take n (field 64 x)) e ∙ moved
+      ∙ take_all n rest (omega (arith, rest-long)) ∙ sym (take_all 45 rest (omega (arith, rest-long)))
 
   -- `v << (64 - n)`
   pub moved_up : (v : ℕ) → v ≡ field_at place n (bits_of bytes) → (v * 2 ^ (64 - n)) % 2 ^ 64 ≡ field_at place n (bits_of bytes) * 2 ^ (64 - n)

@@ -12,12 +12,13 @@ ghost use Rattle.coding.specs.Inner.Ahead.{WindowSound, bits_in, IsPart, IsAhead
 pub struct Ahead {
     pub word: u64,
     pub left: usize,
+    pub ghost few: { left ≤ 45 },
 }
 
 // No value takes more than 45 bits; eight bytes have at least 57.
 pub fn look(bytes: &[u8], place: usize) -> Ahead
     requires { place ≤ 8 * length bytes.now }
-    ensures { IsAhead bytes.now place result }
+    ensures { IsAhead bytes.now place result.word result.left }
 {
     if bytes.len() - place / 8 < 8 {
         return look_at_end(bytes, place);
@@ -31,7 +32,7 @@ pub fn look(bytes: &[u8], place: usize) -> Ahead
 // The same where the stream has fewer than eight bytes from the place on.
 pub fn look_at_end(bytes: &[u8], place: usize) -> Ahead
     requires { (place ≤ 8 * length bytes.now) × (length bytes.now < place / 8 + 8) }
-    ensures { IsAhead bytes.now place result }
+    ensures { IsAhead bytes.now place result.word result.left }
 {
     let rest = 8 * (bytes.len() - place / 8) - place % 8;
     if rest == 0 {
@@ -106,110 +107,103 @@ pub struct Got {
     pub used: usize,
 }
 
-// The value that the first `left` bits of `word` begin with, after the last value and its window, where `set` says whether it has one.
-pub fn decode(
-    raw: bool,
-    word: u64,
-    left: usize,
-    set: bool,
-    lead: u32,
-    trail: u32,
-    last: u32,
-) -> Result<Got, Stop>
-    requires { (left ≤ 45) × (unset (window_in lead trail) ≡ not set) × WindowSound lead trail }
-    ensures { says_decoded result ≡ read_one macaque raw (window_in lead trail) last (bits_in word left) }
-{
-    if raw {
-        return in_full(word, left, lead, trail, last);
+impl Ahead {
+    // The value that the bits begin with, after the last value and its window, where `set` says whether it has one.
+    pub fn decode(
+        self,
+        raw: bool,
+        set: bool,
+        lead: u32,
+        trail: u32,
+        last: u32,
+    ) -> Result<Got, Stop>
+        requires { (unset (window_in lead trail) ≡ not set) × WindowSound lead trail }
+        ensures { says_decoded result ≡ read_one macaque raw (window_in lead trail) last (bits_in self.word self.left) }
+    {
+        if raw {
+            return self.in_full(lead, trail, last);
+        }
+        if self.left < 1 {
+            return Err(Stop::EndsEarly);
+        }
+        if part(self.word, 0, 1) == 0 {
+            return self.in_window(set, lead, trail, last);
+        }
+        if self.left < 2 {
+            return Err(Stop::EndsEarly);
+        }
+        if part(self.word, 1, 1) == 0 {
+            return Ok(Got {
+                value: last,
+                lead,
+                trail,
+                used: 2,
+            });
+        }
+        self.with_window(lead, trail, last)
     }
-    if left < 1 {
-        return Err(Stop::EndsEarly);
-    }
-    if part(word, 0, 1) == 0 {
-        return in_window(word, left, set, lead, trail, last);
-    }
-    if left < 2 {
-        return Err(Stop::EndsEarly);
-    }
-    if part(word, 1, 1) == 0 {
-        return Ok(Got {
-            value: last,
+
+    // A first value: its 32 bits.
+    fn in_full(self, lead: u32, trail: u32, last: u32) -> Result<Got, Stop>
+        ensures { says_decoded result ≡ read_one macaque true (window_in lead trail) last (bits_in self.word self.left) }
+    {
+        if self.left < 32 {
+            return Err(Stop::EndsEarly);
+        }
+        Ok(Got {
+            value: part(self.word, 0, 32),
             lead,
             trail,
-            used: 2,
-        });
+            used: 32,
+        })
     }
-    with_window(word, left, lead, trail, last)
-}
 
-// A first value: its 32 bits.
-fn in_full(word: u64, left: usize, lead: u32, trail: u32, last: u32) -> Result<Got, Stop>
-    requires { left ≤ 45 }
-    ensures { says_decoded result ≡ read_one macaque true (window_in lead trail) last (bits_in word left) }
-{
-    if left < 32 {
-        return Err(Stop::EndsEarly);
+    // `0`, then the bits in the window.
+    fn in_window(self, set: bool, lead: u32, trail: u32, last: u32) -> Result<Got, Stop>
+        requires { (1 ≤ self.left) × (unset (window_in lead trail) ≡ not set) × WindowSound lead trail × (field_at 0 1 (field 64 self.word) ≡ 0) }
+        ensures { says_decoded result ≡ read_one macaque false (window_in lead trail) last (bits_in self.word self.left) }
+    {
+        if !set {
+            return Err(Stop::NoWindow);
+        }
+        let width = (32 - lead - trail) as usize;
+        if self.left < 1 + width {
+            return Err(Stop::EndsEarly);
+        }
+        Ok(Got {
+            value: (part(self.word, 1, width) << trail) ^ last,
+            lead,
+            trail,
+            used: 1 + width,
+        })
     }
-    Ok(Got {
-        value: part(word, 0, 32),
-        lead,
-        trail,
-        used: 32,
-    })
-}
 
-// `0`, then the bits in the window.
-fn in_window(
-    word: u64,
-    left: usize,
-    set: bool,
-    lead: u32,
-    trail: u32,
-    last: u32,
-) -> Result<Got, Stop>
-    requires { (1 ≤ left) × (left ≤ 45) × (unset (window_in lead trail) ≡ not set) × WindowSound lead trail × (field_at 0 1 (field 64 word) ≡ 0) }
-    ensures { says_decoded result ≡ read_one macaque false (window_in lead trail) last (bits_in word left) }
-{
-    if !set {
-        return Err(Stop::NoWindow);
+    // `11`, a header that sets a new window, then the bits in it.
+    fn with_window(self, lead: u32, trail: u32, last: u32) -> Result<Got, Stop>
+        requires { (2 ≤ self.left) × ¬ (field_at 0 1 (field 64 self.word) ≡ 0) × ¬ (field_at 1 1 (field 64 self.word) ≡ 0) }
+        ensures { says_decoded result ≡ read_one macaque false (window_in lead trail) last (bits_in self.word self.left) }
+    {
+        if self.left < 13 {
+            return Err(Stop::EndsEarly);
+        }
+        let zeros = part(self.word, 2, 5);
+        let meaningful = part(self.word, 7, 6);
+        if meaningful == 0 {
+            return Err(Stop::WindowNotAllowed);
+        }
+        if 32 < zeros + meaningful {
+            return Err(Stop::WindowNotAllowed);
+        }
+        let width = meaningful as usize;
+        if self.left < 13 + width {
+            return Err(Stop::EndsEarly);
+        }
+        let ends = 32 - zeros - meaningful;
+        Ok(Got {
+            value: (part(self.word, 13, width) << ends) ^ last,
+            lead: zeros,
+            trail: ends,
+            used: 13 + width,
+        })
     }
-    let width = (32 - lead - trail) as usize;
-    if left < 1 + width {
-        return Err(Stop::EndsEarly);
-    }
-    Ok(Got {
-        value: (part(word, 1, width) << trail) ^ last,
-        lead,
-        trail,
-        used: 1 + width,
-    })
-}
-
-// `11`, a header that sets a new window, then the bits in it.
-fn with_window(word: u64, left: usize, lead: u32, trail: u32, last: u32) -> Result<Got, Stop>
-    requires { (2 ≤ left) × (left ≤ 45) × ¬ (field_at 0 1 (field 64 word) ≡ 0) × ¬ (field_at 1 1 (field 64 word) ≡ 0) }
-    ensures { says_decoded result ≡ read_one macaque false (window_in lead trail) last (bits_in word left) }
-{
-    if left < 13 {
-        return Err(Stop::EndsEarly);
-    }
-    let zeros = part(word, 2, 5);
-    let meaningful = part(word, 7, 6);
-    if meaningful == 0 {
-        return Err(Stop::WindowNotAllowed);
-    }
-    if 32 < zeros + meaningful {
-        return Err(Stop::WindowNotAllowed);
-    }
-    let width = meaningful as usize;
-    if left < 13 + width {
-        return Err(Stop::EndsEarly);
-    }
-    let ends = 32 - zeros - meaningful;
-    Ok(Got {
-        value: (part(word, 13, width) << ends) ^ last,
-        lead: zeros,
-        trail: ends,
-        used: 13 + width,
-    })
 }

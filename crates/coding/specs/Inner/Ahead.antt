@@ -3,7 +3,6 @@ use Rattle.std.specs.Prelude.{◌≡◌, Bool, true, false, List, [], ◌∷◌,
 use Rattle.bits.specs.Bits.{field, field_at, bits_of}
 use Rattle.stream.specs.Read.{Step, got, halt}
 use Rattle.stream.specs.Format.{unset, window_in}
-use Rattle.coding.specs.declared.decode.Ahead.{Ahead}
 use Rattle.coding.specs.declared.decode.Got.{Got}
 use Rattle.coding.specs.declared.decode.Stop.{Stop}
 use Rattle.coding.specs.declared.decode.Stop.TheVariants.{EndsEarly, NoWindow, WindowNotAllowed}
@@ -21,9 +20,8 @@ pub record IsPart (word skip width r : ℕ) : Type 0 where
   pub small : r < 2 ^ width
 
 -- the bits of the stream from the place on: 45 of them, or as many as there are
-pub record IsAhead (bytes : List ℕ) (place : ℕ) (r : Ahead) : Type 0 where
-  pub bits : bits_in r.word r.left ≡ take 45 (drop place (bits_of bytes))
-  pub most : r.left ≤ 45
+abbrev pub IsAhead : List ℕ → ℕ → ℕ → ℕ → Type 0
+IsAhead bytes place word left = bits_in word left ≡ take 45 (drop place (bits_of bytes))
 
 -- ---- repeats
 
