@@ -18,6 +18,7 @@ ghost use Rattle.listing.specs.Inner.Lines.{row_between};
 pub mod line;
 
 use coding::decode;
+use coding::decode::Ahead;
 use macaque_v::read_run::{Aim, Cursor};
 use macaque_v::{MacaqueV, Opening, read, read_run};
 use models::Refusal;
@@ -158,7 +159,7 @@ fn row_between(stream: &[u8], at: Cursor, next: Cursor) -> Fields
     ensures { result ≡ row_between stream.now at next }
 {
     let ahead = decode::look(stream, at.place);
-    let kind = kind_of(at.count == 0, ahead.word, ahead.left);
+    let kind = kind_of(at.count == 0, ahead);
     let bits = next.place - at.place;
     Fields {
         kind,
@@ -168,21 +169,21 @@ fn row_between(stream: &[u8], at: Cursor, next: Cursor) -> Fields
     }
 }
 
-// The kind of the value that the first `left` bits of `word` begin with: `0` keeps the window, `10` repeats, `11` sets a window.
-fn kind_of(raw: bool, word: u64, left: usize) -> Kind
-    ensures { result ≡ kind_read raw (word_bits word left) }
+// The kind of the value that the bits ahead begin with: `0` keeps the window, `10` repeats, `11` sets a window.
+fn kind_of(raw: bool, ahead: Ahead) -> Kind
+    ensures { result ≡ kind_read raw (word_bits ahead.word ahead.left) }
 {
     if raw {
         return Kind::Raw;
     }
-    if left < 1 {
+    if ahead.left < 1 {
         return Kind::Raw;
     }
-    let head = word >> 62;
+    let head = ahead.word >> 62;
     if head < 2 {
         return Kind::Keep;
     }
-    if left < 2 {
+    if ahead.left < 2 {
         return Kind::Raw;
     }
     if head == 2 {

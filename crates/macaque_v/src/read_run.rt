@@ -46,7 +46,7 @@ fn one_more(bytes: &[u8], first: bool, at: Cursor) -> Result<Cursor, Stop>
     let raw = first & (at.count == 0);
     let set = at.lead != MacaqueV::OPENING_LEADING;
     let ahead = decode::look(bytes, at.place);
-    let got = decode::decode(raw, ahead.word, ahead.left, set, at.lead, at.trail, at.last)?;
+    let got = ahead.decode(raw, set, at.lead, at.trail, at.last)?;
     Ok(Cursor {
         last: got.value,
         lead: got.lead,

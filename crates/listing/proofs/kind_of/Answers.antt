@@ -11,29 +11,29 @@ pub returns-then-raw : goal.returns-then-raw
 unfolding kind_read
 returns-then-raw c =
     let a = c.args in
-    sym (ap (λ (r : Bool). kind_read r (bits_in a.word a.left)) c.if-raw.true)
+    sym (ap (λ (r : Bool). kind_read r (bits_in a.ahead.word a.ahead.left)) c.if-raw.true)
 
-pub returns-then-left-lt1 : goal.returns-then-left-lt1
-returns-then-left-lt1 c =
+pub returns-then-ahead-lt1 : goal.returns-then-left-lt1
+returns-then-ahead-lt1 c =
     let a = c.args in
-    sym (ap (λ (r : Bool). kind_read r (bits_in a.word a.left)) c.if-raw.false ∙ kind-none a.word a.left (omega arith))
+    sym (ap (λ (r : Bool). kind_read r (bits_in a.ahead.word a.ahead.left)) c.if-raw.false ∙ kind-none a.ahead.word a.ahead.left (omega arith))
 
 pub returns-then-head-lt2 : goal.returns-then-head-lt2
 returns-then-head-lt2 c =
     let a = c.args in
-    sym (ap (λ (r : Bool). kind_read r (bits_in a.word a.left)) c.if-raw.false ∙ kind-keep a.word a.left (omega arith) (omega arith))
+    sym (ap (λ (r : Bool). kind_read r (bits_in a.ahead.word a.ahead.left)) c.if-raw.false ∙ kind-keep a.ahead.word a.ahead.left (omega arith) (omega arith))
 
-pub returns-then-left-lt2 : goal.returns-then-left-lt2
-returns-then-left-lt2 c =
+pub returns-then-ahead-lt2 : goal.returns-then-left-lt2
+returns-then-ahead-lt2 c =
     let a = c.args in
-    sym (ap (λ (r : Bool). kind_read r (bits_in a.word a.left)) c.if-raw.false ∙ kind-short a.word (omega arith) (top_small a.word (omega arith)) a.left (omega arith) (omega arith))
+    sym (ap (λ (r : Bool). kind_read r (bits_in a.ahead.word a.ahead.left)) c.if-raw.false ∙ kind-short a.ahead.word (omega arith) (top_small a.ahead.word (omega arith)) a.ahead.left (omega arith) (omega arith))
 
 pub returns-then-head-eq2 : goal.returns-then-head-eq2
 returns-then-head-eq2 c =
     let a = c.args in
-    sym (ap (λ (r : Bool). kind_read r (bits_in a.word a.left)) c.if-raw.false ∙ kind-same a.word (omega arith) (top_small a.word (omega arith)) a.left (omega arith) (omega arith))
+    sym (ap (λ (r : Bool). kind_read r (bits_in a.ahead.word a.ahead.left)) c.if-raw.false ∙ kind-same a.ahead.word (omega arith) (top_small a.ahead.word (omega arith)) a.ahead.left (omega arith) (omega arith))
 
 pub returns : goal.returns
 returns c =
     let a = c.args in
-    sym (ap (λ (r : Bool). kind_read r (bits_in a.word a.left)) c.if-raw.false ∙ kind-new a.word (omega arith) (top_small a.word (omega arith)) a.left (omega arith) (omega arith))
+    sym (ap (λ (r : Bool). kind_read r (bits_in a.ahead.word a.ahead.left)) c.if-raw.false ∙ kind-new a.ahead.word (omega arith) (top_small a.ahead.word (omega arith)) a.ahead.left (omega arith) (omega arith))

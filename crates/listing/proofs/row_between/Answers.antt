@@ -18,6 +18,6 @@ returns c =
     let first = eqb a.at.count 0 in
     ap {B = Fields} (λ (k : Kind). record { kind = k; lead = a.next.lead; bits = a.next.place - a.at.place; value = a.next.last })
     (c.kind_of-kind.ensures
-    ∙ ap (kind_read first) c.look-ahead.ensures.bits
+    ∙ ap (kind_read first) c.look-ahead.ensures
     ∙ kind-of-45 first bs
     ∙ ap (λ (r : Bool). kind_read r bs) (raw-is true a.at.count))

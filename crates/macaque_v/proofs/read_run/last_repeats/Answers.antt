@@ -12,6 +12,6 @@ take_repeats-requires c =
       omega arith,
       omega arith,
       omega (arith, k.ensures.wanted),
-      repeats-ahead s.args.bytes.now s.args.at.place ahead.result s.requires.0.within ahead.ensures k.result k.ensures.top (omega (arith, k.ensures.wanted)),
+      repeats-ahead s.args.bytes.now s.args.at.place ahead.result.word ahead.result.left ahead.result.few s.requires.0.within ahead.ensures k.result k.ensures.top (omega (arith, k.ensures.wanted)),
       λ some. omega (arith, k.ensures.free some),
     )

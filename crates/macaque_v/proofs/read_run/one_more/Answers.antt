@@ -23,11 +23,11 @@ step : (c : After-decode)
 step c =
     let a = c.args in
     sym (c.decode.ensures
-    ∙ ap (read_one macaque (a.first && eqb a.at.count 0) (window_in a.at.lead a.at.trail) a.at.last) c.look-ahead.ensures.bits)
+    ∙ ap (read_one macaque (a.first && eqb a.at.count 0) (window_in a.at.lead a.at.trail) a.at.last) c.look-ahead.ensures)
 
 pub decode-requires : goal.decode-requires
 decode-requires c =
-    (c.look-ahead.ensures.most, twice (eqb c.args.at.lead opening.lead), c.requires.0.held)
+    (twice (eqb c.args.at.lead opening.lead), c.requires.0.held)
   where
     twice : (b : Bool) → b ≡ not (not b)
     twice true = refl
