@@ -6,13 +6,12 @@ ghost use Rattle.models.specs.Calls.{said_by};
 ghost use Rattle.models.specs.Limits.{most_values};
 ghost use Rattle.stream.specs.Read.{buffer_after};
 ghost use Rattle.macaque_v.specs.State.{is_first};
-ghost use Rattle.macaque_v.specs.Inner.ReadRun.{ReadableAt};
 ghost use Rattle.macaque_v.specs.Read.{start_of, grid_causes, drawn, grid_answer, grid_memory, sum_answer};
 ghost use Rattle.macaque_v.specs.Inner.Read.{values_from, drawn_at, end_where};
 ghost use Rattle.macaque_v.specs.Read.{reopen_causes, reopen_answer, reopen_memory};
 ghost use Rattle.macaque_v.specs.Inner.Read.{reopening, resumed, OpensAs, EndsIn, opened_behind, cut_behind};
 
-use crate::read_run::{Aim, Cursor, Tally};
+use crate::read_run::{Aim, Cursor, Source, Tally};
 use crate::{MacaqueV, Opening, read_run, write};
 use models::{ErrorBound, Refusal};
 
@@ -24,15 +23,7 @@ pub fn grid(bytes: &[u8], count: usize, opening: Opening, out: &mut [u32]) -> Re
     ensures values { out.new ≡ grid_memory bytes.now count opening out.old }
 {
     judge_grid(count, out.len())?;
-    draw(
-        bytes,
-        is_first(opening),
-        start(opening),
-        count,
-        0,
-        out,
-        true,
-    )
+    Source::open(bytes, opening).draw(count, 0, out, true)
 }
 
 // The sum of the values of a stream, `count` of them.
@@ -42,13 +33,7 @@ pub fn sum(bytes: &[u8], count: usize, opening: Opening) -> Result<u32, Refusal>
     if MacaqueV::MOST_VALUES < count {
         return Err(Refusal::OverLimit);
     }
-    let (_, tally) = read_run::go_to_end(
-        bytes,
-        is_first(opening),
-        start(opening),
-        count,
-        Aim::Sum,
-    )?;
+    let (_, tally) = Source::open(bytes, opening).go_to_end(count, Aim::Sum)?;
     Ok(numbers::bits_of_f32(tally.sum))
 }
 
@@ -131,44 +116,51 @@ pub fn start(opening: Opening) -> Cursor
     }
 }
 
-// ---- drawing
-
-// The next n values, to the places of `out` from i on, a block at a time: what stands behind a block is read and found right before the block
-// is copied. The array has 28 places more than a block takes. They are the stream's last ones where `whole` is true, and nothing may follow them then.
-pub fn draw(
-    bytes: &[u8],
-    first: bool,
-    at: Cursor,
-    n: usize,
-    i: usize,
-    out: &mut [u32],
-    whole: bool,
-) -> Result<(), Refusal>
-    requires { ReadableAt bytes.now at × (at.count + n ≤ most_values) × (i + n ≤ length out.old) }
-    ensures answer { said_by result ≡ drawn (values_from whole first bytes.now at n) }
-    ensures values { out.new ≡ drawn_at i out.old (values_from whole first bytes.now at n) }
-{
-    let mut values = [0u32; 1052];
-    let k = n.min(1024);
-    let to = read_run::fill(bytes, first, at, k, &mut values)?;
-    if k < n {
-        draw(bytes, first, to, n - k, i + k, out, whole)?;
-    } else {
-        judge_behind(bytes, to, whole)?;
+impl<'a> Source<'a> {
+    // Before the first value of a stream.
+    pub fn open(bytes: &'a [u8], opening: Opening) -> Source<'a>
+        ensures { (result.bytes.now ≡ bytes.now) × (result.first ≡ is_first opening) × (result.at ≡ start_of opening) }
+    {
+        Source {
+            bytes,
+            first: is_first(opening),
+            at: start(opening),
+        }
     }
-    read_run::copy(&values, k, i, out);
-    Ok(())
 }
 
-// What may follow the last value: nothing, where it is the stream's last.
-fn judge_behind(bytes: &[u8], to: Cursor, whole: bool) -> Result<(), Refusal>
-    requires { ReadableAt bytes.now to × (to.count ≤ most_values) }
-    ensures { said_by result ≡ end_where whole bytes.now to }
-{
-    if whole {
-        return read_run::judge_end(bytes, to);
+// ---- drawing
+
+impl<'a> Source<'a> {
+    // The next n values, to the places of `out` from i on, a block at a time: what stands behind a block is read and found right before the block
+    // is copied. The array has 28 places more than a block takes. They are the stream's last ones where `whole` is true, and nothing may follow them then.
+    pub fn draw(self, n: usize, i: usize, out: &mut [u32], whole: bool) -> Result<(), Refusal>
+        requires { (self.at.count + n ≤ most_values) × (i + n ≤ length out.old) }
+        ensures answer { said_by result ≡ drawn (values_from whole self.entry.first self.entry.bytes.now self.entry.at n) }
+        ensures values { out.new ≡ drawn_at i out.old (values_from whole self.entry.first self.entry.bytes.now self.entry.at n) }
+    {
+        let mut values = [0u32; 1052];
+        let k = n.min(1024);
+        let to = self.fill(k, &mut values)?;
+        if k < n {
+            self.behind(to).draw(n - k, i + k, out, whole)?;
+        } else {
+            self.behind(to).judge_behind(whole)?;
+        }
+        read_run::copy(&values, k, i, out);
+        Ok(())
     }
-    Ok(())
+
+    // What may follow the last value: nothing, where it is the stream's last.
+    fn judge_behind(self, whole: bool) -> Result<(), Refusal>
+        requires { self.at.count ≤ most_values }
+        ensures { said_by result ≡ end_where whole self.entry.bytes.now self.entry.at }
+    {
+        if whole {
+            return self.judge_end();
+        }
+        Ok(())
+    }
 }
 
 // ---- reopening
@@ -183,9 +175,9 @@ fn state_at(
     requires { (k ≤ count) × (count ≤ most_values) }
     ensures { OpensAs (reopening bytes.now count k opening) bytes.now result }
 {
-    let first = is_first(opening);
-    let (at, tally) = read_run::go_through(bytes, first, start(opening), k, Aim::All)?;
-    read_run::go_to_end(bytes, first, at, count - k, Aim::Nothing)?;
+    let source = Source::open(bytes, opening);
+    let (at, tally) = source.go_through(k, Aim::All)?;
+    source.behind(at).go_to_end(count - k, Aim::Nothing)?;
     Ok((at, tally))
 }
 

@@ -27,34 +27,212 @@ pub struct Cursor {
     pub count: usize,
 }
 
-// ---- into an array
-
-// One value more, or the refusal with its place.
-pub fn next(bytes: &[u8], first: bool, at: Cursor) -> Result<Cursor, Refusal>
-    requires { ReadableAt bytes.now at × (at.count < most_values) }
-    ensures { NextSays first bytes.now at result }
-{
-    one_more(bytes, first, at).map_err(|s| refusal_of(s, at))
+// A stream, whether its first value stands in full, and where reading stands in it: from there it may be read on.
+#[derive(Clone, Copy)]
+pub struct Source<'a> {
+    pub bytes: &'a [u8],
+    pub first: bool,
+    pub at: Cursor,
+    pub ghost readable: { ReadableAt bytes.now at },
 }
 
-// One value more, by its code: the step of every reading call. (`read_on` and `repeats` take what follows in the same window at once.)
-// What stops it is told without its place: that is where reading stood.
-fn one_more(bytes: &[u8], first: bool, at: Cursor) -> Result<Cursor, Stop>
-    requires { ReadableAt bytes.now at × (at.count < most_values) }
-    ensures { StrideSays first bytes.now at result }
-{
-    let raw = first & (at.count == 0);
-    let set = at.lead != MacaqueV::OPENING_LEADING;
-    let ahead = decode::look(bytes, at.place);
-    let got = ahead.decode(raw, set, at.lead, at.trail, at.last)?;
-    Ok(Cursor {
-        last: got.value,
-        lead: got.lead,
-        trail: got.trail,
-        place: at.place + got.used,
-        count: at.count + 1,
-    })
+impl<'a> Source<'a> {
+    // The same stream, where reading stands at `at`.
+    pub fn behind(self, at: Cursor) -> Source<'a>
+        requires { ReadableAt self.bytes.now at }
+        ensures { (result.bytes.now ≡ self.entry.bytes.now) × (result.first ≡ self.entry.first) × (result.at ≡ at) }
+    {
+        Source {
+            bytes: self.bytes,
+            first: self.first,
+            at,
+        }
+    }
+
+    // ---- into an array
+
+    // One value more, or the refusal with its place.
+    pub fn next(self) -> Result<Cursor, Refusal>
+        requires { self.at.count < most_values }
+        ensures { NextSays self.entry.first self.entry.bytes.now self.entry.at result }
+    {
+        self.one_more().map_err(|s| refusal_of(s, self.at))
+    }
+
+    // One value more, by its code: the step of every reading call. (`read_on` and `repeats` take what follows in the same window at once.)
+    // What stops it is told without its place: that is where reading stood.
+    fn one_more(self) -> Result<Cursor, Stop>
+        requires { self.at.count < most_values }
+        ensures { StrideSays self.entry.first self.entry.bytes.now self.entry.at result }
+    {
+        let at = self.at;
+        let raw = self.first & (at.count == 0);
+        let set = at.lead != MacaqueV::OPENING_LEADING;
+        let ahead = decode::look(self.bytes, at.place);
+        let got = ahead.decode(raw, set, at.lead, at.trail, at.last)?;
+        Ok(Cursor {
+            last: got.value,
+            lead: got.lead,
+            trail: got.trail,
+            place: at.place + got.used,
+            count: at.count + 1,
+        })
+    }
+
+    // The next n values, into the first places of `out`. Those behind them may change too: callers hand over arrays of their own.
+    pub fn fill(self, n: usize, out: &mut [u32]) -> Result<Cursor, Refusal>
+        requires { (self.at.count + n ≤ most_values) × (n ≤ length out.old) }
+        ensures { FillSays self.entry.first self.entry.bytes.now self.entry.at n out.old out.new result }
+    {
+        let mut at = self.at;
+        let mut i: usize = 0;
+        // A turn takes a value and what follows it in the same window, so no range counts the turns.
+        while i < n {
+            match self.behind(at).one_more() {
+                Err(s) => {
+                    return Err(refusal_of(s, at));
+                }
+                Ok(to) => {
+                    let same = to.place == at.place + 2;
+                    out[i] = to.last;
+                    at = self.behind(to).go_on(same, i + 1, n, out);
+                    i = i + 1 + (at.count - to.count);
+                }
+            }
+        }
+        Ok(at)
+    }
+
+    // Values in the last window and repeats, as long as they come; in the last bytes of the stream, behind a value of two bits (`same`), repeats alone.
+    fn go_on(self, same: bool, i: usize, n: usize, out: &mut [u32]) -> Cursor
+        requires { (0 < self.at.count) × (self.at.count + n ≤ most_values + i) × (i ≤ n) × (n ≤ length out.old) }
+        ensures { ReadsOn self.entry.first self.entry.bytes.now self.entry.at i n out.old out.new result }
+    {
+        if same & (self.bytes.len() - self.at.place / 8 < 8) {
+            return self.last_repeats(i, n, out);
+        }
+        self.read_on(i, n, out)
+    }
+
+    // The values in the last window and the repeats that stand behind a value, as long as they come, into the places from i on.
+    fn read_on(self, i: usize, n: usize, out: &mut [u32]) -> Cursor
+        requires { (0 < self.at.count) × (self.at.count + n ≤ most_values + i) × (i ≤ n) × (n ≤ length out.old) }
+        ensures { ReadsOn self.entry.first self.entry.bytes.now self.entry.at i n out.old out.new result }
+    {
+        let bytes = self.bytes;
+        let from = self.at;
+        let lead = from.lead;
+        let trail = from.trail;
+        if lead == MacaqueV::OPENING_LEADING {
+            return self.repeats(i, n, out);
+        }
+        let step = (33 - lead - trail) as usize;
+        let mut last = from.last;
+        let mut place = from.place;
+        let mut j = i;
+        // A turn takes a value or some repeats.
+        while j < n {
+            let word = decode::word_ahead(bytes, place);
+            if (word >> 63) == 0 {
+                last = last ^ decode::in_place(word, lead, trail);
+                out[j] = last;
+                place += step;
+                j += 1;
+            } else {
+                let k = at_once(word, out.len() - j, n - j);
+                if k == 0 {
+                    return further(from, last, place, j - i);
+                }
+                spread(out, j, last);
+                place += 2 * k;
+                j += k;
+            }
+        }
+        further(from, last, place, j - i)
+    }
+
+    // The repeats that stand behind a value, 28 at most and where `out` has room for so many, into the places from i on.
+    fn repeats(self, i: usize, n: usize, out: &mut [u32]) -> Cursor
+        requires { (0 < self.at.count) × (self.at.count + n ≤ most_values + i) × (i ≤ n) × (n ≤ length out.old) }
+        ensures { ReadsOn self.entry.first self.entry.bytes.now self.entry.at i n out.old out.new result }
+    {
+        let k = at_once(decode::word_ahead(self.bytes, self.at.place), out.len() - i, n - i);
+        self.take_repeats(k, i, n, out)
+    }
+
+    // The same where the stream has fewer than eight bytes from the place on.
+    fn last_repeats(self, i: usize, n: usize, out: &mut [u32]) -> Cursor
+        requires { (0 < self.at.count) × (self.at.count + n ≤ most_values + i) × (i ≤ n) × (n ≤ length out.old) × (length self.bytes.now < self.at.place / 8 + 8) }
+        ensures { ReadsOn self.entry.first self.entry.bytes.now self.entry.at i n out.old out.new result }
+    {
+        let ahead = decode::look_at_end(self.bytes, self.at.place);
+        let k = at_once(ahead.word, out.len() - i, (ahead.left / 2).min(n - i));
+        self.take_repeats(k, i, n, out)
+    }
+
+    // The k repeats that stand at the place, into the places from i on; what is spread behind them is filled later, or lies behind what was asked for.
+    fn take_repeats(self, k: usize, i: usize, n: usize, out: &mut [u32]) -> Cursor
+        requires { (0 < self.at.count) × (self.at.count + n ≤ most_values + i) × (i + k ≤ n) × RepeatsAt self.bytes.now self.at.place k × (0 < k → i + 28 ≤ length out.old) }
+        ensures { ReadsOn self.entry.first self.entry.bytes.now self.entry.at i n out.old out.new result }
+    {
+        let at = self.at;
+        if k == 0 {
+            return at;
+        }
+        spread(out, i, at.last);
+        further(at, at.last, at.place + 2 * k, k)
+    }
+
+    // ---- through a small array
+
+    // The next n values, and what is taken in of them. The array has 28 places more than are asked for, so that repeats are taken at once up to the last.
+    pub fn go_through(self, n: usize, aim: Aim) -> Result<(Cursor, Tally), Refusal>
+        requires { self.at.count + n ≤ most_values }
+        ensures { WalkSays self.entry.first self.entry.bytes.now self.entry.at n aim result }
+    {
+        let mut values = [0u32; 1052];
+        let mut at = self.at;
+        let mut tally = Tally {
+            sum: 0.0,
+            min: models::FRESH_BITS,
+            max: models::FRESH_BITS,
+        };
+        let mut read: usize = 0;
+        // The last part is shorter than the others: a range in steps of 1024 would end behind it.
+        while read < n {
+            let k = (n - read).min(1024);
+            let to = self.behind(at).fill(k, &mut values)?;
+            tally = taken_in(aim, self.first, at.count, tally, &values[..k]);
+            at = to;
+            read += k;
+        }
+        Ok((at, tally))
+    }
+
+    // A stream's last n values: nothing may follow them.
+    pub fn go_to_end(self, n: usize, aim: Aim) -> Result<(Cursor, Tally), Refusal>
+        requires { self.at.count + n ≤ most_values }
+        ensures { WholeSays self.entry.first self.entry.bytes.now self.entry.at n aim result }
+    {
+        let (to, tally) = self.go_through(n, aim)?;
+        self.behind(to).judge_end()?;
+        Ok((to, tally))
+    }
+
+    // Whether the stream ends where reading stands.
+    pub fn judge_end(self) -> Result<(), Refusal>
+        requires { self.at.count ≤ most_values }
+        ensures { said_by result ≡ end_said self.entry.bytes.now self.entry.at }
+    {
+        let value = self.at.count as u32;
+        match left_behind(self.bytes, self.at.place) {
+            None => Ok(()),
+            Some(place) => Err(Refusal::Leftover { value, place }),
+        }
+    }
 }
+
+// ---- the steps
 
 // The refusal that a stop is: of the value behind those that were read, whose code begins where reading stands.
 fn refusal_of(stop: Stop, at: Cursor) -> Refusal
@@ -70,90 +248,6 @@ fn refusal_of(stop: Stop, at: Cursor) -> Refusal
     }
 }
 
-// The next n values, into the first places of `out`. Those behind them may change too: callers hand over arrays of their own.
-pub fn fill(
-    bytes: &[u8],
-    first: bool,
-    from: Cursor,
-    n: usize,
-    out: &mut [u32],
-) -> Result<Cursor, Refusal>
-    requires { ReadableAt bytes.now from × (from.count + n ≤ most_values) × (n ≤ length out.old) }
-    ensures { FillSays first bytes.now from n out.old out.new result }
-{
-    let mut at = from;
-    let mut i: usize = 0;
-    // A turn takes a value and what follows it in the same window, so no range counts the turns.
-    while i < n {
-        match one_more(bytes, first, at) {
-            Err(s) => {
-                return Err(refusal_of(s, at));
-            }
-            Ok(to) => {
-                let same = to.place == at.place + 2;
-                out[i] = to.last;
-                at = go_on(bytes, first, same, to, i + 1, n, out);
-                i = i + 1 + (at.count - to.count);
-            }
-        }
-    }
-    Ok(at)
-}
-
-// Values in the last window and repeats, as long as they come; in the last bytes of the stream, behind a value of two bits (`same`), repeats alone.
-fn go_on(
-    bytes: &[u8],
-    first: bool,
-    same: bool,
-    from: Cursor,
-    i: usize,
-    n: usize,
-    out: &mut [u32],
-) -> Cursor
-    requires { ReadableAt bytes.now from × (0 < from.count) × (from.count + n ≤ most_values + i) × (i ≤ n) × (n ≤ length out.old) }
-    ensures { ReadsOn first bytes.now from i n out.old out.new result }
-{
-    if same & (bytes.len() - from.place / 8 < 8) {
-        return last_repeats(bytes, first, from, i, n, out);
-    }
-    read_on(bytes, first, from, i, n, out)
-}
-
-// The values in the last window and the repeats that stand behind a value, as long as they come, into the places from i on.
-fn read_on(bytes: &[u8], first: bool, from: Cursor, i: usize, n: usize, out: &mut [u32]) -> Cursor
-    requires { ReadableAt bytes.now from × (0 < from.count) × (from.count + n ≤ most_values + i) × (i ≤ n) × (n ≤ length out.old) }
-    ensures { ReadsOn first bytes.now from i n out.old out.new result }
-{
-    let lead = from.lead;
-    let trail = from.trail;
-    if lead == MacaqueV::OPENING_LEADING {
-        return repeats(bytes, first, from, i, n, out);
-    }
-    let step = (33 - lead - trail) as usize;
-    let mut last = from.last;
-    let mut place = from.place;
-    let mut j = i;
-    // A turn takes a value or some repeats.
-    while j < n {
-        let word = decode::word_ahead(bytes, place);
-        if (word >> 63) == 0 {
-            last = last ^ decode::in_place(word, lead, trail);
-            out[j] = last;
-            place += step;
-            j += 1;
-        } else {
-            let k = at_once(word, out.len() - j, n - j);
-            if k == 0 {
-                return further(from, last, place, j - i);
-            }
-            spread(out, j, last);
-            place += 2 * k;
-            j += k;
-        }
-    }
-    further(from, last, place, j - i)
-}
-
 // Where reading stands behind so many values more in the same window.
 fn further(from: Cursor, last: u32, place: usize, more: usize) -> Cursor
     requires { from.count + more ≤ most_values }
@@ -165,52 +259,6 @@ fn further(from: Cursor, last: u32, place: usize, more: usize) -> Cursor
         count: from.count + more,
         ..from
     }
-}
-
-// The repeats that stand behind a value, 28 at most and where `out` has room for so many, into the places from i on.
-fn repeats(bytes: &[u8], first: bool, at: Cursor, i: usize, n: usize, out: &mut [u32]) -> Cursor
-    requires { ReadableAt bytes.now at × (0 < at.count) × (at.count + n ≤ most_values + i) × (i ≤ n) × (n ≤ length out.old) }
-    ensures { ReadsOn first bytes.now at i n out.old out.new result }
-{
-    let k = at_once(decode::word_ahead(bytes, at.place), out.len() - i, n - i);
-    take_repeats(bytes, first, at, k, i, n, out)
-}
-
-// The same where the stream has fewer than eight bytes from the place on.
-fn last_repeats(
-    bytes: &[u8],
-    first: bool,
-    at: Cursor,
-    i: usize,
-    n: usize,
-    out: &mut [u32],
-) -> Cursor
-    requires { ReadableAt bytes.now at × (0 < at.count) × (at.count + n ≤ most_values + i) × (i ≤ n) × (n ≤ length out.old) × (length bytes.now < at.place / 8 + 8) }
-    ensures { ReadsOn first bytes.now at i n out.old out.new result }
-{
-    let ahead = decode::look_at_end(bytes, at.place);
-    let k = at_once(ahead.word, out.len() - i, (ahead.left / 2).min(n - i));
-    take_repeats(bytes, first, at, k, i, n, out)
-}
-
-// The k repeats that stand at the place, into the places from i on; what is spread behind them is filled later, or lies behind what was asked for.
-fn take_repeats(
-    bytes: &[u8],
-    first: bool,
-    at: Cursor,
-    k: usize,
-    i: usize,
-    n: usize,
-    out: &mut [u32],
-) -> Cursor
-    requires { ReadableAt bytes.now at × (0 < at.count) × (at.count + n ≤ most_values + i) × (i + k ≤ n) × RepeatsAt bytes.now at.place k × (0 < k → i + 28 ≤ length out.old) }
-    ensures { ReadsOn first bytes.now at i n out.old out.new result }
-{
-    if k == 0 {
-        return at;
-    }
-    spread(out, i, at.last);
-    further(at, at.last, at.place + 2 * k, k)
 }
 
 // How many repeats a word begins with, and no more than `left`; none where there is no room for 28 values.
@@ -239,7 +287,23 @@ pub fn copy(values: &[u32], n: usize, i: usize, out: &mut [u32])
     out[i..i + n].copy_from_slice(&values[..n]);
 }
 
-// ---- through a small array
+// Where what follows a place begins, if anything does: at the first set padding bit, else at the first further byte's first bit.
+fn left_behind(bytes: &[u8], place: usize) -> Option<usize>
+    requires { (place ≤ 8 * length bytes.now) × (place + 7 < 2 ^ 64) }
+    ensures { says_behind result ≡ leftover place (drop place (bits_of bytes.now)) }
+{
+    let whole = place.div_ceil(8);
+    let padding = bits::get(bytes, place, 8 * whole - place);
+    if padding != 0 {
+        return Some(8 * whole - ((64 - u64::leading_zeros(padding)) as usize));
+    }
+    if whole < bytes.len() {
+        return Some(8 * whole);
+    }
+    None
+}
+
+// ---- what is taken in
 
 // What is taken in of the values: nothing, their sum, or all that a writer's state knows of them. (A function in its place would be no plainer: what
 // `tallied` says in three cases, each of its callers would have to say of it.)
@@ -255,80 +319,6 @@ pub struct Tally {
     pub sum: f32,
     pub min: u32,
     pub max: u32,
-}
-
-// The next n values, and what is taken in of them. The array has 28 places more than are asked for, so that repeats are taken at once up to the last.
-pub fn go_through(
-    bytes: &[u8],
-    first: bool,
-    from: Cursor,
-    n: usize,
-    aim: Aim,
-) -> Result<(Cursor, Tally), Refusal>
-    requires { ReadableAt bytes.now from × (from.count + n ≤ most_values) }
-    ensures { WalkSays first bytes.now from n aim result }
-{
-    let mut values = [0u32; 1052];
-    let mut at = from;
-    let mut tally = Tally {
-        sum: 0.0,
-        min: models::FRESH_BITS,
-        max: models::FRESH_BITS,
-    };
-    let mut read: usize = 0;
-    // The last part is shorter than the others: a range in steps of 1024 would end behind it.
-    while read < n {
-        let k = (n - read).min(1024);
-        let to = fill(bytes, first, at, k, &mut values)?;
-        tally = taken_in(aim, first, at.count, tally, &values[..k]);
-        at = to;
-        read += k;
-    }
-    Ok((at, tally))
-}
-
-// A stream's last n values: nothing may follow them.
-pub fn go_to_end(
-    bytes: &[u8],
-    first: bool,
-    from: Cursor,
-    n: usize,
-    aim: Aim,
-) -> Result<(Cursor, Tally), Refusal>
-    requires { ReadableAt bytes.now from × (from.count + n ≤ most_values) }
-    ensures { WholeSays first bytes.now from n aim result }
-{
-    let (to, tally) = go_through(bytes, first, from, n, aim)?;
-    judge_end(bytes, to)?;
-    Ok((to, tally))
-}
-
-// Whether the stream ends where reading stands.
-pub fn judge_end(bytes: &[u8], at: Cursor) -> Result<(), Refusal>
-    requires { ReadableAt bytes.now at × (at.count ≤ most_values) }
-    ensures { said_by result ≡ end_said bytes.now at }
-{
-    let value = at.count as u32;
-    match left_behind(bytes, at.place) {
-        None => Ok(()),
-        Some(place) => Err(Refusal::Leftover { value, place }),
-    }
-}
-
-// Where what follows a place begins, if anything does: at the first set padding bit, else at the first further byte's first bit.
-fn left_behind(bytes: &[u8], place: usize) -> Option<usize>
-    requires { (place ≤ 8 * length bytes.now) × (place + 7 < 2 ^ 64) }
-    ensures { says_behind result ≡ leftover place (drop place (bits_of bytes.now)) }
-{
-    let whole = place.div_ceil(8);
-    let padding = bits::get(bytes, place, 8 * whole - place);
-    if padding != 0 {
-        return Some(8 * whole - ((64 - u64::leading_zeros(padding)) as usize));
-    }
-    if whole < bytes.len() {
-        return Some(8 * whole);
-    }
-    None
 }
 
 // The values, behind `count` others.

@@ -6,8 +6,8 @@ ghost use Rattle.models.specs.Limits.{most_values};
 ghost use Rattle.macaque_v.specs.Read.{rescue_causes, rescue_answer, rescue_memory};
 ghost use Rattle.macaque_v.specs.Inner.Read.{rescuing, OpensAs};
 
-use crate::read_run::{Aim, Cursor, Tally};
-use crate::{MacaqueV, Opening, read, read_run};
+use crate::read_run::{Aim, Cursor, Source, Tally};
+use crate::{MacaqueV, Opening, read};
 use models::{ErrorBound, Refusal};
 
 impl MacaqueV {
@@ -47,13 +47,12 @@ pub fn arrived(bytes: &[u8], limit: usize, opening: Opening) -> Result<(Cursor, 
     requires { limit ≤ most_values }
     ensures { OpensAs (rescuing bytes.now limit opening) bytes.now result }
 {
-    let first = read::is_first(opening);
-    let at = read::start(opening);
-    match read_run::go_through(bytes, first, at, limit, Aim::All) {
+    let source = Source::open(bytes, opening);
+    match source.go_through(limit, Aim::All) {
         Ok(found) => Ok(found),
         Err(r) => match r {
             Refusal::EndsEarly { value, .. } => {
-                read_run::go_through(bytes, first, at, value as usize, Aim::All)
+                source.go_through(value as usize, Aim::All)
             }
             _ => Err(r),
         },

@@ -13,7 +13,7 @@ returns-then-raw c =
     let a = c.args in
     sym (ap (λ (r : Bool). kind_read r (bits_in a.ahead.word a.ahead.left)) c.if-raw.true)
 
-pub returns-then-ahead-lt1 : goal.returns-then-left-lt1
+pub returns-then-ahead-lt1 : goal.returns-then-ahead-lt1
 returns-then-ahead-lt1 c =
     let a = c.args in
     sym (ap (λ (r : Bool). kind_read r (bits_in a.ahead.word a.ahead.left)) c.if-raw.false ∙ kind-none a.ahead.word a.ahead.left (omega arith))
@@ -23,7 +23,7 @@ returns-then-head-lt2 c =
     let a = c.args in
     sym (ap (λ (r : Bool). kind_read r (bits_in a.ahead.word a.ahead.left)) c.if-raw.false ∙ kind-keep a.ahead.word a.ahead.left (omega arith) (omega arith))
 
-pub returns-then-ahead-lt2 : goal.returns-then-left-lt2
+pub returns-then-ahead-lt2 : goal.returns-then-ahead-lt2
 returns-then-ahead-lt2 c =
     let a = c.args in
     sym (ap (λ (r : Bool). kind_read r (bits_in a.ahead.word a.ahead.left)) c.if-raw.false ∙ kind-short a.ahead.word (omega arith) (top_small a.ahead.word (omega arith)) a.ahead.left (omega arith) (omega arith))

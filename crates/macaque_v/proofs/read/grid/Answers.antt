@@ -1,6 +1,6 @@
 -- `macaque_v::read::grid` meets its contract: refused by the first cause that holds, else by the stream, else drawn. Assumes nothing.
-use mathlib.Core.Path.{sym, ap, ap₂, ◌∙◌}
-use mathlib.Core.Bool.{Bool, true}
+use mathlib.Core.Path.{sym, ap, ◌∙◌}
+use mathlib.Core.Bool.{true}
 use Prim.Native.Nat.{◌≤◌}
 use native.Mathlib.Omega.{arith}
 use borrow.Author.Tests.{ltb-false}
@@ -11,8 +11,7 @@ use Rattle.models.proofs.Judged.{none-holds, when-passed, when-refused}
 use Rattle.macaque_v.proofs.Passing.{passed-on}
 use Rattle.macaque_v.specs.Read.{values_in, grid_causes, drawn, grid_answer, grid_memory}
 use Rattle.macaque_v.specs.Inner.Read.{values_from, drawn_at}
-use Rattle.macaque_v.specs.declared.read_run.Cursor.{Cursor}
-use Rattle.macaque_v.proofs.ReadingAll.{starts, same-values}
+use Rattle.macaque_v.proofs.ReadingAll.{same-values}
 use Rattle.macaque_v.proofs.Drawing.{drawn-from-start}
 use Rattle.macaque_v.proofs.read.grid.Goals as goal
 use Rattle.macaque_v.proofs.read.grid.Goals.{In_ok-judge_grid}
@@ -28,9 +27,8 @@ room c =
 pub draw-requires : goal.draw-requires
 draw-requires c =
     let a = c.args in
-    let s = starts a.bytes.now a.opening c.start.result c.start.ensures in
     let h = room (goal.at.draw-requires c).In_ok-judge_grid in
-    (s.0, omega (arith, s.1, h.0), omega (arith, h.1))
+    rw c.open.ensures.2 (omega (arith, h.0), omega (arith, h.1))
 
 pub returns-in_err-judge_grid-clause-answer : goal.returns-in_err-judge_grid-clause-answer
 unfolding grid_answer
@@ -48,11 +46,10 @@ returns c =
     let causes = grid_causes a.count (length a.out.now) in
     let ok = c.in_ok-judge_grid.was in
     let says = c.judge_grid.ensures in
-    let values = ap₂ (λ (first : Bool) (at : Cursor). values_from true first a.bytes.now at a.count)
-    c.is_first.ensures c.start.ensures.0
-    ∙ sym (same-values a.bytes.now a.opening a.count) in record {
-      answer = d.ensures.answer ∙ ap drawn values ∙ when-passed causes _ says refused _ ok;
-      values = d.ensures.values
+    let o = c.open.ensures in
+    let values = sym (same-values a.bytes.now a.opening a.count) in record {
+      answer = (rw (o.0, o.1, o.2) at d.ensures.answer) ∙ ap drawn values ∙ when-passed causes _ says refused _ ok;
+      values = (rw (o.0, o.1, o.2) at d.ensures.values)
           ∙ ap (drawn_at 0 a.out.now) values
           ∙ drawn-from-start a.out.now (values_in a.bytes.now a.count a.opening)
           ∙ when-passed causes _ says (keeping a.out.now) _ ok;

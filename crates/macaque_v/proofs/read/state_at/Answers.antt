@@ -5,7 +5,7 @@ use Prim.Native.Nat.{◌-◌, ◌^◌, ◌<◌}
 use native.Mathlib.Omega.{arith}
 use Rattle.stream.specs.Read.{reopened}
 use Rattle.macaque_v.specs.State.{is_first}
-use Rattle.macaque_v.specs.Inner.ReadRun.{known_in, Walked, WalkSays, WholeSays}
+use Rattle.macaque_v.specs.Inner.ReadRun.{ReadableAt, known_in, Walked, WalkSays, WholeSays}
 use Rattle.macaque_v.specs.Read.{start_of}
 use Rattle.macaque_v.specs.Inner.Read.{state_with}
 use Rattle.macaque_v.specs.declared.read_run.Cursor.{Cursor}
@@ -24,42 +24,41 @@ aside = OfAim.Nothing
 -- what going through the first k values says, from the start
 told : (c : After-go_through)
     → WalkSays (is_first c.args.opening) c.args.bytes.now (start_of c.args.opening) c.args.k OfAim.All c.go_through.result
-told c =
-    let a = c.args in
-    subst₂ (λ (first : Bool) (from : Cursor). WalkSays first a.bytes.now from a.k OfAim.All c.go_through.result)
-    c.is_first-first.ensures c.start.ensures.0 c.go_through.ensures
+told c = rw (c.open-source.ensures.0, c.open-source.ensures.1, c.open-source.ensures.2) at c.go_through.ensures
 
 walked : (c : In_ok-at)
     → Walked (is_first c.args.opening) c.args.bytes.now (start_of c.args.opening) c.args.k OfAim.All c.in_ok-at.at c.in_ok-at.tally
 walked c =
     let a = c.args in
     subst (WalkSays (is_first a.opening) a.bytes.now (start_of a.opening) a.k OfAim.All) c.in_ok-at.was
-    (subst₂ (λ (first : Bool) (from : Cursor). WalkSays first a.bytes.now from a.k OfAim.All c.go_through.result)
-    c.is_first-first.ensures c.start.ensures.0 c.go_through.ensures)
+    (rw (c.open-source.ensures.0, c.open-source.ensures.1, c.open-source.ensures.2) at c.go_through.ensures)
 
 -- and going on to the end
 checked : (c : After-go_to_end)
     → WholeSays (is_first c.args.opening) c.args.bytes.now c.in_ok-at.at (c.args.count - c.args.k) aside c.go_to_end.result
 checked c =
-    let a = c.args in
-    subst (λ (first : Bool). WholeSays first a.bytes.now c.in_ok-at.at (a.count - a.k) aside c.go_to_end.result) c.is_first-first.ensures c.go_to_end.ensures
+    let o = c.open-source.ensures in
+    let b = c.behind.ensures in
+    rw (b.0, b.1, b.2, o.0, o.1) at c.go_to_end.ensures
 
 pub go_through-requires : goal.go_through-requires
-go_through-requires c =
-    let s = starts c.args.bytes.now c.args.opening c.start.result c.start.ensures in
-    (s.0, omega (arith, s.1))
+go_through-requires c = rw c.open-source.ensures.2 (omega arith)
+
+pub behind-requires : goal.behind-requires
+behind-requires c = rw c.open-source.ensures.0 (walked (goal.at.behind-requires c).In_ok-at).reads.readable
 
 pub go_to_end-requires : goal.go_to_end-requires
 go_to_end-requires c =
     let R = (walked (goal.at.go_to_end-requires c).In_ok-at).reads in
-    (R.readable, omega (arith, R.counted))
+    rw c.behind.ensures.2 (omega (arith, R.counted))
 
 pub returns-in_err-at : goal.returns-in_err-at
 returns-in_err-at c =
     let a = c.args in
-    let small = subst (λ (at : Cursor). at.last < 2 ^ 32) c.start.ensures.0 c.start.ensures.1 in
+    let o = c.open-source in
+    let readable : ReadableAt a.bytes.now (start_of a.opening) = rw (o.ensures.0, o.ensures.2) at o.result.readable in
     rw (passed-on c.from_residual.result c.from_residual.ensures.1)
-    (early-unopened a.bytes.now a.opening a.count a.k (omega arith) (start-readable a.bytes.now a.opening small)
+    (early-unopened a.bytes.now a.opening a.count a.k (omega arith) readable
     (subst (WalkSays (is_first a.opening) a.bytes.now (start_of a.opening) a.k OfAim.All) c.in_err-at.was (told (goal.at.returns-in_err-at c).After-go_through)))
 
 pub returns-in_err-go_to_end : goal.returns-in_err-go_to_end

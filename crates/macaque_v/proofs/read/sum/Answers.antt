@@ -1,6 +1,5 @@
 -- `macaque_v::read::sum` meets its contract. Assumes nothing.
-use mathlib.Core.Path.{◌≡◌, sym, ap, ◌∙◌, subst, subst₂}
-use mathlib.Core.Bool.{Bool}
+use mathlib.Core.Path.{◌≡◌, sym, ap, ◌∙◌, subst}
 use native.Mathlib.Omega.{arith}
 use borrow.Author.Tests.{lt-ltb, le-ltb}
 use lib.Ieee.{binary32, to_bits}
@@ -9,11 +8,10 @@ use Rattle.models.specs.Limits.{most_values}
 use Rattle.macaque_v.specs.State.{is_first}
 use Rattle.macaque_v.specs.Inner.ReadRun.{WholeSays}
 use Rattle.macaque_v.specs.Read.{values_in, start_of, summed, sum_answer}
-use Rattle.macaque_v.specs.declared.read_run.Cursor.{Cursor}
 use Rattle.macaque_v.specs.declared.read_run.Aim.TheVariants as OfAim
 use Rattle.macaque_v.specs.declared.read_run.Tally.{Tally}
 use Rattle.macaque_v.proofs.Passing.{passed-on}
-use Rattle.macaque_v.proofs.ReadingAll.{starts, values-right, values-wrong}
+use Rattle.macaque_v.proofs.ReadingAll.{values-right, values-wrong}
 use Rattle.macaque_v.proofs.read.sum.Goals as goal
 use Rattle.macaque_v.proofs.read.sum.Goals.{After-go_to_end, Else-count-gt-MOST_VALUES}
 
@@ -21,10 +19,7 @@ use Rattle.macaque_v.proofs.read.sum.Goals.{After-go_to_end, Else-count-gt-MOST_
 told : (c : After-go_to_end)
     → WholeSays (is_first c.args.opening) c.args.bytes.now
     (start_of c.args.opening) c.args.count OfAim.Sum c.go_to_end.result
-told c =
-    let a = c.args in
-    subst₂ (λ (first : Bool) (from : Cursor). WholeSays first a.bytes.now from a.count OfAim.Sum c.go_to_end.result)
-    c.is_first.ensures c.start.ensures.0 c.go_to_end.ensures
+told c = rw (c.open.ensures.0, c.open.ensures.1, c.open.ensures.2) at c.go_to_end.ensures
 
 -- not too many values
 few : (c : Else-count-gt-MOST_VALUES)
@@ -38,9 +33,7 @@ unfolding sum_answer judge
 returns-then-count-gt-MOST_VALUES c = rw (lt-ltb most_values c.args.count c.if-count-gt-MOST_VALUES.true)
 
 pub go_to_end-requires : goal.go_to_end-requires
-go_to_end-requires c =
-    let s = starts c.args.bytes.now c.args.opening c.start.result c.start.ensures in
-    (s.0, omega (arith, s.1))
+go_to_end-requires c = rw c.open.ensures.2 (omega arith)
 
 pub returns-in_err-tally : goal.returns-in_err-tally
 returns-in_err-tally c =

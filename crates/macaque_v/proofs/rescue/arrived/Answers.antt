@@ -19,10 +19,7 @@ use Rattle.macaque_v.proofs.rescue.arrived.Goals.{In-Err}
 
 -- why there are fewer
 stops : (c : In-Err) → StopsBy (read_from (is_first c.args.opening) c.args.bytes.now (start_of c.args.opening) c.args.limit) c.in-Err.r
-stops c =
-    let a = c.args in
-    subst₂ (λ (first : Bool) (from : Cursor). WalkSays first a.bytes.now from a.limit OfAim.All (Err c.in-Err.r))
-    c.is_first-first.ensures c.start-at.ensures.0 c.in-Err.ensures
+stops c = rw (c.open-source.ensures.0, c.open-source.ensures.1, c.open-source.ensures.2) at c.in-Err.ensures
 
 -- 5 is the number of no other refusal
 other : (r : Refusal) → ((value place : ℕ) → ¬ (r ≡ OfRefusal.EndsEarly value place)) → ¬ ((fault_of r).number ≡ 5)
@@ -41,31 +38,27 @@ other OfRefusal.CountsDisagree n h = absurd (omega arith)
 other OfRefusal.TableDoesNotMatch n h = absurd (omega arith)
 
 pub go_through-requires : goal.go_through-requires
-go_through-requires c =
-    let s = starts c.args.bytes.now c.args.opening c.start-at.result c.start-at.ensures in
-    (s.0, omega (arith, s.1))
+go_through-requires c = rw c.open-source.ensures.2 (omega arith)
 
 pub go_through-requires-in-EndsEarly : goal.go_through-requires-in-EndsEarly
 go_through-requires-in-EndsEarly c =
     let a = c.args in
-    let s = starts a.bytes.now a.opening c.start-at.result c.start-at.ensures in
     let few = few-there a.bytes.now a.opening a.limit c.in-Err.r (stops (goal.at.go_through-requires-in-EndsEarly c).In-Err) in
     let value : (fault_of c.in-Err.r).value ≡ c.in-EndsEarly.value = ap (λ (r : Refusal). (fault_of r).value) c.in-EndsEarly.is in
-    (s.0, omega (arith, s.1, few, value, c.requires))
+    rw c.open-source.ensures.2 (omega (arith, few, value, c.requires))
 
 pub returns-in-Ok : goal.returns-in-Ok
 returns-in-Ok c =
     let a = c.args in
     all-arrived a.bytes.now a.opening a.limit
-    (subst₂ (λ (first : Bool) (from : Cursor). WalkSays first a.bytes.now from a.limit OfAim.All (Ok c.in-Ok.found))
-    c.is_first-first.ensures c.start-at.ensures.0 c.in-Ok.ensures)
+    (rw (c.open-source.ensures.0, c.open-source.ensures.1, c.open-source.ensures.2) at c.in-Ok.ensures)
 
 pub returns-in-EndsEarly : goal.returns-in-EndsEarly
 returns-in-EndsEarly c =
     let a = c.args in
     let value = c.in-EndsEarly.value in
-    let says = subst₂ (λ (first : Bool) (from : Cursor). WalkSays first a.bytes.now from value OfAim.All c.go_through-in-EndsEarly.result)
-    c.is_first-first.ensures c.start-at.ensures.0 c.go_through-in-EndsEarly.ensures in
+    let o = c.open-source.ensures in
+    let says = rw (o.0, o.1, o.2) at c.go_through-in-EndsEarly.ensures in
     cut-there a.bytes.now a.opening a.limit c.in-Err.r (stops (goal.at.returns-in-EndsEarly c).In-Err)
     (ap (λ (r : Refusal). (fault_of r).number) c.in-EndsEarly.is) value (sym (ap (λ (r : Refusal). (fault_of r).value) c.in-EndsEarly.is))
     c.go_through-in-EndsEarly.result says

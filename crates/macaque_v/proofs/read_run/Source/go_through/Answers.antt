@@ -11,18 +11,27 @@ use Rattle.macaque_v.specs.declared.read_run.Cursor.{Cursor}
 use Rattle.macaque_v.proofs.Passing.{passed-on}
 use Rattle.macaque_v.proofs.ReadingRun.{then-stops}
 use Rattle.macaque_v.proofs.ReadingTally.{walked_none, walked_more}
-use Rattle.macaque_v.proofs.read_run.go_through.Goals as goal
+use Rattle.macaque_v.proofs.read_run.Source.go_through.Goals as goal
+use Rattle.macaque_v.proofs.read_run.Source.go_through.Goals.{After-fill}
 
 pub loop-read-init : goal.loop-read-init
 unfolding of_bits
 loop-read-init c =
     let a = c.args in
-    (omega arith, refl, walked_none a.first a.bytes.now a.from a.aim c.requires.0)
+    (omega arith, refl, walked_none a.self.first a.self.bytes.now a.self.at a.aim c.args.self.readable)
+
+pub behind-requires : goal.behind-requires
+behind-requires c = c.loop-read.invariant.2.reads.readable
 
 pub fill-requires : goal.fill-requires
 fill-requires c =
     let W = c.loop-read.invariant.2 in
-    (W.reads.readable, omega (arith, W.reads.counted), omega arith)
+    rw c.behind.ensures.2 (omega (arith, W.reads.counted), omega arith)
+
+-- what the next values say
+said : (c : After-fill)
+    → FillSays c.args.self.first c.args.self.bytes.now c.loop-read.at c.min-k.result c.loop-read.values c.fill.new.out c.fill.result
+said c = rw (c.behind.ensures.0, c.behind.ensures.1, c.behind.ensures.2) at c.fill.ensures
 
 pub returns-in_err-to : goal.returns-in_err-to
 returns-in_err-to c =
@@ -31,8 +40,8 @@ returns-in_err-to c =
     let f = c.fill in
     let k = c.min-k.result in
     rw (passed-on c.from_residual.result c.from_residual.ensures.1)
-    (then-stops a.first a.bytes.now l.invariant.2.reads k
-    (subst (λ (q : Result Cursor Refusal). FillSays a.first a.bytes.now l.at k l.values f.new.out q) c.in_err-to.was f.ensures) a.n (omega arith))
+    (then-stops a.self.first a.self.bytes.now l.invariant.2.reads k
+    (subst (FillSays a.self.first a.self.bytes.now l.at k l.values f.new.out) c.in_err-to.was (said (goal.at.returns-in_err-to c).After-fill)) a.n (omega arith))
 
 pub taken_in-tally-requires : goal.taken_in-tally-requires
 taken_in-tally-requires c =
@@ -45,10 +54,10 @@ loop-read-preserved c =
     let f = c.fill in
     let k = c.min-k.result in
     let new = f.new.out in
-    let says = subst (λ (q : Result Cursor Refusal). FillSays a.first a.bytes.now l.at k l.values new q) c.in_ok-to.was f.ensures in (
+    let says = subst (FillSays a.self.first a.self.bytes.now l.at k l.values new) c.in_ok-to.was (said (goal.at.loop-read-preserved c).After-fill) in (
       omega arith,
       omega (arith, f.auto.out),
-      walked_more a.first a.bytes.now a.from a.aim l.read k l.at c.in_ok-to.to l.tally c.taken_in-tally.result (take k new) l.invariant.2 says.0 c.taken_in-tally.ensures,
+      walked_more a.self.first a.self.bytes.now a.self.at a.aim l.read k l.at c.in_ok-to.to l.tally c.taken_in-tally.result (take k new) l.invariant.2 says.0 c.taken_in-tally.ensures,
     )
 
 pub returns : goal.returns
@@ -56,4 +65,4 @@ returns c =
     let a = c.args in
     let l = c.loop-read in
     let e : l.read ≡ a.n = omega arith in
-    subst (λ (n : ℕ). Walked a.first a.bytes.now a.from n a.aim l.at l.tally) e l.invariant.2
+    subst (λ (n : ℕ). Walked a.self.first a.self.bytes.now a.self.at n a.aim l.at l.tally) e l.invariant.2
