@@ -101,6 +101,10 @@ module _ (us : List ℕ) (j : ℕ) (old new : List ℕ) {all : Said (List ℕ)} 
         long = ap length f;
       }
 
+  -- the values are drawn
+  pub right-says : Right us all j old new → ◌≡◌ {A = Said Done} (answered tt) (drawn all)
+  right-says Q = sym (ap drawn Q.are)
+
 -- the block is copied to the places before
 pub right-copied : (us : List ℕ) (i k : ℕ) (old : List ℕ) {new : List ℕ} {all : Said (List ℕ)} → Right us all (i + k) old new → length us ≡ k → i + k ≤ length old
     → take i new ++ (us ++ drop (i + k) new) ≡ drawn_at i old all

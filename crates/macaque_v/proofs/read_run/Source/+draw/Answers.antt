@@ -1,16 +1,14 @@
 -- `macaque_v::read_run::Source::draw` meets its contract: a block is read, what stands behind it is found, and it is copied. Assumes nothing.
 use mathlib.Core.Path.{◌≡◌, sym, ap, ◌∙◌}
-use mathlib.Core.List.{◌++◌}
 use Prim.Native.Nat.{◌+◌, ◌-◌}
 use native.Mathlib.Omega.{arith}
 use lib.ListN.{length, take}
-use Rattle.models.specs.Answers.{answered}
 use Rattle.models.specs.Calls.{said_by}
 use Rattle.models.specs.Refusals.{fault_of}
 use Rattle.macaque_v.specs.Read.{drawn}
 use Rattle.macaque_v.specs.Inner.Read.{values_from, drawn_at, Right}
 use Rattle.macaque_v.proofs.Passing.{passed-on}
-use Rattle.macaque_v.proofs.Drawing.{wrong-where, from_wrong, from-early, from-right, from_then, drawn-behind, refused-behind, right-rest, right-none, right-copied}
+use Rattle.macaque_v.proofs.Drawing.{wrong-where, from_wrong, from-early, from-right, from_then, drawn-behind, refused-behind, right-rest, right-none, right-says, right-copied}
 use Rattle.macaque_v.proofs.read_run.Source.+draw.Goals as goal
 use Rattle.macaque_v.proofs.read_run.Source.+draw.Goals.{then-k-n+in_ok-draw, else-k-n+in_ok-judge_behind}
 
@@ -77,6 +75,6 @@ returns t c =
           w.out-is
     ] in
     record {
-      answer = sym (ap drawn {y = answered (us ++ q.rest)} q.are);
+      answer = right-says us (a.i + k) a.out.now c.if-k-n.out q;
       values = c.copy.ensures ∙ right-copied us a.i k a.out.now q R.long (omega (arith, c.requires.1, c.min-k.ensures));
     }
