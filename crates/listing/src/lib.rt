@@ -19,8 +19,8 @@ pub mod line;
 
 use coding::decode;
 use coding::decode::Ahead;
-use macaque_v::read_run::{Aim, Cursor};
-use macaque_v::{MacaqueV, Opening, read, read_run};
+use macaque_v::read_run::{Aim, Cursor, Source};
+use macaque_v::{MacaqueV, Opening, read};
 use models::Refusal;
 
 // How a value stands in the stream: in full, as a repeat, with a new window, or in the window that is kept.
@@ -95,8 +95,13 @@ pub fn row(stream: &[u8], at: Cursor, line: &mut [u8; 80]) -> Result<RowLine, Re
     if MacaqueV::MOST_VALUES <= at.count {
         return Err(Refusal::OverLimit);
     }
-    let next = read_run::next(stream, true, at)?;
-    let length = line::row(at.count, row_between(stream, at, next), line);
+    let from = Source {
+        bytes: stream,
+        first: true,
+        at,
+    };
+    let next = from.next()?;
+    let length = line::row(at.count, row_between(from, next), line);
     Ok(RowLine { length, next })
 }
 
@@ -132,7 +137,7 @@ fn judge_stream(stream: &[u8], count: usize) -> Result<usize, Refusal>
     requires { count ≤ most_values }
     ensures { said_by result ≡ counted count (read_whole count stream.now) }
 {
-    read_run::go_to_end(stream, true, start(), count, Aim::Nothing)?;
+    Source::open(stream, Opening::First).go_to_end(count, Aim::Nothing)?;
     Ok(count)
 }
 
@@ -153,12 +158,13 @@ fn may_stand(room: usize, at: Cursor) -> bool
     ((at.place + 7) / 8 <= room) & ((at.lead == MacaqueV::OPENING_LEADING) | (zeros < 32))
 }
 
-// What the row says of a value that was read from `at` to `next`.
-fn row_between(stream: &[u8], at: Cursor, next: Cursor) -> Fields
-    requires { (at.place ≤ 8 * length stream.now) × (at.place ≤ next.place) }
-    ensures { result ≡ row_between stream.now at next }
+// What the row says of a value that was read from where `from` stands to `next`.
+fn row_between(from: Source, next: Cursor) -> Fields
+    requires { from.at.place ≤ next.place }
+    ensures { result ≡ row_between from.entry.bytes.now from.entry.at next }
 {
-    let ahead = decode::look(stream, at.place);
+    let at = from.at;
+    let ahead = decode::look(from.bytes, at.place);
     let kind = kind_of(at.count == 0, ahead);
     let bits = next.place - at.place;
     Fields {

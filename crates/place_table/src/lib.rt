@@ -12,6 +12,7 @@ ghost use Rattle.place_table.specs.Calls.{table_reopen_causes, says_table_open, 
 ghost use Rattle.place_table.specs.Calls.{table_rescue_causes, table_rescue_answer, table_rescue_memory, table_rescue_table};
 ghost use Rattle.place_table.specs.Calls.{check_answer, range_causes, range_answer, range_memory};
 
+use macaque_v::read_run::Source;
 use macaque_v::{MacaqueV, Opening, noting, read, write};
 use models::{ErrorBound, Refusal, Refused};
 
@@ -130,15 +131,12 @@ pub fn range(
     if q <= p {
         return Ok(());
     }
-    let at = entry::cursor_at(table, p / noting::SPACING);
-    walk::draw_behind(
+    let from = Source {
         bytes,
-        read::is_first(opening),
-        at,
-        p % noting::SPACING,
-        q - p,
-        out,
-    )
+        first: read::is_first(opening),
+        at: entry::cursor_at(table, p / noting::SPACING),
+    };
+    walk::draw_behind(from, p % noting::SPACING, q - p, out)
 }
 
 // ---- the causes of refusal

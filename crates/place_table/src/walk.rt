@@ -5,13 +5,12 @@ ghost use Rattle.models.specs.Limits.{most_values};
 ghost use Rattle.stream.specs.Calls.{drawn, drawn_in};
 ghost use Rattle.places.specs.Table.{spacing, entries_for};
 ghost use Rattle.places.specs.Calls.{entries_lent, laid_entries};
-ghost use Rattle.macaque_v.specs.Inner.ReadRun.{ReadableAt};
 ghost use Rattle.place_table.specs.Inner.Range.{compared, values_behind};
 ghost use Rattle.place_table.specs.Inner.Rescue.{own_entries, ReadsFirst, FoundIn, noted_found};
 
 use crate::entry;
-use macaque_v::read_run::{Cursor, Tally};
-use macaque_v::{Opening, noting, read, read_run};
+use macaque_v::read_run::{Cursor, Source, Tally};
+use macaque_v::{Opening, noting};
 use models::Refusal;
 
 // The stream beside a table of as many entries as its count asks for: each is looked at before the values that it stands before. What the stream
@@ -20,16 +19,16 @@ pub fn compare(bytes: &[u8], count: usize, opening: Opening, table: &[u64]) -> R
     requires { (count ≤ most_values) × (entries_for count ≤ entries_lent (length table.now)) }
     ensures { said_by result ≡ compared bytes.now count opening table.now }
 {
-    let first = read::is_first(opening);
+    let source = Source::open(bytes, opening);
     let mut values = [0u32; 92];
-    let mut at = read::start(opening);
+    let mut at = source.at;
     let mut same = true;
     while at.count < count {
         same = same & entry::says(table, at);
         let k = noting::SPACING.min(count - at.count);
-        at = read_run::fill(bytes, first, at, k, &mut values)?;
+        at = source.behind(at).fill(k, &mut values)?;
     }
-    read_run::judge_end(bytes, at)?;
+    source.behind(at).judge_end()?;
     if !same {
         return Err(Refusal::TableDoesNotMatch);
     }
@@ -56,31 +55,29 @@ fn note(bytes: &[u8], count: usize, opening: Opening, table: &mut [u64])
     requires { ReadsFirst bytes.now opening count × (count ≤ most_values) × (entries_for count ≤ entries_lent (length table.old)) }
     ensures { table.new ≡ laid_entries table.old 0 (own_entries bytes.now opening count) }
 {
-    let first = read::is_first(opening);
+    let source = Source::open(bytes, opening);
     let mut values = [0u32; 92];
-    let mut at = read::start(opening);
+    let mut at = source.at;
     while at.count < count {
         let i = at.count / noting::SPACING;
         noting::put_entry(table, i, at.place, at.last as u64, at.lead, at.trail);
         let k = noting::SPACING.min(count - at.count);
-        at = read_run::fill(bytes, first, at, k, &mut values).unwrap();
+        at = source.behind(at).fill(k, &mut values).unwrap();
     }
 }
 
 // The n values behind `skipped` others, to the first places of `out`.
 pub fn draw_behind(
-    bytes: &[u8],
-    first: bool,
-    at: Cursor,
+    from: Source,
     skipped: usize,
     n: usize,
     out: &mut [u32],
 ) -> Result<(), Refusal>
-    requires { ReadableAt bytes.now at × (at.count + (skipped + n) ≤ most_values) × (skipped ≤ spacing) × (n ≤ length out.old) }
-    ensures answer { said_by result ≡ drawn (values_behind first bytes.now at skipped n) }
-    ensures values { out.new ≡ drawn_in out.old (values_behind first bytes.now at skipped n) }
+    requires { (from.at.count + (skipped + n) ≤ most_values) × (skipped ≤ spacing) × (n ≤ length out.old) }
+    ensures answer { said_by result ≡ drawn (values_behind from.entry.first from.entry.bytes.now from.entry.at skipped n) }
+    ensures values { out.new ≡ drawn_in out.old (values_behind from.entry.first from.entry.bytes.now from.entry.at skipped n) }
 {
     let mut values = [0u32; 92];
-    let to = read_run::fill(bytes, first, at, skipped, &mut values)?;
-    read::draw(bytes, first, to, n, 0, out, false)
+    let to = from.fill(skipped, &mut values)?;
+    from.behind(to).draw(n, 0, out, false)
 }

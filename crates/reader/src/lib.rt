@@ -8,8 +8,8 @@ ghost use Rattle.reader.specs.Calls.{opened_at, says_next, next_answer, end_answ
 ghost use Rattle.reader.specs.Run.{last_answer};
 
 use crate::position::Position;
-use macaque_v::read_run::Aim;
-use macaque_v::{MacaqueV, Opening, read, read_run};
+use macaque_v::read_run::{Aim, Source};
+use macaque_v::{MacaqueV, Opening};
 use models::Refusal;
 
 pub mod position;
@@ -66,9 +66,7 @@ pub fn last_value(stream: &[u8], count: usize, opening: Opening) -> Result<u32, 
     if MacaqueV::MOST_VALUES < count {
         return Err(Refusal::OverLimit);
     }
-    let first = read::is_first(opening);
-    let start = read::start(opening);
-    let (to, _) = read_run::go_to_end(stream, first, start, count, Aim::Nothing)?;
+    let (to, _) = Source::open(stream, opening).go_to_end(count, Aim::Nothing)?;
     if count == 0 {
         return Ok(0);
     }

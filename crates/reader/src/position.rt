@@ -4,8 +4,8 @@ ghost use Rattle.models.specs.Answers.{verdict};
 ghost use Rattle.models.specs.Calls.{said_by};
 ghost use Rattle.reader.specs.Calls.{opened_at, may_use, next_causes, handed, next_answer, says_moved, end_answer};
 
-use macaque_v::read_run::Cursor;
-use macaque_v::{MacaqueV, Opening, read, read_run, write};
+use macaque_v::read_run::{Cursor, Source};
+use macaque_v::{MacaqueV, Opening, read, write};
 use models::Refusal;
 
 // How the stream opens; the bit place behind the values read, how many they are, the last of them and
@@ -57,7 +57,12 @@ fn behind_next(stream: &[u8], from: Position) -> Result<Cursor, Refusal>
     ensures { handed from (said_by result) ≡ next_answer stream.now from }
 {
     judge_next(stream.len(), from.at)?;
-    read_run::next(stream, from.with_first, from.at)
+    let source = Source {
+        bytes: stream,
+        first: from.with_first,
+        at: from.at,
+    };
+    source.next()
 }
 
 // Whether the stream ends there.
@@ -69,7 +74,12 @@ pub fn end_from(stream: &[u8], from: Position) -> Result<(), Refusal>
     if !may_use(stream.len(), at) {
         return Err(Refusal::StateNotAllowed);
     }
-    read_run::judge_end(stream, at)
+    let source = Source {
+        bytes: stream,
+        first: from.with_first,
+        at,
+    };
+    source.judge_end()
 }
 
 // ---- the causes of refusal

@@ -2,12 +2,10 @@
 use mathlib.Core.Path.{sym, ap, subst}
 use mathlib.Core.Bool.{true}
 use native.Mathlib.Omega.{arith}
-use Rattle.macaque_v.specs.Inner.ReadRun.{ReadableAt, WholeSays}
+use Rattle.macaque_v.specs.Inner.ReadRun.{WholeSays}
 use Rattle.macaque_v.specs.Read.{start_of}
 use Rattle.macaque_v.specs.declared.Opening.TheVariants.{First}
-use Rattle.macaque_v.specs.declared.read_run.Cursor.{Cursor}
 use Rattle.macaque_v.specs.declared.read_run.Aim.TheVariants as OfAim
-use Rattle.macaque_v.proofs.ReadingAll.{start-readable}
 use Rattle.macaque_v.proofs.ReadingEnd.{ends-right}
 use Rattle.listing.specs.Calls.{counted}
 use Rattle.listing.proofs.judge_stream.Goals as goal
@@ -15,15 +13,10 @@ use Rattle.listing.proofs.judge_stream.Goals.{After-go_to_end}
 
 -- what reading the whole stream says, from its start
 told : (c : After-go_to_end) → WholeSays true c.args.stream.now (start_of First) c.args.count OfAim.Nothing c.go_to_end.result
-told c =
-    let a = c.args in
-    subst (λ (from : Cursor). WholeSays true a.stream.now from a.count OfAim.Nothing c.go_to_end.result) c.start.ensures c.go_to_end.ensures
+told c = rw (c.open.ensures.0, c.open.ensures.1, c.open.ensures.2) at c.go_to_end.ensures
 
 pub go_to_end-requires : goal.go_to_end-requires
-go_to_end-requires c =
-    let a = c.args in
-    let e = c.start.ensures in
-    (subst (ReadableAt a.stream.now) (sym e) (start-readable a.stream.now First (omega arith)), omega (arith, ap (λ (at : Cursor). at.count) e))
+go_to_end-requires c = rw c.open.ensures.2 (omega arith)
 
 pub returns : goal.returns
 returns c =

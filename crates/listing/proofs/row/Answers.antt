@@ -59,16 +59,17 @@ returns-then-at-ge-MOST_VALUES c =
     let full = le-leb most_values a.at.count (omega arith) in
     record { answer = rw (e, full); text = rw (e, full) }
 
+pub invariant_of-from : goal.invariant_of-from
+invariant_of-from c =
+    record { readable = stands c.args.stream.now c.args.at (allowed (goal.at.invariant_of-from c).Else-at-ge-MOST_VALUES) (omega arith) }
+
 pub next-requires : goal.next-requires
-next-requires c =
-    let a = c.args in
-    (stands a.stream.now a.at (allowed (goal.at.next-requires c).Else-at-ge-MOST_VALUES) (omega arith), omega arith)
+next-requires c = omega arith
 
 pub row_between-requires : goal.row_between-requires
 row_between-requires c =
     let a = c.args in
-    let s = stands a.stream.now a.at (allowed (goal.at.row_between-requires c).Else-at-ge-MOST_VALUES) (omega arith) in
-    (s.within, (found a.stream.now a.at _ (told (goal.at.row_between-requires c).After-next _ c.in_ok-next.was).0).0)
+    (found a.stream.now a.at _ (told (goal.at.row_between-requires c).After-next _ c.in_ok-next.was).0).0
 
 pub returns-in_err-next : goal.returns-in_err-next
 returns-in_err-next c =

@@ -14,10 +14,10 @@ use Rattle.listing.proofs.row_between.Goals as goal
 pub returns : goal.returns
 returns c =
     let a = c.args in
-    let bs = ahead a.stream.now a.at in
-    let first = eqb a.at.count 0 in
-    ap {B = Fields} (λ (k : Kind). record { kind = k; lead = a.next.lead; bits = a.next.place - a.at.place; value = a.next.last })
+    let bs = ahead a.from.bytes.now a.from.at in
+    let first = eqb a.from.at.count 0 in
+    ap {B = Fields} (λ (k : Kind). record { kind = k; lead = a.next.lead; bits = a.next.place - a.from.at.place; value = a.next.last })
     (c.kind_of-kind.ensures
     ∙ ap (kind_read first) c.look-ahead.ensures
     ∙ kind-of-45 first bs
-    ∙ ap (λ (r : Bool). kind_read r bs) (raw-is true a.at.count))
+    ∙ ap (λ (r : Bool). kind_read r bs) (raw-is true a.from.at.count))

@@ -41,26 +41,31 @@ returns-then-q-p c =
     sym (ap (read_range (stream_in (is_first a.opening)) (bits_of a.bytes.now) (table_in a.table.now a.entries) a.p) (sym same) ∙ range-empty (stream_in (is_first a.opening)) (bits_of a.bytes.now) (table_in a.table.now a.entries) a.p) in
     record { answer = ap drawn none ∙ when-passed causes _ says refused _ ok; values = ap (drawn_in a.out.now) none ∙ when-passed causes _ says (keeping a.out.now) _ ok }
 
-pub cursor_at-at-requires : goal.cursor_at-at-requires
-cursor_at-at-requires c =
+pub cursor_at-requires : goal.cursor_at-requires
+cursor_at-requires c =
     let a = c.args in
-    let free = clear (goal.at.cursor_at-at-requires c).In_ok-judge_range in
+    let free = clear (goal.at.cursor_at-requires c).In_ok-judge_range in
     let lt : a.p < a.q = c.if-q-p.false in
     let T = may-begin a.bytes.now a.table.now a.count a.entries a.p a.q (length a.out.now) free lt in
     let L = lent a.bytes.now a.table.now a.count a.entries a.p a.q (length a.out.now) free lt in
     let o = in_order a.bytes.now a.table.now a.count a.entries a.p a.q (length a.out.now) free in
     (omega (arith, T.used, L), omega (arith, o.1, o.2, lt))
 
+pub invariant_of-from : goal.invariant_of-from
+invariant_of-from c =
+    let a = c.args in
+    let free = clear (goal.at.invariant_of-from c).In_ok-judge_range in
+    let T = may-begin a.bytes.now a.table.now a.count a.entries a.p a.q (length a.out.now) free c.if-q-p.false in
+    record { readable = subst (ReadableAt a.bytes.now) (sym c.cursor_at.ensures) T.readable }
+
 pub draw_behind-requires : goal.draw_behind-requires
 draw_behind-requires c =
     let a = c.args in
     let free = clear (goal.at.draw_behind-requires c).In_ok-judge_range in
     let lt : a.p < a.q = c.if-q-p.false in
-    let T = may-begin a.bytes.now a.table.now a.count a.entries a.p a.q (length a.out.now) free lt in
     let o = in_order a.bytes.now a.table.now a.count a.entries a.p a.q (length a.out.now) free in
-    let at = c.cursor_at-at.ensures in
-    let counted = ap (λ (x : Cursor). x.count) at in
-    (subst (ReadableAt a.bytes.now) (sym at) T.readable, omega (arith, o.1, o.2, lt, counted), omega arith, fits a.bytes.now a.table.now a.count a.entries a.p a.q (length a.out.now) free)
+    let counted = ap (λ (x : Cursor). x.count) c.cursor_at.ensures in
+    (omega (arith, o.1, o.2, lt, counted), omega arith, fits a.bytes.now a.table.now a.count a.entries a.p a.q (length a.out.now) free)
 
 pub returns-in_err-judge_range : goal.returns-in_err-judge_range
 unfolding range_answer range_memory
@@ -81,5 +86,5 @@ returns c =
     let lt : a.p < a.q = c.if-q-p.false in
     let d = c.draw_behind.ensures in
     let T = may-begin a.bytes.now a.table.now a.count a.entries a.p a.q (length a.out.now) free lt in
-    let values = ap₂ (λ (first : Bool) (at : Cursor). values_behind first a.bytes.now at (a.p % 64) (a.q - a.p)) c.is_first.ensures c.cursor_at-at.ensures
+    let values = ap₂ (λ (first : Bool) (at : Cursor). values_behind first a.bytes.now at (a.p % 64) (a.q - a.p)) c.is_first.ensures c.cursor_at.ensures
     ∙ sym (range-behind (is_first a.opening) a.bytes.now a.table.now a.entries a.p a.q lt T) in record { answer = d.answer ∙ ap drawn values ∙ when-passed causes _ says refused _ ok; values = d.values ∙ ap (drawn_in a.out.now) values ∙ when-passed causes _ says (keeping a.out.now) _ ok }

@@ -1,6 +1,5 @@
 -- `reader::last_value` meets its contract: it goes through the stream to its end, and reading stands at the last value. Assumes nothing.
-use mathlib.Core.Path.{◌≡◌, sym, ap, ◌∙◌, subst, subst₂}
-use mathlib.Core.Bool.{Bool}
+use mathlib.Core.Path.{◌≡◌, sym, ap, ◌∙◌, subst}
 use Prim.Native.Nat.{ℕ}
 use native.Mathlib.Omega.{arith}
 use borrow.Author.Tests.{lt-ltb, le-ltb}
@@ -10,9 +9,8 @@ use Rattle.models.specs.Limits.{most_values}
 use Rattle.macaque_v.specs.State.{is_first}
 use Rattle.macaque_v.specs.Inner.ReadRun.{WholeSays, Reads}
 use Rattle.macaque_v.specs.Read.{values_in, start_of}
-use Rattle.macaque_v.specs.declared.read_run.Cursor.{Cursor}
 use Rattle.macaque_v.specs.declared.read_run.Aim.TheVariants as OfAim
-use Rattle.macaque_v.proofs.ReadingAll.{starts, values-right, values-wrong}
+use Rattle.macaque_v.proofs.ReadingAll.{values-right, values-wrong}
 use Rattle.reader.specs.Run.{last_of, last_answer}
 use Rattle.reader.proofs.Last.{last-of-none, last-of-some}
 use Rattle.reader.proofs.last_value.Goals as goal
@@ -21,10 +19,7 @@ use Rattle.reader.proofs.last_value.Goals.{After-go_to_end, Else-count-gt-MOST_V
 -- what going through the stream says, from its start
 told : (c : After-go_to_end)
     → WholeSays (is_first c.args.opening) c.args.stream.now (start_of c.args.opening) c.args.count OfAim.Nothing c.go_to_end.result
-told c =
-    let a = c.args in
-    subst₂ (λ (first : Bool) (from : Cursor). WholeSays first a.stream.now from a.count OfAim.Nothing c.go_to_end.result)
-    c.is_first-first.ensures c.start-start.ensures.0 c.go_to_end.ensures
+told c = rw (c.open.ensures.0, c.open.ensures.1, c.open.ensures.2) at c.go_to_end.ensures
 
 -- not too many values
 few : (c : Else-count-gt-MOST_VALUES)
@@ -38,9 +33,7 @@ unfolding last_answer judge
 returns-then-count-gt-MOST_VALUES c = rw (lt-ltb most_values c.args.count c.if-count-gt-MOST_VALUES.true)
 
 pub go_to_end-requires : goal.go_to_end-requires
-go_to_end-requires c =
-    let s = starts c.args.stream.now c.args.opening c.start-start.result c.start-start.ensures in
-    (s.0, omega (arith, s.1))
+go_to_end-requires c = rw c.open.ensures.2 (omega arith)
 
 pub returns-then-count-eq0 : goal.returns-then-count-eq0
 returns-then-count-eq0 c =
