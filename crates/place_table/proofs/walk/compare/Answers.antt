@@ -69,17 +69,20 @@ pub returns-in_err-judge_end : goal.returns-in_err-judge_end
 returns-in_err-judge_end c =
     let a = c.args in
     let l = c.loop-at in
+    let b = c.behind-2.ensures in
     rw (passed-on c.from_residual-in_err-judge_end.result c.from_residual-in_err-judge_end.ensures.1)
-    (stops-late a.bytes.now a.opening a.count a.table.now l.at l.same (all (goal.at.returns-in_err-judge_end c).After-loop-at) c.in_err-judge_end.field-0.0 c.in_err-judge_end.ensures)
+    (stops-late a.bytes.now a.opening a.count a.table.now l.at l.same (all (goal.at.returns-in_err-judge_end c).After-loop-at) c.in_err-judge_end.field-0.0 (rw (b.0, b.2, c.open-source.ensures.0) at c.in_err-judge_end.ensures))
 
 pub returns-then-not-same : goal.returns-then-not-same
 returns-then-not-same c =
     let a = c.args in
     let l = c.loop-at in
-    rw c.if-not-same.true at (decides a.bytes.now a.opening a.count a.table.now l.at l.same (all (goal.at.returns-then-not-same c).After-loop-at) (sym c.in_ok-judge_end.ensures))
+    let b = c.behind-2.ensures in
+    rw c.if-not-same.true at (decides a.bytes.now a.opening a.count a.table.now l.at l.same (all (goal.at.returns-then-not-same c).After-loop-at) (sym (rw (b.0, b.2, c.open-source.ensures.0) at c.in_ok-judge_end.ensures)))
 
 pub returns : goal.returns
 returns c =
     let a = c.args in
     let l = c.loop-at in
-    rw c.if-not-same.false at (decides a.bytes.now a.opening a.count a.table.now l.at l.same (all (goal.at.returns c).After-loop-at) (sym c.in_ok-judge_end.ensures))
+    let b = c.behind-2.ensures in
+    rw c.if-not-same.false at (decides a.bytes.now a.opening a.count a.table.now l.at l.same (all (goal.at.returns c).After-loop-at) (sym (rw (b.0, b.2, c.open-source.ensures.0) at c.in_ok-judge_end.ensures)))

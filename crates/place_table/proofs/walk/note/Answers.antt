@@ -36,7 +36,7 @@ fill-requires c = rw c.behind.ensures.2 (omega arith, omega arith)
 
 -- what the next values say
 said : (c : After-fill)
-    → FillSays (is_first c.args.opening) c.args.bytes.now c.loop-at.at c.min-k.result c.values.now c.fill.new.out c.fill.result
+    → FillSays (is_first c.args.opening) c.args.bytes.now c.loop-at.at c.min-k.result c.loop-at.values c.fill.new.out c.fill.result
 said c =
     let o = c.open-source.ensures in
     let b = c.behind.ensures in
@@ -57,7 +57,7 @@ loop-at-preserved c =
     let l = c.loop-at in
     let k = c.min-k.result in
     let to = c.unwrap-at.result in
-    let R = (rw c.unwrap-at.ensures at said (goal.at.loop-at-preserved c).After-fill).0 in
+    let R = (rw c.unwrap-at.ensures at (said (goal.at.loop-at-preserved c).After-fill)).0 in
     subst (λ (n : ℕ). Noted (is_first o) a.bytes.now (start_of o) a.count n to a.table.now c.put_entry.new.table) (sym R.counted)
     (noted_more (is_first o) a.bytes.now (start_of o) refl (opens o) a.count a.table.now c.requires.2 l.at.count l.at l.table l.invariant c.loop-at-test.true k (take k c.fill.new.out) to
     (omega arith) (omega arith) (omega arith) (λ lt. omega arith) R c.put_entry.new.table c.put_entry.ensures)
