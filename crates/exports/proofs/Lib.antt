@@ -6,5 +6,4 @@ pub mod Signed
 pub mod Back
 pub mod Stands
 pub mod Causes
-pub mod Nan
 pub mod Truth

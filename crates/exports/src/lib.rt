@@ -38,7 +38,7 @@ pub fn modelardb_narrow(bits: u64) -> u32
 
 // Kind 0 is Lossless, 1 Absolute, 2 Relative. A higher one is no bound: what stands for it is not
 // allowed, so that the call behind refuses it with 1.
-#[tactic(auto, using(crate::proofs::Nan::nan_bits), unfolding(crate::specs::Face::bound_of))]
+#[tactic(auto, using(numbers::proofs::Nans::nan32), unfolding(crate::specs::Face::bound_of))]
 pub fn bound_of(kind: u32, bits: u32) -> ErrorBound
     ensures { result ≡ bound_of kind bits }
 {

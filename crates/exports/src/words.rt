@@ -44,7 +44,7 @@ pub fn is_small(w: u64) -> bool
     w < 0x1_0000_0000
 }
 
-#[tactic(auto, using(crate::proofs::Nan::nan_bits), unfolding(crate::specs::Words::bound_in))]
+#[tactic(auto, using(numbers::proofs::Nans::nan32), unfolding(crate::specs::Words::bound_in))]
 pub fn bound_in(kind: u64, bits: u64) -> ErrorBound
     ensures { result ≡ bound_in kind bits }
 {

@@ -7,15 +7,6 @@ use Rattle.bits.proofs.Chunks.{got-more}
 use Rattle.bits.proofs.Words.{shl-fits, mod-is-lt}
 use Rattle.bits.proofs.get_by_bytes.Goals as goal
 
-pub loop-done-init : goal.loop-done-init
-unfolding value
-loop-done-init c = (omega arith, refl)
-
-pub overflow_cast-b : goal.overflow_cast-b
-overflow_cast-b c =
-    let a = c.args in
-    omega (arith, c.shared_slice_known-in-loop-done-1.given (a.place / 8 + (a.place % 8 + c.loop-done.done) / 8))
-
 pub joined-v-requires : goal.joined-v-requires
 joined-v-requires c =
     let a = c.args in
@@ -37,9 +28,3 @@ loop-done-preserved c =
           ∙ ap₂ (λ (x y : ℕ). x * 2 ^ n + y) c.loop-done.invariant.1 c.taken.ensures
           ∙ sym (got-more a.bytes.now i off n (8 - off - n) a.place done (omega arith) (omega arith) (omega arith)),
     )
-
-pub returns : goal.returns
-returns c =
-    let a = c.args in
-    let all : c.loop-done.done ≡ a.width = omega arith in
-    c.loop-done.invariant.1 ∙ ap (λ (k : ℕ). field_at a.place k (bits_of a.bytes.now)) all

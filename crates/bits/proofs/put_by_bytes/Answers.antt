@@ -9,13 +9,6 @@ use Rattle.bits.proofs.Chunks.{put-more}
 use Rattle.bits.proofs.Words.{mod-is-lt}
 use Rattle.bits.proofs.put_by_bytes.Goals as goal
 
-pub loop-done-init : goal.loop-done-init
-unfolding field laid
-loop-done-init c = (omega arith, refl, refl)
-
-pub merged-requires : goal.merged-requires
-merged-requires c = (omega arith, mod-is-lt _ _ _ c.taken-part.ensures)
-
 pub loop-done-preserved : goal.loop-done-preserved
 loop-done-preserved c =
     let a = c.args in
@@ -38,12 +31,3 @@ loop-done-preserved c =
       ap (λ (x : ℕ). bits_of (set l i x)) (c.merged.ensures ∙ ap (λ (t : ℕ). get_or l i 0 / 2 ^ (n + m) * 2 ^ (n + m) + t * 2 ^ m) part)
           ∙ put-more a.bytes.now l i a.place done v inv.1 (omega arith) off n m (omega arith) (omega arith) (omega arith) before,
     )
-
-pub returns : goal.returns
-returns c =
-    let a = c.args in
-    let done = c.loop-done.done in
-    let all : done ≡ a.width = omega arith in
-    let none : a.width - done ≡ 0 = omega arith in
-    let whole : a.value / 2 ^ (a.width - done) ≡ a.value = ap (λ (k : ℕ). a.value / 2 ^ k) none ∙ div-one a.value in
-    c.loop-done.invariant.2 ∙ rw (whole, all)

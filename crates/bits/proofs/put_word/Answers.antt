@@ -7,10 +7,6 @@ use Rattle.bits.specs.Bits.{field, bits_of, laid}
 use Rattle.bits.proofs.Chunks.{put_byte}
 use Rattle.bits.proofs.put_word.Goals as goal
 
-pub loop-k-init : goal.loop-k-init
-unfolding field laid
-loop-k-init c = (refl, refl)
-
 pub loop-k-preserved : goal.loop-k-preserved
 loop-k-preserved c =
     let a = c.args in
@@ -30,9 +26,3 @@ loop-k-preserved c =
           ∙ put_byte a.bytes.now l i (8 * a.base) (8 * k) v inv.0 (omega arith) (omega arith) before
           ∙ ap (λ (x : ℕ). laid (bits_of a.bytes.now) (8 * a.base) (field x v)) (sym next),
     )
-
-pub returns : goal.returns
-returns c =
-    let a = c.args in
-    let all : c.loop-k.k ≡ a.n = omega arith in
-    c.loop-k.invariant.1 ∙ rw all

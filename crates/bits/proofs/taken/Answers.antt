@@ -4,8 +4,5 @@ use lib.Pow.{pow_pos}
 use Rattle.bits.proofs.Words.{one_shl, masked}
 use Rattle.bits.proofs.taken.Goals as goal
 
-pub overflow_sub-result : goal.overflow_sub-result
-overflow_sub-result c = rw (one_shl c.args.n c.requires.1) (pow_pos c.args.n)
-
 pub returns : goal.returns
 returns c = masked (c.args.x / 2 ^ c.args.m) c.args.n c.requires.1
