@@ -9,6 +9,9 @@ use replaying::lists::Told;
 // and have the last numbers. Numbers and no enum: the list names a call by its number, and each is named once below.
 pub const CALLS: u64 = 46;
 
+// What stands for the answer to a line that lacks the number which a call is lent: no call answers it.
+pub const NO_NUMBER: u64 = 99;
+
 // The numbers that a call is handed, in the order of its parameters: those of 32 bits, and the others.
 #[derive(Clone, Copy)]
 pub struct Numbers {

@@ -69,10 +69,9 @@ fn agrees(
     marks: &Marks,
 ) -> bool {
     let s = lists::list(all, marks, List::S);
-    match calls::answer(call, numbers(all, marks), t, s, p, q, v, r, u) {
-        None => false,
-        Some(told) => is_left(told, p, q, v, r, u, all, marks),
-    }
+    let told = calls::answer(call, numbers(all, marks), t, s, p, q, v, r, u)
+        .unwrap_or(Told::given(calls::NO_NUMBER));
+    is_left(told, p, q, v, r, u, all, marks)
 }
 
 // Whether the call answered what the line says, and left all memory as it says.
