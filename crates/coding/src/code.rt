@@ -3,7 +3,8 @@ ghost use Rattle.std.specs.Prelude.{◌≡◌, ◌+◌, ◌*◌, ◌^◌, ◌<�
 ghost use Rattle.stream.specs.Format.{window_in};
 ghost use Rattle.coding.specs.Inner.Code.{Coded, CodedXor};
 
-// The `width` lowest binary digits of `bits`, the most significant first, and the window after them.
+// The `width` lowest binary digits of `bits`, the most significant first, and the window after them. (A window stays two numbers, here and where one
+// is read: the writer's state has them as fields of its own, and so have its row in C and the entries of a table.)
 #[derive(Clone, Copy)]
 pub struct Code {
     pub width: usize,

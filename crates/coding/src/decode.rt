@@ -109,14 +109,7 @@ pub struct Got {
 
 impl Ahead {
     // The value that the bits begin with, after the last value and its window, where `set` says whether it has one.
-    pub fn decode(
-        self,
-        raw: bool,
-        set: bool,
-        lead: u32,
-        trail: u32,
-        last: u32,
-    ) -> Result<Got, Stop>
+    pub fn decode(self, raw: bool, set: bool, lead: u32, trail: u32, last: u32) -> Result<Got, Stop>
         requires { (unset (window_in lead trail) ≡ not set) × WindowSound lead trail }
         ensures { says_decoded result ≡ read_one macaque raw (window_in lead trail) last (bits_in self.word self.left) }
     {

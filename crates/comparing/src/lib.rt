@@ -137,7 +137,7 @@ fn open_file(file: &[u8]) -> Result<Half, Refusal>
     )
 }
 
-// Whether a mode, a count or a number of bytes is above its limit.
+// Whether a mode, a count or a number of bytes is above its limit. (The mode is a byte of the file until it is judged.)
 fn over_limit(mode: u8, count: usize, bytes: usize) -> bool
     ensures { result ≡ over_limit mode count bytes }
 {

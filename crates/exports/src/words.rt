@@ -5,7 +5,7 @@ ghost use Rattle.exports.specs.Words.{bound_kind, bound_bits, small, bound_in, b
 
 use models::ErrorBound;
 
-// ---- a bound
+// ---- a bound: a kind and a pattern in the C interface, so no one value that From could take
 
 pub fn kind_of(b: ErrorBound) -> u64
     ensures { result ≡ bound_kind b }

@@ -95,10 +95,6 @@ ended-prepend us (stopped f) = refl
 pub start-readable : (bytes : List ℕ) (o : Opening) → (start_of o).last < 2 ^ 32 → ReadableAt bytes (start_of o)
 start-readable bytes o h = record { within = omega arith; near = omega arith; small = h; held = λ set. absurd (false≢true (sym set)) }
 
-pub starts : (bytes : List ℕ) (o : Opening) (at : Cursor) → (at ≡ start_of o) × (at.last < 2 ^ 32) → ReadableAt bytes at × (at.count ≡ 0)
-starts bytes o at h =
-    (subst (ReadableAt bytes) (sym h.0) (start-readable bytes o (subst (λ (c : Cursor). c.last < 2 ^ 32) h.0 h.1)), ap (λ (c : Cursor). c.count) h.0)
-
 module _ (bytes : List ℕ) (o : Opening) where
   all_alike : (n : ℕ) → Alike (bare (mode_of (is_first o))) gather_known (ended (read_from (is_first o) bytes (start_of o) n)) (read_all (stream_in (is_first o)) n (opened o) (bits_of bytes))
   all_alike n =

@@ -13,7 +13,7 @@ pub mod write;
 
 use models::ErrorBound;
 
-// How a stream opens: its first value is stored in full, or it goes on from a given value.
+// How a stream opens: its first value is stored in full, or it goes on from a given value. (An Option would not say what None is.)
 #[derive(Clone, Copy)]
 pub enum Opening {
     First,
@@ -31,7 +31,7 @@ pub struct MacaqueV {
     // The window that the last new one set.
     pub last_leading_zero_bits: u32,
     pub last_trailing_zero_bits: u32,
-    // Whether the first value is stored in full.
+    // Whether the first value is stored in full. (A truth of its own: `last_value` is there either way.)
     pub with_first: bool,
     // How many bits are written, and how many values.
     pub place: usize,

@@ -151,7 +151,7 @@ impl<'a> Source<'a> {
         Ok(())
     }
 
-    // What may follow the last value: nothing, where it is the stream's last.
+    // What may follow the last value: nothing, where it is the stream's last. (A closure for it would be handed down the recursion in place of a truth.)
     fn judge_behind(self, whole: bool) -> Result<(), Refusal>
         requires { self.at.count ≤ most_values }
         ensures { said_by result ≡ end_where whole self.entry.bytes.now self.entry.at }

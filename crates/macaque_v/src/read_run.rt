@@ -156,7 +156,11 @@ impl<'a> Source<'a> {
         requires { (0 < self.at.count) × (self.at.count + n ≤ most_values + i) × (i ≤ n) × (n ≤ length out.old) }
         ensures { ReadsOn self.entry.first self.entry.bytes.now self.entry.at i n out.old out.new result }
     {
-        let k = at_once(decode::word_ahead(self.bytes, self.at.place), out.len() - i, n - i);
+        let k = at_once(
+            decode::word_ahead(self.bytes, self.at.place),
+            out.len() - i,
+            n - i,
+        );
         self.take_repeats(k, i, n, out)
     }
 

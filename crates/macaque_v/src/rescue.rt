@@ -51,9 +51,7 @@ pub fn arrived(bytes: &[u8], limit: usize, opening: Opening) -> Result<(Cursor, 
     match source.go_through(limit, Aim::All) {
         Ok(found) => Ok(found),
         Err(r) => match r {
-            Refusal::EndsEarly { value, .. } => {
-                source.go_through(value as usize, Aim::All)
-            }
+            Refusal::EndsEarly { value, .. } => { source.go_through(value as usize, Aim::All) }
             _ => Err(r),
         },
     }

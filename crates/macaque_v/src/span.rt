@@ -7,7 +7,7 @@ ghost use Rattle.macaque_v.specs.Inner.Span.{or_infinite, lesser_of, is_number, 
 pub struct Span {
     pub low: f32,
     pub turned: f32,
-    // A number was taken in.
+    // A number was taken in. (Both numbers stand there either way, so that a loop asks nothing.)
     pub some: bool,
 }
 

@@ -74,7 +74,7 @@ fn hand_out(form: Form, out: &mut [u8]) -> Result<usize, Refusal>
     Ok(n)
 }
 
-// ---- which form
+// ---- which form, by the model's values and the residuals' least and greatest one, as the C interface has them
 
 // The Rust's form, or the value where that does not give it back bit for bit.
 #[tactic(auto, unfolding(crate::specs::Forms::pmc_mean_form, models::specs::Floats::min_bits, models::specs::Floats::max_bits))]

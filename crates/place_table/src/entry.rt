@@ -71,6 +71,7 @@ pub fn cursor_at(table: &[u64], i: usize) -> Cursor
     }
 }
 
+// (That of the crate `exports`, which stands above this one.)
 fn low(word: u64) -> u32
     ensures { result ≡ word % 2 ^ 32 }
 {

@@ -1,6 +1,7 @@
 // The place table beside a stream: for each value whose number is a multiple of 64 the bit place, the last kept value and the
 // window before it, so that a range of values is read from the entry at or before it and not from the start.
-// A table is lent as words, four to an entry, with the number of entries in use handed in and answered.
+// A table is lent as words, four to an entry, with the number of entries in use handed in and answered, and a stream as its bytes, its count and how it
+// opens: lent memory of fixed length, as the C interface hands it on, and no list that grows.
 #![tactic(auto)]
 
 ghost use Rattle.std.specs.Prelude.{◌≡◌, ◌≤◌, ◌^◌, length};

@@ -23,6 +23,7 @@ pub fn compare(bytes: &[u8], count: usize, opening: Opening, table: &[u64]) -> R
     let mut values = [0u32; 92];
     let mut at = source.at;
     let mut same = true;
+    // No range: where reading stands says how far it got.
     while at.count < count {
         same = same & entry::says(table, at);
         let k = noting::SPACING.min(count - at.count);
@@ -58,6 +59,7 @@ fn note(bytes: &[u8], count: usize, opening: Opening, table: &mut [u64])
     let source = Source::open(bytes, opening);
     let mut values = [0u32; 92];
     let mut at = source.at;
+    // The same here.
     while at.count < count {
         let i = at.count / noting::SPACING;
         noting::put_entry(table, i, at.place, at.last as u64, at.lead, at.trail);
@@ -67,12 +69,7 @@ fn note(bytes: &[u8], count: usize, opening: Opening, table: &mut [u64])
 }
 
 // The n values behind `skipped` others, to the first places of `out`.
-pub fn draw_behind(
-    from: Source,
-    skipped: usize,
-    n: usize,
-    out: &mut [u32],
-) -> Result<(), Refusal>
+pub fn draw_behind(from: Source, skipped: usize, n: usize, out: &mut [u32]) -> Result<(), Refusal>
     requires { (from.at.count + (skipped + n) ≤ most_values) × (skipped ≤ spacing) × (n ≤ length out.old) }
     ensures answer { said_by result ≡ drawn (values_behind from.entry.first from.entry.bytes.now from.entry.at skipped n) }
     ensures values { out.new ≡ drawn_in out.old (values_behind from.entry.first from.entry.bytes.now from.entry.at skipped n) }

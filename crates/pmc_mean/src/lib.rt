@@ -185,6 +185,7 @@ pub fn grid(value: u32, count: usize, out: &mut [u32]) -> Result<(), Refusal>
     Ok(())
 }
 
+// (MacaqueV judges its grid by the same two causes; each keeps its own function, which edits of its crate make wrong.)
 #[tactic(auto, unfolding(models::specs::Answers::judge))]
 fn judge_grid(count: usize, room: usize) -> Result<(), Refusal>
     ensures { said_by result ≡ verdict (grid_causes count room) }

@@ -8,7 +8,7 @@ use macaque_v::read_run::{Cursor, Source};
 use macaque_v::{MacaqueV, Opening, read, write};
 use models::Refusal;
 
-// How the stream opens; the bit place behind the values read, how many they are, the last of them and
+// How the stream opens (a truth of its own, the last value is there either way); the bit place behind the values read, how many they are, the last of them and
 // its window.
 #[derive(Clone, Copy)]
 pub struct Position {

@@ -43,6 +43,7 @@ pub struct At {
     // The answers behind the last title, where there was one; those of all titles.
     titled: Option<Counts>,
     all: Counts,
+    // Nothing is left to read.
     pub is_end: bool,
 }
 

@@ -69,8 +69,9 @@ fn agrees(
     marks: &Marks,
 ) -> bool {
     let s = lists::list(all, marks, List::S);
-    let told = calls::answer(call, numbers(all, marks), t, s, p, q, v, r, u)
-        .unwrap_or(Told::given(calls::NO_NUMBER));
+    let told = calls::answer(call, numbers(all, marks), t, s, p, q, v, r, u).unwrap_or(Told::given(
+        calls::NO_NUMBER,
+    ));
     is_left(told, p, q, v, r, u, all, marks)
 }
 

@@ -1,6 +1,7 @@
 // Reading a segment: its values, the model's and then the residuals', and their sum in two forms.
 // A segment is handed in as its model (0 PMC-Mean, 1 Swing), all its timestamps, its least and its
-// greatest value, its parameter bytes, and its residual bytes, whose last one is their count.
+// greatest value, its parameter bytes, and its residual bytes, whose last one is their count. They stand apart
+// as the C interface has them, and the model is its number, since one that is none is a cause of refusal.
 
 #![tactic(auto)]
 

@@ -123,7 +123,7 @@ impl Swing {
     }
 }
 
-// ---- a model's values: the line goes through (start_time, first_value) and (end_time, last_value)
+// ---- a model's values: the line goes through (start_time, first_value) and (end_time, last_value), four numbers as the C interface has them
 
 // The sum of `count` values, by the average of the line's ends.
 #[tactic(auto, using(lines::proofs::Ordered::ends_in_time), unfolding(crate::specs::Grid::average_answer, models::specs::Answers::judge))]

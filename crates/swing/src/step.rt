@@ -9,6 +9,9 @@ ghost use Rattle.swing.specs.State.{usable, time_follows, first_point, upper_lin
 ghost use Rattle.swing.specs.Step.{opened, moved, flat, second, swung, later, tried};
 ghost use Rattle.swing.specs.Model.{last_value};
 
+// (What a step needs stands in the `requires` of each of its parts: a type that holds it would be built in `tried` alone, and be taken apart
+// by each part, which hands on a state that may be full.)
+
 use crate::Swing;
 use lines::{Line, Point, Terms, times};
 use models::Stepped;

@@ -13,7 +13,7 @@ use Rattle.macaque_v.specs.declared.read_run.Aim.{Aim}
 use Rattle.macaque_v.specs.declared.read_run.Aim.TheVariants as OfAim
 use Rattle.macaque_v.specs.declared.read_run.Tally.{Tally}
 use Rattle.macaque_v.proofs.Passing.{passed-on}
-use Rattle.macaque_v.proofs.ReadingAll.{starts, start-readable, early-unopened, late-unopened, right-reopened}
+use Rattle.macaque_v.proofs.ReadingAll.{early-unopened, late-unopened, right-reopened}
 use Rattle.macaque_v.proofs.read.state_at.Goals as goal
 use Rattle.macaque_v.proofs.read.state_at.Goals.{After-go_through, After-go_to_end, In_ok-at}
 

@@ -12,7 +12,6 @@ use Rattle.macaque_v.specs.Read.{start_of}
 use Rattle.macaque_v.specs.Inner.ReadRun.{read_from, StopsBy, WalkSays}
 use Rattle.macaque_v.specs.declared.read_run.Cursor.{Cursor}
 use Rattle.macaque_v.specs.declared.read_run.Aim.TheVariants as OfAim
-use Rattle.macaque_v.proofs.ReadingAll.{starts}
 use Rattle.macaque_v.proofs.Arriving.{all-arrived, damage-there, few-there, cut-there}
 use Rattle.macaque_v.proofs.rescue.arrived.Goals as goal
 use Rattle.macaque_v.proofs.rescue.arrived.Goals.{In-Err}
