@@ -15,7 +15,7 @@ const RIGHT_FILENO: i32 = 3;
 const MOST_STEPS: usize = 65537;
 
 fn main() {
-    // One byte more than a file may have, so that too many are noticed.
+    // One byte more than a file may have, so that too many are noticed. (Arrays of fixed size, here and below: the project has no heap.)
     let mut left = [0u8; 24586];
     let n = io::read_full(STDIN_FILENO, &mut left);
     let mut right = [0u8; 24586];

@@ -24,7 +24,7 @@ fn both(count: usize) {
     fill(count, false, Opening::On(OPENING));
 }
 
-// Room for the values, and for their bytes.
+// Room for the values, and for their bytes: arrays of fixed size, since the project has no heap.
 fn fill(count: usize, first: bool, opening: Opening) {
     let mut values = [0u32; 65536];
     let mut buffer = [0u8; 360449];

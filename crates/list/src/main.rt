@@ -9,7 +9,7 @@ const STDIN_FILENO: i32 = 0;
 const STDOUT_FILENO: i32 = 1;
 
 fn main() {
-    // One byte more than an input may have, so that too many are noticed.
+    // One byte more than an input may have, so that too many are noticed. (Arrays of fixed size, here and below: the project has no heap.)
     let mut input = [0u8; 32769];
     let n = io::read_full(STDIN_FILENO, &mut input);
     list(&input[..n]);

@@ -1,5 +1,6 @@
 // The reading calls: a stream's values, their sum, and a writer that goes on behind the first k of them.
-// A stream is checked whole before lent memory is touched.
+// A stream is checked whole before lent memory is touched. (Its bytes, how many values are in them and how it opens come apart, as the C interface hands
+// them over: a count is no length of the bytes.)
 ghost use Rattle.std.specs.Prelude.{◌≡◌, ◌+◌, ◌^◌, ◌≤◌, ◌<◌, length, take};
 ghost use Rattle.models.specs.Answers.{verdict};
 ghost use Rattle.models.specs.Calls.{said_by};
