@@ -97,7 +97,7 @@ impl PMCMean {
     fn judge_fit(self) -> Result<(), Refusal>
         ensures { said_by result ≡ verdict (fit_causes self) }
     {
-        models::judge_step(self.error_bound, self.usable(), self.length)
+        models::judge_step(self.error_bound, self.usable(), self.length, Ok(()))
     }
 
     // ---- the step

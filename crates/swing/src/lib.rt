@@ -115,7 +115,7 @@ impl Swing {
     fn judge_fit(self, p: Point) -> Result<(), Refusal>
         ensures { said_by result ≡ verdict (fit_causes self p.time) }
     {
-        models::judge_step(self.error_bound, self.usable(), self.length)?;
+        models::judge_step(self.error_bound, self.usable(), self.length, Ok(()))?;
         if !self.follows(p) {
             return Err(Refusal::TimesNotAllowed);
         }
