@@ -7,3 +7,4 @@ pub mod Back
 pub mod Stands
 pub mod Causes
 pub mod Truth
+pub mod Front
