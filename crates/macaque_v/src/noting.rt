@@ -48,6 +48,8 @@ pub fn noted(
 }
 
 // Entry k into the table: the place before its value, the last value kept there and the window.
+// (A function of its own in the machine code too: inlined, its copy leaves the loop of a write fewer registers for each value.)
+#[inline(never)]
 pub fn put_entry(table: &mut [u64], k: usize, place: usize, last: u64, lead: u32, trail: u32)
     requires { k < entries_lent (length table.old) }
     ensures { table.new ≡ laid_entries table.old k (entry_in place last lead trail ∷ []) }

@@ -223,7 +223,8 @@ impl<'a> Source<'a> {
         Ok((to, tally))
     }
 
-    // Whether the stream ends where reading stands.
+    // Whether the stream ends where reading stands. (Inlined, else the reader's call for C, which asks nothing else, takes two thirds longer.)
+    #[inline(always)]
     pub fn judge_end(self) -> Result<(), Refusal>
         requires { self.at.count ≤ most_values }
         ensures { said_by result ≡ end_said self.entry.bytes.now self.entry.at }
