@@ -173,6 +173,7 @@ fn pmc_mean_in(form: Form, min: u32, max: u32) -> Result<u32, Refusal>
 
 // The same of Swing.
 #[tactic(auto, using(crate::proofs::Read::flagged_read), unfolding(crate::specs::Forms::swing_from, crate::specs::Bytes::little_endian))]
+#[inline(always)]
 fn swing_in(form: Form, min: u32, max: u32) -> Result<(u32, u32), Refusal>
     ensures { said_by result ≡ swing_from min max (form_bytes form) }
 {
